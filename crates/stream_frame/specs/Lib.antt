@@ -1,0 +1,4 @@
+pub mod Frames
+pub mod Demuxing
+pub mod Steps
+pub mod Walks
