@@ -1,14 +1,12 @@
 -- What one byte adds to a stream, and then a piece.
-use Rattle.std.proofs.Common.{◌≡◌, ◌⊎◌, ℕ, zero, suc, ◌+◌, ◌-◌, ◌≤◌, ◌<◌, ◌^◌, List, [], ◌∷◌, ◌++◌, length, map, drop, Bool, true, false, true≢false, refl, sym, ap, ◌∙◌, subst, arith, min, append-nil, append_assoc, length-append}
-use Rattle.std.specs.Prelude.{nat_le, ◌==◌, if◌then◌else◌, slice_index, get_or, Result, Ok, Err}
-use Rattle.std.specs.List.{flat_map}
+use Rattle.std.proofs.Common.{◌≡◌, ℕ, zero, suc, ◌+◌, ◌-◌, ◌≤◌, ◌<◌, ◌^◌, List, [], ◌∷◌, ◌++◌, length, map, drop, Bool, true, false, refl, sym, ap, ◌∙◌, subst, arith, append-nil, append_assoc, length-append}
+use Rattle.std.specs.Prelude.{nat_le, ◌==◌, if◌then◌else◌, slice_index, get_or, Ok, Err}
 use Rattle.std.specs.Int.{w32, to_be_bytes, from_be_bytes}
 use Rattle.std.proofs.lemmas.Bool.Decides.{nat_tests}
 use Rattle.std.proofs.lemmas.Nat.{be_bytes_4}
 use Rattle.std.proofs.lemmas.Grind.{flat_map-append}
 use Rattle.std.proofs.lemmas.List.{map-append}
 use Rattle.engine_text.specs.declared.script.Stream.{Stream}
-use Rattle.engine_text.specs.declared.script.Stream.TheVariants.{Stdin, Stdout, Stderr}
 use Rattle.stream_frame.specs.declared.fault.FrameFault.{FrameFault}
 use Rattle.stream_frame.specs.declared.fault.FrameFault.TheVariants.{BadType, BadPad}
 use Rattle.stream_frame.specs.Frames.{Part, stream_byte, header_of, frame_of, frames_of, AreParts, tagged}
@@ -27,7 +25,7 @@ pub tagged_append : (ps qs : List Part) → tagged (ps ++ qs) ≡ tagged ps ++ t
 tagged_append ps qs = flat_map-append (λ part. map (λ byte. (part.0, byte)) part.1) ps qs
 
 -- a whole frame more
-frame_more : (ps : List Part) (kind : Stream) (payload : List ℕ) → frames_of (ps ++ (kind, payload) ∷ []) ≡ frames_of ps ++ (header_of kind (length payload) ++ payload)
+pub frame_more : (ps : List Part) (kind : Stream) (payload : List ℕ) → frames_of (ps ++ (kind, payload) ∷ []) ≡ frames_of ps ++ (header_of kind (length payload) ++ payload)
 frame_more ps kind payload = frames_append ps ((kind, payload) ∷ []) ∙ ap (λ l. frames_of ps ++ l) (append-nil (header_of kind (length payload) ++ payload))
 
 tag_more : (ps : List Part) (kind : Stream) (payload : List ℕ) → tagged (ps ++ (kind, payload) ∷ []) ≡ tagged ps ++ map (λ byte. (kind, byte)) payload
@@ -56,11 +54,11 @@ size_more zero xs b a le lt = bytes_more xs b a lt
 size_more (suc n) [] b a le lt = absurd (omega arith)
 size_more (suc n) (x ∷ xs) b a le lt = (a.0, size_more n xs b a.1 (omega arith) lt)
 
-begins_pad : (part : List ℕ) → IsHeaderPart part → 0 < length part → length part < 4 → IsHeaderPart (part ++ 0 ∷ [])
+pub begins_pad : (part : List ℕ) → IsHeaderPart part → 0 < length part → length part < 4 → IsHeaderPart (part ++ 0 ∷ [])
 begins_pad [] a some lt = absurd (omega arith)
 begins_pad (k ∷ xs) a some lt = (a.0, pad_more 3 xs a.1 (omega arith))
 
-begins_size : (part : List ℕ) (b : ℕ) → IsHeaderPart part → 4 ≤ length part → b < 256 → IsHeaderPart (part ++ b ∷ [])
+pub begins_size : (part : List ℕ) (b : ℕ) → IsHeaderPart part → 4 ≤ length part → b < 256 → IsHeaderPart (part ++ b ∷ [])
 begins_size [] b a le lt = absurd (omega arith)
 begins_size (k ∷ xs) b a le lt = (a.0, size_more 3 xs b a.1 (omega arith) lt)
 
@@ -91,7 +89,7 @@ pub record Whole (part : List ℕ) (b : ℕ) : Type 0 where
   pub fits : size < 2 ^ 32
   pub header : part ++ b ∷ [] ≡ header_of (stream_of (slice_index part 0)) size
 
-whole : (part : List ℕ) (b : ℕ) → IsHeaderPart part → length part ≡ 7 → b < 256 → Whole part b
+pub whole : (part : List ℕ) (b : ℕ) → IsHeaderPart part → length part ≡ 7 → b < 256 → Whole part b
 whole [] b a l lt = absurd (omega arith)
 whole (k ∷ []) b a l lt = absurd (omega arith)
 whole (k ∷ p ∷ []) b a l lt = absurd (omega arith)
@@ -129,36 +127,45 @@ behind s g part b at e w p = subst (λ (n : ℕ). HasTaken (s ++ b ∷ []) g (be
     joined = ap (λ l. l ++ b ∷ []) e.stream_is ∙ (append_assoc (frames_of e.parts) part (b ∷ []) ∙ ap (λ l. frames_of e.parts ++ l) w.header)
 
     by_size : (n : ℕ) → w.size ≡ n → HasTaken (s ++ b ∷ []) g (behind_header k n) at
-    by_size zero z = (record {
-      parts = e.parts ++ (kind, []) ∷ [];
-      are_parts = parts_append e.parts ((kind, []) ∷ []) e.are_parts (omega arith, tt);
-      stream_is = joined ∙ (ap (λ n. frames_of e.parts ++ header_of kind n) z ∙ (ap (λ l. frames_of e.parts ++ l) (sym (append-nil (header_of kind 0)))
-          ∙ (sym (frame_more e.parts kind []) ∙ sym (append-nil (frames_of (e.parts ++ (kind, []) ∷ []))))));
-      short = omega arith;
-      begins = tt;
-      given_is = e.given_is ∙ (sym (append-nil (tagged e.parts)) ∙ sym (tag_more e.parts kind []));
-    }, p)
-    by_size (suc n) z = (record {
-      parts = e.parts;
-      are_parts = e.are_parts;
-      got = [];
-      stream_is = joined ∙ (ap (λ n. frames_of e.parts ++ header_of kind n) (z ∙ bare n) ∙ sym (append-nil (frames_of e.parts ++ header_of kind (length {A = ℕ} [] + suc n))));
-      size = (let f = w.fits in omega arith);
-      lacks = omega arith;
-      given_is = e.given_is ∙ sym (append-nil (tagged e.parts));
-    }, p)
+    by_size zero z = (
+      record {
+        parts = e.parts ++ (kind, []) ∷ [];
+        are_parts = parts_append e.parts ((kind, []) ∷ []) e.are_parts (omega arith, tt);
+        stream_is = joined ∙ (ap (λ n. frames_of e.parts ++ header_of kind n) z ∙ (ap (λ l. frames_of e.parts ++ l) (sym (append-nil (header_of kind 0)))
+            ∙ (sym (frame_more e.parts kind []) ∙ sym (append-nil (frames_of (e.parts ++ (kind, []) ∷ []))))));
+        short = omega arith;
+        begins = tt;
+        given_is = e.given_is ∙ (sym (append-nil (tagged e.parts)) ∙ sym (tag_more e.parts kind []));
+      },
+      p,
+    )
+    by_size (suc n) z = (
+      record {
+        parts = e.parts;
+        are_parts = e.are_parts;
+        got = [];
+        stream_is = joined ∙ (ap (λ n. frames_of e.parts ++ header_of kind n) (z ∙ bare n) ∙ sym (append-nil (frames_of e.parts ++ header_of kind (length {A = ℕ} [] + suc n))));
+        size = (let f = w.fits in omega arith);
+        lacks = omega arith;
+        given_is = e.given_is ∙ sym (append-nil (tagged e.parts));
+      },
+      p,
+    )
 
 -- a part of a header that is one byte longer
 longer : (s : List ℕ) (g : List (Stream × ℕ)) (part : List ℕ) (b at : ℕ) → EndsInHeader s g part → length part < 7 → IsHeaderPart (part ++ b ∷ []) → at ≡ place_behind (s ++ b ∷ [])
     → HasTaken (s ++ b ∷ []) g (Header (part ++ b ∷ [])) at
-longer s g part b at e lt more p = (record {
-  parts = e.parts;
-  are_parts = e.are_parts;
-  stream_is = ap (λ l. l ++ b ∷ []) e.stream_is ∙ append_assoc (frames_of e.parts) part (b ∷ []);
-  short = (let l : length (part ++ b ∷ []) ≡ length part + 1 = length-append part (b ∷ []) in omega arith);
-  begins = more;
-  given_is = e.given_is;
-}, p)
+longer s g part b at e lt more p = (
+  record {
+    parts = e.parts;
+    are_parts = e.are_parts;
+    stream_is = ap (λ l. l ++ b ∷ []) e.stream_is ∙ append_assoc (frames_of e.parts) part (b ∷ []);
+    short = (let l : length (part ++ b ∷ []) ≡ length part + 1 = length-append part (b ∷ []) in omega arith);
+    begins = more;
+    given_is = e.given_is;
+  },
+  p,
+)
 
 -- a byte that can't stand there
 wrongs : (s : List ℕ) (g : List (Stream × ℕ)) (part : List ℕ) (b at : ℕ) (fault : FrameFault) → EndsInHeader s g part → IsWrong part b fault (place_behind s)
@@ -194,14 +201,14 @@ header_goes s g part b at lt e p =
 
     by_place : (t : Bool) → nat_le (length part) 3 ≡ t → 0 < length part
         → HasTaken (s ++ b ∷ []) g (if t then (if b == 0 then Header (part ++ b ∷ []) else Faulted (BadPad at))
-            else (if nat_le (length part) 6 then Header (part ++ b ∷ []) else behind_header (slice_index part 0) (from_be_bytes w32 (drop 4 (part ++ b ∷ []))))) (counted 1 at)
+        else (if nat_le (length part) 6 then Header (part ++ b ∷ []) else behind_header (slice_index part 0) (from_be_bytes w32 (drop 4 (part ++ b ∷ []))))) (counted 1 at)
     by_place true is some = by_pad (b == 0) refl some (grind (arith, nat_tests))
     by_place false is some = by_size (nat_le (length part) 6) refl (grind (arith, nat_tests))
 
     by_first : (t : Bool) → nat_le (length part) 0 ≡ t
         → HasTaken (s ++ b ∷ []) g (if t then (if nat_le b 2 then Header (part ++ b ∷ []) else Faulted (BadType at))
-            else (if nat_le (length part) 3 then (if b == 0 then Header (part ++ b ∷ []) else Faulted (BadPad at))
-              else (if nat_le (length part) 6 then Header (part ++ b ∷ []) else behind_header (slice_index part 0) (from_be_bytes w32 (drop 4 (part ++ b ∷ [])))))) (counted 1 at)
+        else (if nat_le (length part) 3 then (if b == 0 then Header (part ++ b ∷ []) else Faulted (BadPad at))
+        else (if nat_le (length part) 6 then Header (part ++ b ∷ []) else behind_header (slice_index part 0) (from_be_bytes w32 (drop 4 (part ++ b ∷ [])))))) (counted 1 at)
     by_first true is = by_type (nat_le b 2) refl (no_byte part (grind (arith, nat_tests)))
     by_first false is = by_place (nat_le (length part) 3) refl (grind (arith, nat_tests))
 
@@ -231,27 +238,33 @@ payload_goes s g kind missing b at e p = by_last (nat_le missing 1) refl
         let lacks = e.lacks in
         let one : missing ≡ 1 = (let le : missing ≤ 1 = grind (arith, nat_tests) in omega arith) in
         let sz = size in
-        let is_size : length e.got + missing ≡ length got = omega arith in (record {
-          parts = e.parts ++ (kind, got) ∷ [];
-          are_parts = parts_append e.parts ((kind, got) ∷ []) e.are_parts ((let f = e.size in omega arith), tt);
-          stream_is = joined ∙ (ap (λ n. frames_of e.parts ++ header_of kind n ++ got) is_size
-              ∙ (append_assoc (frames_of e.parts) (header_of kind (length got)) got ∙ (sym (frame_more e.parts kind got) ∙ sym (append-nil (frames_of (e.parts ++ (kind, got) ∷ []))))));
-          short = omega arith;
-          begins = tt;
-          given_is = given ∙ sym (tag_more e.parts kind got);
-        }, next)
+        let is_size : length e.got + missing ≡ length got = omega arith in (
+          record {
+            parts = e.parts ++ (kind, got) ∷ [];
+            are_parts = parts_append e.parts ((kind, got) ∷ []) e.are_parts ((let f = e.size in omega arith), tt);
+            stream_is = joined ∙ (ap (λ n. frames_of e.parts ++ header_of kind n ++ got) is_size
+                ∙ (append_assoc (frames_of e.parts) (header_of kind (length got)) got ∙ (sym (frame_more e.parts kind got) ∙ sym (append-nil (frames_of (e.parts ++ (kind, got) ∷ []))))));
+            short = omega arith;
+            begins = tt;
+            given_is = given ∙ sym (tag_more e.parts kind got);
+          },
+          next,
+        )
     by_last false is =
         let more : 1 < missing = grind (arith, nat_tests) in
         let sz = size in
-        let is_size : length e.got + missing ≡ length got + (missing - 1) = omega arith in (record {
-          parts = e.parts;
-          are_parts = e.are_parts;
-          got = got;
-          stream_is = joined ∙ ap (λ n. frames_of e.parts ++ header_of kind n ++ got) is_size;
-          size = (let f = e.size in omega arith);
-          lacks = omega arith;
-          given_is = given;
-        }, next)
+        let is_size : length e.got + missing ≡ length got + (missing - 1) = omega arith in (
+          record {
+            parts = e.parts;
+            are_parts = e.are_parts;
+            got = got;
+            stream_is = joined ∙ ap (λ n. frames_of e.parts ++ header_of kind n ++ got) is_size;
+            size = (let f = e.size in omega arith);
+            lacks = omega arith;
+            given_is = given;
+          },
+          next,
+        )
 
 fault_stays : (s : List ℕ) (g : List (Stream × ℕ)) (fault : FrameFault) (b : ℕ) → EndsWrong s g fault → EndsWrong (s ++ b ∷ []) g fault
 fault_stays s g fault b e = record {
@@ -285,7 +298,7 @@ extends_first kind b (Err fault ∷ items) f = refl
 
 first_byte : (kind : Stream) (missing at b : ℕ) (piece : List ℕ) → FirstOf kind (items_of (record { rest = Payload kind (missing - 1); at = counted 1 at }) piece) → (t : Bool)
     → FirstOf kind (if t then Ok (kind, b ∷ []) ∷ items_of (record { rest = if t then Header [] else Payload kind (missing - 1); at = counted 1 at }) piece
-      else extend kind b (items_of (record { rest = if t then Header [] else Payload kind (missing - 1); at = counted 1 at }) piece))
+    else extend kind b (items_of (record { rest = if t then Header [] else Payload kind (missing - 1); at = counted 1 at }) piece))
 first_byte kind missing at b piece f true = refl
 first_byte kind missing at b piece f false = extends_first kind b _ f
 
@@ -355,18 +368,18 @@ byte_adds held b piece lt r = by_rest held.rest refl
       full = r.full;
       goes_on = λ s g d. let t = taken s g (Header part) is d in
           subst (λ l. Demuxed l (g ++ tagged r.parts) new) (split s)
-            (r.goes_on (s ++ b ∷ []) g (subst (λ (h : Held). Demuxed (s ++ b ∷ []) g h) (ap (λ (x : Rest). by_byte x b held.at) (sym is)) (header_goes s g part b held.at lt t.0 t.1)));
+          (r.goes_on (s ++ b ∷ []) g (subst (λ (h : Held). Demuxed (s ++ b ∷ []) g h) (ap (λ (x : Rest). by_byte x b held.at) (sym is)) (header_goes s g part b held.at lt t.0 t.1)));
     }
     by_rest (Payload kind missing) is =
         let p = puts kind b missing (nat_le missing 1) refl
-            (λ more. subst (λ (x : Rest). FirstOf kind (items_of (by_byte x b held.at) piece)) (sym is) (after_payload kind missing b held.at piece more)) in record {
+        (λ more. subst (λ (x : Rest). FirstOf kind (items_of (by_byte x b held.at) piece)) (sym is) (after_payload kind missing b held.at piece more)) in record {
           parts = p.more;
           items_are = p.items_are;
           full = p.full;
           goes_on = λ s g d. let t = taken s g (Payload kind missing) is d in
               subst (λ l. Demuxed l (g ++ tagged p.more) new) (split s)
-                (subst (λ l. Demuxed ((s ++ b ∷ []) ++ piece) l new) (append_assoc g ((kind, b) ∷ []) (tagged r.parts) ∙ ap (λ l. g ++ l) (sym p.tags))
-                  (r.goes_on (s ++ b ∷ []) (g ++ (kind, b) ∷ []) (subst (λ (h : Held). Demuxed (s ++ b ∷ []) (g ++ (kind, b) ∷ []) h) (ap (λ (x : Rest). by_byte x b held.at) (sym is)) (payload_goes s g kind missing b held.at t.0 t.1))));
+              (subst (λ l. Demuxed ((s ++ b ∷ []) ++ piece) l new) (append_assoc g ((kind, b) ∷ []) (tagged r.parts) ∙ ap (λ l. g ++ l) (sym p.tags))
+              (r.goes_on (s ++ b ∷ []) (g ++ (kind, b) ∷ []) (subst (λ (h : Held). Demuxed (s ++ b ∷ []) (g ++ (kind, b) ∷ []) h) (ap (λ (x : Rest). by_byte x b held.at) (sym is)) (payload_goes s g kind missing b held.at t.0 t.1))));
         }
     by_rest (Faulted fault) is = record {
       parts = r.parts;
@@ -374,7 +387,7 @@ byte_adds held b piece lt r = by_rest held.rest refl
       full = r.full;
       goes_on = λ s g d. let t = taken s g (Faulted fault) is d in
           subst (λ l. Demuxed l (g ++ tagged r.parts) new) (split s)
-            (r.goes_on (s ++ b ∷ []) g (subst (λ (h : Held). Demuxed (s ++ b ∷ []) g h) (ap (λ (x : Rest). by_byte x b held.at) (sym is)) (fault_stays s g fault b t)));
+          (r.goes_on (s ++ b ∷ []) g (subst (λ (h : Held). Demuxed (s ++ b ∷ []) g h) (ap (λ (x : Rest). by_byte x b held.at) (sym is)) (fault_stays s g fault b t)));
     }
 
 pub adds : (held : Held) (piece : List ℕ) → AreBytes piece → Adds held piece (items_of held piece) (held_after held piece)

@@ -1,13 +1,13 @@
 -- A run of payload bytes at once.
-use Rattle.std.proofs.Common.{◌≡◌, ◌≢◌, ◌⊎◌, ℕ, zero, suc, ◌+◌, ◌-◌, ◌≤◌, ◌<◌, ◌^◌, List, [], ◌∷◌, ◌++◌, length, Bool, true, false, true≢false, refl, sym, ap, ◌∙◌, subst, ⊎_elim, inl, inr, arith, min, length-append}
-use Rattle.std.specs.Prelude.{nat_le, if◌then◌else◌, Result, Ok, Err}
+use Rattle.std.proofs.Common.{◌≡◌, ◌⊎◌, ℕ, suc, ◌+◌, ◌-◌, ◌≤◌, ◌<◌, List, [], ◌∷◌, ◌++◌, length, Bool, true, false, refl, sym, ap, ◌∙◌, subst, ⊎_elim, inl, inr, arith, length-append}
+use Rattle.std.specs.Prelude.{nat_le, if◌then◌else◌, Ok, Err}
 use Rattle.std.proofs.lemmas.Bool.Decides.{nat_tests}
 use Rattle.engine_text.specs.declared.script.Stream.{Stream}
 use Rattle.stream_frame.specs.declared.fault.FrameFault.{FrameFault}
-use Rattle.stream_frame.specs.Demuxing.{Rest, Header, Payload, Faulted, Held, Item}
+use Rattle.stream_frame.specs.Demuxing.{Rest, Header, Payload, Faulted, Held}
 use Rattle.stream_frame.specs.declared.demux.Next.{Next}
 use Rattle.stream_frame.specs.declared.demux.Next.TheVariants as next
-use Rattle.stream_frame.specs.Steps.{IsNextOf, IsPastHeader, counted, payload_rest, by_payload, held_after, extend, items_of}
+use Rattle.stream_frame.specs.Steps.{IsNextOf, IsPastHeader, counted, by_payload, held_after, extend, items_of}
 
 abbrev lacking : Stream → ℕ → ℕ → Held
 lacking kind missing at = record { rest = Payload kind missing; at = at }
@@ -47,7 +47,7 @@ held_chunk kind missing at b (c ∷ cs) rest le =
 -- the last byte of an item
 last_byte : (kind : Stream) (missing at b : ℕ) (rest : List ℕ) (t : Bool) → nat_le missing 1 ≡ t → 1 ≤ missing → (rest ≡ []) ⊎ (1 ≡ missing)
     → (if t then Ok (kind, b ∷ []) ∷ items_of (record { rest = if t then Header [] else Payload kind (missing - 1); at = counted 1 at }) rest
-        else extend kind b (items_of (record { rest = if t then Header [] else Payload kind (missing - 1); at = counted 1 at }) rest))
+    else extend kind b (items_of (record { rest = if t then Header [] else Payload kind (missing - 1); at = counted 1 at }) rest))
     ≡ Ok (kind, b ∷ []) ∷ items_of (record { rest = if t then Header [] else Payload kind (missing - 1); at = counted 1 at }) rest
 last_byte kind missing at b rest true is some ends = refl
 last_byte kind missing at b [] false is some ends = refl
@@ -69,7 +69,6 @@ module _ (d e f : Held) (piece p part rest : List ℕ) (kind : Stream) (missing 
     (same : items_of e p ≡ items_of d piece) (is : e.rest ≡ Payload kind missing) (lacks : 0 < missing)
     (joined : p ≡ part ++ rest) (within : length part ≤ missing) (ends : (rest ≡ []) ⊎ (length part ≡ missing))
     (after : f ≡ by_payload kind missing (length part) e.at) where
-
   empty : (xs : List ℕ) → length xs ≡ 0 → xs ≡ []
   empty [] z = refl
   empty (x ∷ xs) z = absurd (omega arith)
@@ -100,7 +99,6 @@ module _ (e f : Held) (p part rest : List ℕ) (kind : Stream) (missing : ℕ)
     (is : e.rest ≡ Payload kind missing) (lacks : 0 < missing) (some : 0 < length p)
     (joined : p ≡ part ++ rest) (within : length part ≤ missing) (ends : (rest ≡ []) ⊎ (length part ≡ missing))
     (after : f ≡ by_payload kind missing (length part) e.at) where
-
   pub pass_some : 0 < length part
   pass_some = let sum : length p ≡ length part + length rest = ap length joined ∙ length-append part rest in
       ⊎_elim (λ (b : rest ≡ []). let z : length rest ≡ 0 = ap length b in omega arith) (λ (l : length part ≡ missing). omega arith) ends

@@ -1,5 +1,5 @@
 -- The frames of a multiplexed stream (Docker Engine API v1.43, ContainerAttach, "Stream format").
-use Rattle.std.specs.Prelude.{ℕ, ◌≡◌, ◌<◌, ◌≤◌, ◌^◌, List, [], ◌∷◌, ◌++◌, length, map, Bool, true, false}
+use Rattle.std.specs.Prelude.{ℕ, ◌≡◌, ◌<◌, ◌^◌, List, [], ◌∷◌, ◌++◌, length, map, Bool, true, false}
 use Rattle.std.specs.List.{flat_map, filter}
 use Rattle.std.specs.Int.{w32, to_be_bytes}
 use Rattle.engine_text.specs.declared.script.Stream.{Stream}

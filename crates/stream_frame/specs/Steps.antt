@@ -1,14 +1,12 @@
 -- What one byte does to a demultiplexer, and the items of a piece (own: for the code below).
-use Rattle.std.specs.Prelude.{ℕ, zero, suc, ◌≡◌, ◌<◌, ◌≤◌, ◌+◌, ◌-◌, ◌^◌, ◌==◌, min, nat_le, slice_index, List, [], ◌∷◌, ◌++◌, length, take, drop, Bool, true, false, if◌then◌else◌, Result, Ok, Err}
+use Rattle.std.specs.Prelude.{ℕ, zero, suc, ◌≡◌, ◌<◌, ◌≤◌, ◌+◌, ◌-◌, ◌^◌, ◌==◌, min, nat_le, slice_index, List, [], ◌∷◌, ◌++◌, length, take, drop, if◌then◌else◌, Ok, Err}
 use Rattle.std.specs.Int.{w32, from_be_bytes}
 use Rattle.engine_text.specs.declared.script.Stream.{Stream}
 use Rattle.engine_text.specs.declared.script.Stream.TheVariants.{Stdin, Stdout, Stderr}
 use Rattle.stream_frame.specs.Demuxing.{Rest, Header, Payload, Faulted, Held, Item, told_by}
-use Rattle.stream_frame.specs.declared.fault.FrameFault.{FrameFault}
 use Rattle.stream_frame.specs.declared.fault.FrameFault.TheVariants.{BadType, BadPad}
 use Rattle.stream_frame.specs.declared.demux.Next.{Next}
 use Rattle.stream_frame.specs.declared.demux.Next.TheVariants as next
-
 
 -- what a demultiplexer of the code stands for
 abbrev pub rest_of : List ℕ → Next → Rest
@@ -37,10 +35,10 @@ header_byte part byte at =
     if nat_le (length part) 0
     then (if nat_le byte 2 then Header (part ++ byte ∷ []) else Faulted (BadType at))
     else (if nat_le (length part) 3
-      then (if byte == 0 then Header (part ++ byte ∷ []) else Faulted (BadPad at))
-      else (if nat_le (length part) 6
-        then Header (part ++ byte ∷ [])
-        else behind_header (slice_index part 0) (from_be_bytes w32 (drop 4 (part ++ byte ∷ [])))))
+    then (if byte == 0 then Header (part ++ byte ∷ []) else Faulted (BadPad at))
+    else (if nat_le (length part) 6
+    then Header (part ++ byte ∷ [])
+    else behind_header (slice_index part 0) (from_be_bytes w32 (drop 4 (part ++ byte ∷ [])))))
 
 -- behind so many bytes of a payload
 abbrev pub payload_rest : Stream → ℕ → ℕ → Rest

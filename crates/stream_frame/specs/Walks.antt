@@ -1,5 +1,5 @@
 -- The items that are left of a piece (own: for its iterator).
-use Rattle.std.specs.Prelude.{ℕ, List, [], Bool, if◌then◌else◌, Result, Ok, Err}
+use Rattle.std.specs.Prelude.{ℕ, List, [], if◌then◌else◌, Result, Ok, Err}
 use Rattle.std.specs.Borrow.{Bor}
 use Rattle.engine_text.specs.declared.script.Stream.{Stream}
 use Rattle.stream_frame.specs.Demuxing.{Item}

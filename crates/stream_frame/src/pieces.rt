@@ -63,7 +63,11 @@ impl<'p> Iterator for Pieces<'p> {
                 let (part, rest) = part_of(piece, missing);
                 self.demux.take_part(part.len());
                 self.piece = rest;
-                if part.is_empty() { None } else { Some(Ok((kind, part))) }
+                if part.is_empty() {
+                    None
+                } else {
+                    Some(Ok((kind, part)))
+                }
             }
             Next::Faulted(fault) => {
                 self.piece = piece;

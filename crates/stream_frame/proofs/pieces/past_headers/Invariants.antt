@@ -1,4 +1,4 @@
-use Rattle.std.proofs.Common.{◌≡◌, ℕ, ◌≤◌, length}
+use Rattle.std.proofs.Common.{◌≡◌, ◌≤◌, length}
 use Rattle.stream_frame.specs.Steps.{held_after, items_of}
 use Rattle.stream_frame.proofs.pieces.past_headers.Given as goal
 

@@ -13,7 +13,7 @@ loop-missing-smaller c =
     let at = subst (λ n. IsNextOf n c.loop-missing.self.rest) c.in-Payload.is c.next.ensures in
     let some = some_length (length c.loop-missing.rest.now) (sym c.is_empty.ensures ∙ c.if-is_empty.false) in
     let less = pass_shorter c.loop-missing.self c.take_part.new.self c.loop-missing.rest.now c.part_of.result.0.now c.part_of.result.1.now
-        c.in-Payload.field-0 c.in-Payload.missing at.0 at.1 some c.part_of.ensures.joined c.part_of.ensures.within c.part_of.ensures.all (c.take_part.ensures _ _ at.0) in
+    c.in-Payload.field-0 c.in-Payload.missing at.0 at.1 some c.part_of.ensures.joined c.part_of.ensures.within c.part_of.ensures.all (c.take_part.ensures _ _ at.0) in
     let short = c.past_headers-rest-in-Payload.ensures.shorter in omega arith
 
 pub loop-missing-preserved : goal.loop-missing-preserved
@@ -21,7 +21,7 @@ loop-missing-preserved c =
     let at = subst (λ n. IsNextOf n c.loop-missing.self.rest) c.in-Payload.is c.next.ensures in
     let some = some_length (length c.loop-missing.rest.now) (sym c.is_empty.ensures ∙ c.if-is_empty.false) in
     let held = pass_held c.loop-missing.self c.take_part.new.self c.loop-missing.rest.now c.part_of.result.0.now c.part_of.result.1.now
-        c.in-Payload.field-0 c.in-Payload.missing at.0 at.1 some c.part_of.ensures.joined c.part_of.ensures.within c.part_of.ensures.all (c.take_part.ensures _ _ at.0) in
+    c.in-Payload.field-0 c.in-Payload.missing at.0 at.1 some c.part_of.ensures.joined c.part_of.ensures.within c.part_of.ensures.all (c.take_part.ensures _ _ at.0) in
     (c.past_headers-rest-in-Payload.ensures.after ∙ (sym held ∙ c.loop-missing.invariant.0), c.past_headers-rest-in-Payload.ensures.past)
 
 pub returns : goal.returns

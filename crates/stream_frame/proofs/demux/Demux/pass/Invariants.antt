@@ -1,4 +1,4 @@
-use Rattle.std.proofs.Common.{◌≡◌, ℕ, length}
+use Rattle.std.proofs.Common.{◌≡◌, length}
 use Rattle.stream_frame.specs.Steps.{held_after, IsPastHeader}
 use Rattle.stream_frame.proofs.demux.Demux.pass.Given as goal
 

@@ -20,9 +20,9 @@ returns-then-is_empty-clause-steps c =
     let old = c.args.self.now in
     let at = subst (λ n. IsNextOf n c.past_headers-piece.new.demux.rest) c.in-Payload.is c.next.ensures in
     let t = walks_none old.demux c.past_headers-piece.new.demux c.take_part.new.self old.piece.now c.past_headers-piece.result.now
-        c.part_of.result.0.now c.part_of.result.1.now c.in-Payload.kind c.in-Payload.missing
-        c.past_headers-piece.ensures.items at.0 at.1 c.part_of.ensures.joined c.part_of.ensures.within c.part_of.ensures.all
-        (c.take_part.ensures _ _ at.0) (no_length (length c.part_of.result.0.now) (sym c.is_empty.ensures ∙ c.if-is_empty.true)) in
+    c.part_of.result.0.now c.part_of.result.1.now c.in-Payload.kind c.in-Payload.missing
+    c.past_headers-piece.ensures.items at.0 at.1 c.part_of.ensures.joined c.part_of.ensures.within c.part_of.ensures.all
+    (c.take_part.ensures _ _ at.0) (no_length (length c.part_of.result.0.now) (sym c.is_empty.ensures ∙ c.if-is_empty.true)) in
     (untold old.told _ c.if-self.false ∙ t.0, untold old.told _ c.if-self.false ∙ t.1)
 
 pub returns-else-is_empty-clause-steps : goal.returns-else-is_empty-clause-steps
@@ -31,9 +31,9 @@ returns-else-is_empty-clause-steps c =
     let at = subst (λ n. IsNextOf n c.past_headers-piece.new.demux.rest) c.in-Payload.is c.next.ensures in
     untold old.told _ c.if-self.false
     ∙ (walks_some old.demux c.past_headers-piece.new.demux c.take_part.new.self old.piece.now c.past_headers-piece.result.now
-        c.part_of.result.0.now c.part_of.result.1.now c.in-Payload.kind c.in-Payload.missing
-        c.past_headers-piece.ensures.items at.0 at.1 c.part_of.ensures.joined c.part_of.ensures.within c.part_of.ensures.all
-        (c.take_part.ensures _ _ at.0) (some_length (length c.part_of.result.0.now) (sym c.is_empty.ensures ∙ c.if-is_empty.false))
+    c.part_of.result.0.now c.part_of.result.1.now c.in-Payload.kind c.in-Payload.missing
+    c.past_headers-piece.ensures.items at.0 at.1 c.part_of.ensures.joined c.part_of.ensures.within c.part_of.ensures.all
+    (c.take_part.ensures _ _ at.0) (some_length (length c.part_of.result.0.now) (sym c.is_empty.ensures ∙ c.if-is_empty.false))
     ∙ ap (λ (l : List Item). Ok (c.in-Payload.kind, c.part_of.result.0.now) ∷ l) (sym (untold old.told (items_of c.take_part.new.self c.part_of.result.1.now) c.if-self.false)))
 
 pub returns-else-is_empty-clause-goes : goal.returns-else-is_empty-clause-goes
