@@ -1,0 +1,2 @@
+//! Bodies of requests and answers, and event lines, both ways.
+#![tactic(auto)]
