@@ -6,3 +6,4 @@ pub mod TableFacts
 pub mod ProcessFacts
 pub mod LegalFacts
 pub mod Histories
+pub mod ChainLemmas

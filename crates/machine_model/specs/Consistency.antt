@@ -1,4 +1,4 @@
--- What every state of a legal history keeps (own).
+-- What every state of a legal history keeps (own: what the laws of the machine need).
 use Rattle.std.specs.Prelude.{◌≡◌, ◌≢◌, ℕ, ◌+◌, ◌*◌, ◌^◌, ◌<◌, ◌≤◌, ◌==◌, not, List, [], ◌∷◌, ◌++◌, Bool, true, false, IsTrue, Option, Some, None, filter, map, length, sum_by}
 use Rattle.std.specs.List.{flat_map, AllByRecursion}
 use Rattle.engine_text.specs.Id.{id_of}

@@ -17,21 +17,22 @@ use Rattle.engine_text.specs.declared.event.EventKind.TheVariants.{Container as 
 use Rattle.engine_text.specs.declared.status.Status.{Status}
 use Rattle.engine_text.specs.declared.status.Status.TheVariants.{Created, Running, Paused, Restarting, Removing, Exited, Dead}
 
--- one value fits; for Label every value
+-- One value fits; for Label every value.
 abbrev pub row_passes : FilterKey → (List ℕ → Bool) → List (List ℕ) → Bool
 row_passes Key.Label fits values = list_all fits values
 row_passes _ fits values = list_any fits values
 
--- an item of which this tells what fits, key by key
+-- An item of which this tells what fits, key by key.
 abbrev pub passes : (FilterKey → List ℕ → Bool) → List FilterRow → Bool
 passes fits rows = list_all (λ r. row_passes r.key (fits r.key) r.values) rows
 
--- either spelling
+-- Either spelling.
 abbrev pub is_image : List ℕ → Bool
 is_image image = same_bytes image image_name || same_bytes image (codes "engine/tools")
 
 -- ---- containers
 
+-- Whether the status is exited.
 abbrev pub is_exited : Status → Bool
 is_exited Exited = true
 is_exited Created = false
@@ -45,6 +46,7 @@ is_exited Dead = false
 abbrev pub is_label : List ℕ → Pair → Bool
 is_label value p = same_bytes value p.key || same_bytes value (p.key ++ codes "=" ++ p.value)
 
+-- Whether a container fits a value of a key of the list.
 abbrev pub container_fits : Container → FilterKey → List ℕ → Bool
 container_fits c Key.Id value = begins_with c.id value
 container_fits c Key.Name value = has_part c.name value
@@ -57,23 +59,28 @@ container_fits c _ value = false
 
 -- ---- volumes
 
+-- Whether a volume fits a value of a key of the list of volumes.
 abbrev pub volume_fits : Volume → FilterKey → List ℕ → Bool
 volume_fits v Key.Name value = has_part v.name value
 volume_fits v _ value = false
 
 -- ---- events
 
+-- Whether an event is of a container.
 abbrev pub is_of_container : EventKind → Bool
 is_of_container OfContainer = true
 is_of_container OfVolume = false
 
+-- The value of an attribute that was found.
 abbrev pub value_of : Option Pair → List ℕ
 value_of None = []
 value_of (Some p) = p.value
 
+-- The value of an event's attribute, empty where it has none.
 abbrev pub attribute : List ℕ → Event → List ℕ
 attribute key e = value_of (find (λ p. same_bytes p.key key) e.attributes)
 
+-- Whether an event fits a value of a key of events.
 abbrev pub event_fits : Event → FilterKey → List ℕ → Bool
 event_fits e Key.Kind value = same_bytes (kind_word e.kind) value
 event_fits e Key.Action value = same_bytes (action_word e.action) value
@@ -83,5 +90,6 @@ event_fits e Key.Image value = is_of_container e.kind && is_image value
 event_fits e Key.Volume value = if is_of_container e.kind then false else same_bytes e.id value
 event_fits e _ value = false
 
+-- Whether an event passes a filter.
 abbrev pub event_passes : List FilterRow → Event → Bool
 event_passes filter e = passes (event_fits e) filter

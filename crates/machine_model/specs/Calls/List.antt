@@ -12,10 +12,12 @@ use Rattle.engine_text.specs.declared.filter.FilterKey.TheVariants as Key
 use Rattle.engine_text.specs.declared.status.Status.{Status}
 use Rattle.engine_text.specs.declared.status.Status.TheVariants.{Created, Running, Paused, Restarting, Removing, Exited, Dead}
 
+-- Whether a filter's key is that of the state.
 abbrev pub is_state : FilterKey → Bool
 is_state Key.State = true
 is_state _ = false
 
+-- Whether there is a limit.
 abbrev pub is_some_limit : Option ℕ → Bool
 is_some_limit None = false
 is_some_limit (Some limit) = true
@@ -24,7 +26,7 @@ is_some_limit (Some limit) = true
 abbrev pub shows_all : Bool → Option ℕ → List FilterRow → Bool
 shows_all all limit filters = all || is_some_limit limit || list_any (λ r. is_state r.key) filters
 
--- else these
+-- Else these.
 abbrev pub is_up : Status → Bool
 is_up Running = true
 is_up Paused = true
@@ -34,15 +36,16 @@ is_up Removing = false
 is_up Exited = false
 is_up Dead = false
 
+-- Whether a container is listed.
 abbrev pub is_shown : Bool → List FilterRow → Container → Bool
 is_shown all filters c = (all || is_up c.life.status) && passes (container_fits c) filters
 
--- the newest that pass
+-- The newest that pass.
 abbrev pub limited : Option ℕ → List Container → List Container
 limited None cs = cs
 limited (Some limit) cs = take limit cs
 
--- newest first
+-- Newest first.
 abbrev pub list_outcome : Bool → Option ℕ → List FilterRow → State → Outcome
 list_outcome all limit filters s =
     answers 200 (list_body (limited limit (filter (is_shown (shows_all all limit filters) filters) (reverse s.containers)))) s
