@@ -6,8 +6,8 @@ use Rattle.rand_core.specs.Steps.{u32_at}
 use Rattle.hex.specs.Hex.{encode_with}
 use Rattle.json.specs.Print.{escape_byte}
 use Rattle.proc_kernel.specs.Processes.{meet_waiting, meeting_order}
-use Rattle.engine_text.specs.Id.{id_of}
-use Rattle.engine_text.specs.Moment.{moment_text}
+use Rattle.engine_text.specs.Id.{id_of, key_bytes}
+use Rattle.engine_text.specs.Moment.{moment_text, date_time_text, day_text, clock_text, place_of, year_of, month_of}
 use Rattle.engine_text.specs.Signal.{signal_name}
 use Rattle.engine_text.specs.declared.owner.Owner.TheVariants as Owner
 use Rattle.engine_text.specs.declared.call.Call.TheVariants as Call
@@ -161,22 +161,22 @@ programs = refl
 
 -- tick 2 10 writes at 0 and 10 and ends at 20; tick 0 10 never ends
 pub ticks : moments (create (codes "tick" ∷ codes "2" ∷ codes "10" ∷ []) ∷ start 0 ∷ dues 5) ≡ 0 ∷ 0 ∷ 20 ∷ []
-unfolding digits id_of encode_with quarter_round column_round diagonal_round double_rounds block_word u32_at meet_waiting meeting_order
+unfolding digits id_of key_bytes encode_with quarter_round column_round diagonal_round double_rounds block_word u32_at meet_waiting meeting_order
 ticks = refl
 
 pub ticks_written : written_at (create (codes "tick" ∷ codes "0" ∷ codes "10" ∷ []) ∷ start 0 ∷ dues 6) ≡ 0 ∷ 10 ∷ 20 ∷ []
-unfolding digits id_of encode_with quarter_round column_round diagonal_round double_rounds block_word u32_at meet_waiting meeting_order
+unfolding digits id_of key_bytes encode_with quarter_round column_round diagonal_round double_rounds block_word u32_at meet_waiting meeting_order
 ticks_written = refl
 
 -- flaky 2 fails twice
 pub flaky_writes : written (create_with (codes "flaky" ∷ codes "2" ∷ []) Policy.Always ∷ start 0 ∷ dues 7)
     ≡ codes "attempt 1\n" ∷ codes "attempt 2\n" ∷ codes "ok\n" ∷ []
-unfolding digits id_of encode_with quarter_round column_round diagonal_round double_rounds block_word u32_at meet_waiting meeting_order
+unfolding digits id_of key_bytes encode_with quarter_round column_round diagonal_round double_rounds block_word u32_at meet_waiting meeting_order
 flaky_writes = refl
 
 pub flaky_ends : actions (create_with (codes "flaky" ∷ codes "2" ∷ []) Policy.Always ∷ start 0 ∷ dues 8)
     ≡ codes "create" ∷ codes "start" ∷ codes "die 1" ∷ codes "start" ∷ codes "die 1" ∷ codes "start" ∷ codes "die 0" ∷ []
-unfolding digits id_of encode_with quarter_round column_round diagonal_round double_rounds block_word u32_at meet_waiting meeting_order
+unfolding digits id_of key_bytes encode_with quarter_round column_round diagonal_round double_rounds block_word u32_at meet_waiting meeting_order
 flaky_ends = refl
 
 -- ---- log streams
@@ -200,34 +200,34 @@ echoed = create_with (codes "echo" ∷ codes "hi" ∷ []) Policy.Always ∷ star
 -- the frame of `hi`
 pub echo_frame : log_bytes (final_state echoed) (stream_to Stop.NotRunning) 0 1
     ≡ 1 ∷ 0 ∷ 0 ∷ 0 ∷ 0 ∷ 0 ∷ 0 ∷ 3 ∷ 104 ∷ 105 ∷ 10 ∷ []
-unfolding digits id_of encode_with quarter_round column_round diagonal_round double_rounds block_word u32_at meet_waiting meeting_order
+unfolding digits id_of key_bytes encode_with quarter_round column_round diagonal_round double_rounds block_word u32_at meet_waiting meeting_order
 echo_frame = refl
 
 pub stamped_frame : drop 8 (log_bytes (final_state echoed) (record (stream_to Stop.NotRunning) { stamps = true }) 0 1)
     ≡ codes "2023-11-14T22:13:20.000000000Z hi\n"
-unfolding digits escape_byte id_of encode_with quarter_round column_round diagonal_round double_rounds block_word u32_at moment_text signal_name meet_waiting meeting_order
+unfolding digits escape_byte id_of key_bytes encode_with quarter_round column_round diagonal_round double_rounds block_word u32_at moment_text date_time_text day_text clock_text place_of year_of month_of signal_name meet_waiting meeting_order
 stamped_frame = refl
 
 -- while the second run lives: the first ended after one record, the second and the third not yet
 pub ends_known : map (λ stop. log_end (final_state (echoed)) (stream_to stop)) (Stop.At 5 ∷ Stop.RunEnd 1 ∷ Stop.RunEnd 2 ∷ Stop.RunEnd 3 ∷ Stop.NotRunning ∷ [])
     ≡ Some 5 ∷ Some 1 ∷ None ∷ None ∷ None ∷ []
-unfolding digits id_of encode_with quarter_round column_round diagonal_round double_rounds block_word u32_at meet_waiting meeting_order
+unfolding digits id_of key_bytes encode_with quarter_round column_round diagonal_round double_rounds block_word u32_at meet_waiting meeting_order
 ends_known = refl
 
 -- after its end and the pending restart's cancel, and after the removal
 pub ends_after_stop : map (λ stop. log_end (final_state (echoed ++ Step.Due ∷ at 150 (Call.Stop web None None) ∷ [])) (stream_to stop)) (Stop.RunEnd 1 ∷ Stop.RunEnd 2 ∷ Stop.RunEnd 3 ∷ Stop.NotRunning ∷ [])
     ≡ Some 1 ∷ Some 2 ∷ None ∷ Some 2 ∷ []
-unfolding digits id_of encode_with quarter_round column_round diagonal_round double_rounds block_word u32_at meet_waiting meeting_order
+unfolding digits id_of key_bytes encode_with quarter_round column_round diagonal_round double_rounds block_word u32_at meet_waiting meeting_order
 ends_after_stop = refl
 
 pub ends_while_restarting : map (λ stop. log_end (final_state (echoed ++ Step.Due ∷ [])) (stream_to stop)) (Stop.RunEnd 2 ∷ Stop.NotRunning ∷ [])
     ≡ Some 2 ∷ None ∷ []
-unfolding digits id_of encode_with quarter_round column_round diagonal_round double_rounds block_word u32_at meet_waiting meeting_order
+unfolding digits id_of key_bytes encode_with quarter_round column_round diagonal_round double_rounds block_word u32_at meet_waiting meeting_order
 ends_while_restarting = refl
 
 pub ends_after_removal : map (λ stop. log_end (final_state (echoed ++ Step.Due ∷ at 150 (Call.Remove web true) ∷ [])) (stream_to stop)) (Stop.At 1 ∷ Stop.RunEnd 1 ∷ Stop.RunEnd 2 ∷ Stop.RunEnd 3 ∷ Stop.NotRunning ∷ [])
     ≡ Some 1 ∷ Some 1 ∷ Some 2 ∷ Some 2 ∷ Some 2 ∷ []
-unfolding digits id_of encode_with quarter_round column_round diagonal_round double_rounds block_word u32_at meet_waiting meeting_order
+unfolding digits id_of key_bytes encode_with quarter_round column_round diagonal_round double_rounds block_word u32_at meet_waiting meeting_order
 ends_after_removal = refl
 
 -- nothing of an empty payload
