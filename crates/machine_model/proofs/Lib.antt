@@ -7,3 +7,5 @@ pub mod ProcessFacts
 pub mod LegalFacts
 pub mod Histories
 pub mod ChainLemmas
+pub mod ListLemmas
+pub mod VolumeLemmas
