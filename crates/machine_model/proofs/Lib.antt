@@ -9,3 +9,5 @@ pub mod Histories
 pub mod ChainLemmas
 pub mod ListLemmas
 pub mod VolumeLemmas
+pub mod StepLemmas
+pub mod CreateLemmas
