@@ -129,3 +129,45 @@ moved-limits s t h timely = record {
   clock = omega (arith, timely.1, min-le_right (s.clock + 604800000) greatest_moment);
   logs = h.logs; outputs = h.outputs; input = h.input;
 }
+
+-- a step's moment changes nothing else
+pub moved-names : (s : State) (t : ℕ) → HasNames s → HasNames (at_moment t s)
+moved-names s t h = record {
+  ids = h.ids; names = h.names; numbers = h.numbers; volumes = h.volumes; below = h.below; container_ids = h.container_ids; exec_ids = h.exec_ids;
+}
+
+pub moved-processes : (s : State) (t : ℕ) → HasProcesses s → HasProcesses (at_moment t s)
+moved-processes s t h = record {
+  mains = h.mains; frozen = h.frozen; execs = h.execs; single = h.single; owners = h.owners; pids = h.pids; exec_pids = h.exec_pids;
+}
+
+pub moved-timers : (s : State) (t : ℕ) → HasTimers s → HasTimers (at_moment t s)
+moved-timers s t h = record {
+  goals = h.goals;
+  timers = all_weaken _ _ (λ d e. record { least = e.least; greatest = e.greatest; container = e.container; deadline = e.deadline }) s.timers h.timers;
+  restarts = h.restarts; single = h.single;
+}
+
+pub moved-volumes : (s : State) (t : ℕ) → HasVolumes s → HasVolumes (at_moment t s)
+moved-volumes s t h = record { stand = h.stand; uses = h.uses }
+
+pub moved-tickets : (s : State) (t : ℕ) → HasTickets s → HasTickets (at_moment t s)
+moved-tickets s t h = record { stand = h.stand; numbers = h.numbers; below = h.below }
+
+later_counts : (s : State) (t : ℕ) → HasCounts s → s.step_count < 2 ^ 56 → HasCounts (stepped (at_moment t s) [])
+later_counts s t h few = record {
+  tickets = omega (arith, h.tickets);
+  steps = omega (arith, h.tickets, few);
+  events = omega (arith, h.events);
+  next_number = omega (arith, h.next_number);
+  next_ticket = omega (arith, h.next_ticket);
+  next_pid = omega (arith, h.next_pid);
+  starts = all_weaken (λ c. c.life.starts ≤ s.step_count) (λ c. c.life.starts ≤ s.step_count + 1) (λ c low. omega (arith, low)) s.containers h.starts;
+  restarts = all_weaken (λ c. c.life.restarts ≤ s.step_count) (λ c. c.life.restarts ≤ s.step_count + 1) (λ c low. omega (arith, low)) s.containers h.restarts;
+}
+
+-- a step that changes nothing else
+pub stays-consistent : (s : State) (t calls : ℕ) (died : List Died) → IsConsistent s → IsTimely s t → s.step_count < 2 ^ 56
+    → IsConsistent (counted [] calls (settle_tickets died (at_moment t s)))
+stays-consistent s t calls died h timely few = finished-consistent (at_moment t s) [] calls died (moved-names s t h.names) (moved-processes s t h.processes)
+    (moved-timers s t h.timers) (moved-volumes s t h.volumes) (moved-tickets s t h.tickets) (moved-limits s t h.limits timely) (later_counts s t h.counts few)
