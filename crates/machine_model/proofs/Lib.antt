@@ -11,3 +11,5 @@ pub mod ListLemmas
 pub mod VolumeLemmas
 pub mod StepLemmas
 pub mod CreateLemmas
+pub mod InspectLemmas
+pub mod SoundFacts
