@@ -13,3 +13,4 @@ pub mod StepLemmas
 pub mod CreateLemmas
 pub mod InspectLemmas
 pub mod SoundFacts
+pub mod JournalFacts
