@@ -70,8 +70,8 @@ none_there o e there = absurd (cc)
 pub no_container : (s : State) → HasNames s → container_numbered s.next_number s ≡ None
 no_container s names = found_nowhere (λ c. c.number == s.next_number) s.containers
     (all_weaken (λ c. c.number < s.next_number) _ (λ c low. below_is_other c.number s.next_number low) s.containers
-        (all_of_mapped (λ n. n < s.next_number) (λ c. c.number) s.containers
-            (all_front (λ n. n < s.next_number) (map (λ c. c.number) s.containers) (map (λ x. x.number) s.execs) names.below)))
+    (all_of_mapped (λ n. n < s.next_number) (λ c. c.number) s.containers
+    (all_front (λ n. n < s.next_number) (map (λ c. c.number) s.containers) (map (λ x. x.number) s.execs) names.below)))
 
 by_number : (s : State) (m n : ℕ) (b : Bool) (p : Process) (rest : Option Process) → (m == n) ≡ b → container_numbered n s ≡ None
     → is_there (container_numbered m s) ≡ true → rest ≡ None → (if b then Some p else rest) ≡ None
@@ -137,7 +137,7 @@ grown-names s t name spec vs h most free volumes =
       volumes = volumes;
       below = subst (λ l. AllByRecursion (λ n. n < s.next_number + 1) (l ++ map (λ x. x.number) xs)) (sym (map_push (λ d. d.number) cs c))
           (all_between (λ n. n < s.next_number + 1) (map (λ d. d.number) cs) (map (λ x. x.number) xs) s.next_number
-              (all_weaken (λ n. n < s.next_number) (λ n. n < s.next_number + 1) (λ n low. omega (arith, low)) (all_numbers s) h.below) (omega arith));
+          (all_weaken (λ n. n < s.next_number) (λ n. n < s.next_number + 1) (λ n low. omega (arith, low)) (all_numbers s) h.below) (omega arith));
       container_ids = all_append (λ d. d.id ≡ id_of s.seed d.number) cs (c ∷ []) h.container_ids (refl, tt);
       exec_ids = h.exec_ids;
     }
@@ -169,9 +169,11 @@ grown-timers s t name spec vs h none =
     record {
       goals = all_append (HasGoal after) s.containers (c ∷ []) h.goals (tt, tt);
       timers = all_weaken (TimerStands s) (TimerStands after) (λ d e. record {
-          least = e.least; greatest = e.greatest; deadline = e.deadline;
-          container = found_in_more (λ x. x.number == d.number) s.containers (c ∷ []) e.container;
-        }) s.timers h.timers;
+        least = e.least;
+        greatest = e.greatest;
+        deadline = e.deadline;
+        container = found_in_more (λ x. x.number == d.number) s.containers (c ∷ []) e.container;
+      }) s.timers h.timers;
       restarts = all_append (HasTimer after) s.containers (c ∷ []) h.restarts (rw none refl, tt);
       single = h.single;
     }
@@ -184,7 +186,7 @@ grown-volumes s t name spec h =
     record {
       stand = all_append (HasMounts after) s.containers (c ∷ [])
           (all_weaken (HasMounts s) (HasMounts after) (λ d all. all_weaken (λ (m : Mount). IsTrue (is_there (volume_named m.volume s))) (λ m. IsTrue (is_there (volume_named m.volume after)))
-              (λ m there. mounts_keep spec.mounts m.volume t s.volumes there) d.life.mounts all) s.containers h.stand)
+          (λ m there. mounts_keep spec.mounts m.volume t s.volumes there) d.life.mounts all) s.containers h.stand)
           (mounts_stand spec.mounts t s.volumes, tt);
       uses = ap (λ us. us ++ uses_of c) h.uses ∙ (ap (λ us. flat_map uses_of s.containers ++ us) (sym (append_nil (uses_of c)))) ∙ sym (flat_map-append uses_of s.containers (c ∷ []));
     }
@@ -241,13 +243,13 @@ added s t name spec died events h timely few free most =
     let alone = no_container s h.names in
     let next : s.next_number < 2 ^ 64 = omega (arith, h.counts.next_number, few) in
     finished-consistent (grown c vs t s) events 1 died
-        (grown-names s t name spec vs h.names next free (mounts_distinct spec.mounts t s.volumes h.names.volumes))
-        (grown-processes s t name spec vs h.processes (no_process s s.next_number alone s.processes h.processes.owners))
-        (grown-timers s t name spec vs h.timers (no_timer s s.next_number 3 alone h.timers.timers))
-        (grown-volumes s t name spec h.volumes)
-        (grown-tickets s c vs t h.tickets)
-        (grown-limits s t name spec vs (moved-limits s t h.limits timely))
-        (grown-counts s t name spec vs events h.counts few most)
+    (grown-names s t name spec vs h.names next free (mounts_distinct spec.mounts t s.volumes h.names.volumes))
+    (grown-processes s t name spec vs h.processes (no_process s s.next_number alone s.processes h.processes.owners))
+    (grown-timers s t name spec vs h.timers (no_timer s s.next_number 3 alone h.timers.timers))
+    (grown-volumes s t name spec h.volumes)
+    (grown-tickets s c vs t h.tickets)
+    (grown-limits s t name spec vs (moved-limits s t h.limits timely))
+    (grown-counts s t name spec vs events h.counts few most)
 
 held : (s : State) (t : ℕ) (name : List ℕ) (spec : CreateSpec) (o : Option Container) → IsConsistent s → IsTimely s t → s.step_count < 2 ^ 56
     → length spec.mounts ≤ 16 → holder name s.containers ≡ o → IsConsistent (ended (by_holder o name spec (at_moment t s)).effect)
@@ -260,7 +262,7 @@ held s t name spec None h timely few most free =
     let whole = (add c start) in
     let count : length whole.events ≡ length volumes.events + 1 = length-append volumes.events _ in
     subst (λ x. IsConsistent (counted whole.events 1 (settle_tickets whole.died (with_new c x)))) (sym makes.0)
-        (added s t name spec whole.died whole.events h timely few free (omega (arith, count, makes.1, most)))
+    (added s t name spec whole.died whole.events h timely few free (omega (arith, count, makes.1, most)))
 
 imaged : (s : State) (t : ℕ) (spec : CreateSpec) (b : Bool) → IsConsistent s → IsTimely s t → s.step_count < 2 ^ 56
     → length spec.mounts ≤ 16 → IsConsistent (ended (by_image b spec (at_moment t s)).effect)

@@ -25,8 +25,14 @@ opening-consistent seed opening low = record {
   tickets = record { stand = tt; numbers = tt; below = tt };
   limits = record { dues = tt; clock = low; logs = tt; outputs = tt; input = tt };
   counts = record {
-    tickets = omega arith; steps = omega arith; events = omega arith; next_number = omega arith; next_ticket = omega arith;
-    next_pid = omega arith; starts = tt; restarts = tt;
+    tickets = omega arith;
+    steps = omega arith;
+    events = omega arith;
+    next_number = omega arith;
+    next_ticket = omega arith;
+    next_pid = omega arith;
+    starts = tt;
+    restarts = tt;
   };
 }
 

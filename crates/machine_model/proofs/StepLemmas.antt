@@ -64,17 +64,28 @@ finished-consistent s events calls died names processes timers volumes tickets l
     let count : length (settle_tickets died s).tickets ≡ length s.tickets = length-map s.tickets (λ t. settled t.reply t died s) in
     record {
       names = record {
-        ids = names.ids; names = names.names; numbers = names.numbers; volumes = names.volumes; below = names.below;
-        container_ids = names.container_ids; exec_ids = names.exec_ids;
+        ids = names.ids;
+        names = names.names;
+        numbers = names.numbers;
+        volumes = names.volumes;
+        below = names.below;
+        container_ids = names.container_ids;
+        exec_ids = names.exec_ids;
       };
       processes = record {
-        mains = processes.mains; frozen = processes.frozen; execs = processes.execs; single = processes.single;
-        owners = processes.owners; pids = processes.pids; exec_pids = processes.exec_pids;
+        mains = processes.mains;
+        frozen = processes.frozen;
+        execs = processes.execs;
+        single = processes.single;
+        owners = processes.owners;
+        pids = processes.pids;
+        exec_pids = processes.exec_pids;
       };
       timers = record {
         goals = timers.goals;
         timers = all_weaken _ _ (λ d h. record { least = h.least; greatest = h.greatest; container = h.container; deadline = h.deadline }) s.timers timers.timers;
-        restarts = timers.restarts; single = timers.single;
+        restarts = timers.restarts;
+        single = timers.single;
       };
       volumes = record { stand = volumes.stand; uses = volumes.uses };
       tickets = record { stand = settled_tickets.stand; numbers = settled_tickets.numbers; below = settled_tickets.below };
@@ -82,8 +93,12 @@ finished-consistent s events calls died names processes timers volumes tickets l
       counts = record {
         tickets = subst (λ n. n ≤ s.step_count + 1) (sym count) counts.tickets;
         steps = subst (λ n. n + (s.step_count + 1) ≤ 2 ^ 57) (sym count) counts.steps;
-        events = counts.events; next_number = counts.next_number; next_ticket = counts.next_ticket; next_pid = counts.next_pid;
-        starts = counts.starts; restarts = counts.restarts;
+        events = counts.events;
+        next_number = counts.next_number;
+        next_ticket = counts.next_ticket;
+        next_pid = counts.next_pid;
+        starts = counts.starts;
+        restarts = counts.restarts;
       };
     }
 
@@ -127,25 +142,40 @@ pub moved-limits : (s : State) (t : ℕ) → IsWithinLimits s → IsTimely s t �
 moved-limits s t h timely = record {
   dues = all_weaken (λ d. t < d.moment) (λ d. t ≤ d.moment) (λ d low. omega (arith, low)) (due_actions s) (dues_later s t timely.2);
   clock = omega (arith, timely.1, min-le_right (s.clock + 604800000) greatest_moment);
-  logs = h.logs; outputs = h.outputs; input = h.input;
+  logs = h.logs;
+  outputs = h.outputs;
+  input = h.input;
 }
 
 -- a step's moment changes nothing else
 pub moved-names : (s : State) (t : ℕ) → HasNames s → HasNames (at_moment t s)
 moved-names s t h = record {
-  ids = h.ids; names = h.names; numbers = h.numbers; volumes = h.volumes; below = h.below; container_ids = h.container_ids; exec_ids = h.exec_ids;
+  ids = h.ids;
+  names = h.names;
+  numbers = h.numbers;
+  volumes = h.volumes;
+  below = h.below;
+  container_ids = h.container_ids;
+  exec_ids = h.exec_ids;
 }
 
 pub moved-processes : (s : State) (t : ℕ) → HasProcesses s → HasProcesses (at_moment t s)
 moved-processes s t h = record {
-  mains = h.mains; frozen = h.frozen; execs = h.execs; single = h.single; owners = h.owners; pids = h.pids; exec_pids = h.exec_pids;
+  mains = h.mains;
+  frozen = h.frozen;
+  execs = h.execs;
+  single = h.single;
+  owners = h.owners;
+  pids = h.pids;
+  exec_pids = h.exec_pids;
 }
 
 pub moved-timers : (s : State) (t : ℕ) → HasTimers s → HasTimers (at_moment t s)
 moved-timers s t h = record {
   goals = h.goals;
   timers = all_weaken _ _ (λ d e. record { least = e.least; greatest = e.greatest; container = e.container; deadline = e.deadline }) s.timers h.timers;
-  restarts = h.restarts; single = h.single;
+  restarts = h.restarts;
+  single = h.single;
 }
 
 pub moved-volumes : (s : State) (t : ℕ) → HasVolumes s → HasVolumes (at_moment t s)

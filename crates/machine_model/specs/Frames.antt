@@ -16,7 +16,6 @@ frame p = p.stream ∷ 0 ∷ 0 ∷ 0 ∷ to_be_bytes w32 (length p.payload) ++ p
 abbrev pub frames_of : List Piece → List ℕ
 frames_of ps = flat_map frame ps
 
-
 -- So many pieces of the greatest payload, or of what is left.
 abbrev pub cut_into : ℕ → Piece → List Piece
 cut_into zero p = []
