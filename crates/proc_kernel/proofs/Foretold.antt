@@ -1,14 +1,10 @@
 -- own: what is foretold of a step is what the step gives.
-use Rattle.std.proofs.Common.{◌≡◌, ◌≢◌, ◌==◌, ◌&&◌, ◌||◌, not, nat_le, ℕ, ◌+◌, Bool, true, false, List, [], ◌∷◌, Option, Some, None, refl, ap, sym, ◌∙◌, arith, get_or, slice_index_or, slice_set, length, if◌then◌else◌}
+use Rattle.std.proofs.Common.{◌≡◌, ◌≢◌, ◌==◌, ◌&&◌, not, ℕ, ◌+◌, Bool, true, false, List, [], ◌∷◌, Option, Some, None, refl, sym, ◌∙◌, arith, slice_index_or, slice_set, if◌then◌else◌}
 use Rattle.std.proofs.lemmas.List.{get_or-set_other}
 use Rattle.std.proofs.lemmas.Bool.Decides.{nat_tests}
-use Rattle.engine_text.specs.declared.script.Stream.{Stream}
-use Rattle.engine_text.specs.declared.script.Op.{Op}
-use Rattle.engine_text.specs.declared.script.Op.TheVariants.{Write, Copy, Sleep, Busy, Again, Exit, WaitForever}
 use Rattle.engine_text.specs.declared.script.Manner.{Manner}
-use Rattle.engine_text.specs.declared.script.Manner.TheVariants.{Plain, Trap, Deaf}
-use Rattle.proc_kernel.specs.Processes.{Process, ProcessStep, Met, meet, meet_each, set_waiting, waits, is_harmless, is_ignored, is_trapped, trap_used, goes_on, killed, unless_ended, after_meeting, met_step, meet_waiting, meeting_order, lives, thaw, thawed_pace, is_frozen, signal, write, copy, run_op, run_next, run_due, then_op}
-use Rattle.proc_kernel.specs.Foretelling.{code_of, or_else, first_code, waiting_code, code_in, thaw_code, frozen_code, signal_code, room_code, copy_code, op_code, trap_or_op_code, due_code}
+use Rattle.proc_kernel.specs.Processes.{Process, Met, meet, meet_each, set_waiting, waits, is_harmless, is_ignored, is_trapped, trap_used, goes_on, killed, unless_ended, after_meeting, met_step, meet_waiting, meeting_order, lives, thaw, thawed_pace, is_frozen, signal}
+use Rattle.proc_kernel.specs.Foretelling.{code_of, or_else, first_code, waiting_code, code_in, thaw_code, frozen_code, signal_code}
 
 -- ---- one signal
 

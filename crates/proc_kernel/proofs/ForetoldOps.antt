@@ -1,5 +1,5 @@
 -- own: what is foretold of the op that is due is what its step gives.
-use Rattle.std.proofs.Common.{◌≡◌, ◌≢◌, ◌==◌, ◌&&◌, ◌||◌, not, nat_le, ℕ, ◌+◌, Bool, true, false, List, [], ◌∷◌, Option, Some, None, refl, ap, sym, subst, ◌∙◌, arith, slice_index_or, length, if◌then◌else◌}
+use Rattle.std.proofs.Common.{◌≡◌, ◌==◌, ◌&&◌, ◌||◌, not, nat_le, ℕ, ◌+◌, Bool, true, false, List, [], ◌∷◌, Option, Some, None, refl, ap, sym, subst, ◌∙◌, arith, slice_index_or, length, if◌then◌else◌}
 use Rattle.std.proofs.lemmas.Bool.Decides.{nat_tests}
 use Rattle.engine_text.specs.declared.script.Stream.{Stream}
 use Rattle.engine_text.specs.declared.script.Op.{Op}
@@ -8,7 +8,7 @@ use Rattle.engine_text.specs.declared.script.Effect.TheVariants.{Wrote}
 use Rattle.engine_text.specs.declared.script.Manner.{Manner}
 use Rattle.engine_text.specs.declared.script.Manner.TheVariants.{Plain, Trap, Deaf}
 use Rattle.engine_text.specs.Scripts.{bye_ops}
-use Rattle.proc_kernel.specs.Processes.{Process, ProcessStep, Met, meet, meet_each, set_waiting, waits, is_harmless, is_ignored, is_trapped, trap_used, goes_on, killed, unless_ended, meet_waiting, meeting_order, ends, write, copy, run_op, run_next, run_due, then_op}
+use Rattle.proc_kernel.specs.Processes.{Process, Met, meet, meet_each, set_waiting, waits, is_harmless, is_ignored, is_trapped, trap_used, goes_on, killed, unless_ended, meet_waiting, meeting_order, ends, write, copy, run_op, run_next, run_due, then_op}
 use Rattle.proc_kernel.specs.Foretelling.{or_else, waiting_code, code_in, room_code, copy_code, op_code, traps_next, trap_or_op_code, due_code}
 use Rattle.proc_kernel.proofs.Foretold.{is_apart, all_differ, both, differs, SameBut, set_but, waiting_told}
 

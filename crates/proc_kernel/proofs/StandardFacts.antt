@@ -8,8 +8,8 @@ use Rattle.engine_text.specs.declared.script.Manner.TheVariants.{Plain, Trap, De
 use Rattle.engine_text.specs.declared.script.Pace.TheVariants.{Running, Frozen}
 use Rattle.engine_text.specs.declared.script.Effect.TheVariants.{Lives, Wrote, Ended}
 use Rattle.engine_text.specs.Scripts.{script_of}
-use Rattle.proc_kernel.specs.Processes.{Process, ProcessStep, spawn, run_due, freeze, thaw, signal, feed, feed_end, next_due, input_room, meet_waiting, meeting_order}
-use Rattle.proc_kernel.specs.Foretelling.{code_in, thaw_code, signal_code, due_code}
+use Rattle.proc_kernel.specs.Processes.{Process, spawn, run_due, freeze, thaw, signal, feed, feed_end, next_due, input_room, meet_waiting, meeting_order}
+use Rattle.proc_kernel.specs.Foretelling.{code_in}
 
 -- A process that was spawned at 1,000 with open standard input and room for ten bytes.
 abbrev pub begun : Manner → List Op → Process

@@ -1,13 +1,12 @@
 -- own: the code with which a step will end a process, told without taking the step.
-use Rattle.std.specs.Prelude.{ℕ, ◌+◌, ◌==◌, ◌&&◌, not, nat_le, List, [], ◌∷◌, length, Bool, true, false, Option, Some, None, if◌then◌else◌, slice_index_or, slice_set}
+use Rattle.std.specs.Prelude.{ℕ, ◌+◌, ◌==◌, ◌&&◌, not, nat_le, List, [], ◌∷◌, length, Bool, true, false, Option, Some, None, if◌then◌else◌, slice_index_or}
 use Rattle.engine_text.specs.declared.script.Op.{Op}
 use Rattle.engine_text.specs.declared.script.Op.TheVariants.{Write, Copy, Sleep, Busy, Again, Exit, WaitForever}
 use Rattle.engine_text.specs.declared.script.Manner.{Manner}
-use Rattle.engine_text.specs.declared.script.Manner.TheVariants.{Plain, Trap, Deaf}
 use Rattle.engine_text.specs.declared.script.Effect.{Effect}
 use Rattle.engine_text.specs.declared.script.Effect.TheVariants.{Lives, Wrote, Ended}
 use Rattle.proc_kernel.specs.Tables.{effect_of}
-use Rattle.proc_kernel.specs.Processes.{Process, ProcessStep, is_harmless, is_ignored, is_trapped, is_frozen, meeting_order}
+use Rattle.proc_kernel.specs.Processes.{Process, ProcessStep, is_harmless, is_ignored, is_trapped, is_frozen, meeting_order, set_waiting}
 
 -- The code with which an effect ends its process, if it does.
 abbrev pub code_in : Effect → Option ℕ
@@ -47,10 +46,10 @@ waiting_code p = first_code meeting_order p.manner p.waiting
 abbrev pub thaw_code : Process → Option ℕ
 thaw_code p = if p.busy then None else waiting_code p
 
--- The code of a signal that waits until a thaw, which comes with it or later.
+-- The code of signal n to a frozen process: it waits, and where it thaws all that wait are met.
 abbrev pub frozen_code : ℕ → Bool → Process → Option ℕ
 frozen_code n false p = None
-frozen_code n true p = thaw_code (record p { waiting = slice_set p.waiting n true })
+frozen_code n true p = thaw_code (set_waiting n true p)
 
 -- The code of signal n.
 abbrev pub signal_code : ℕ → Bool → Process → Option ℕ

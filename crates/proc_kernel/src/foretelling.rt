@@ -1,5 +1,5 @@
-ghost use Rattle.std.specs.Prelude.{◌≡◌, ◌<◌, All, true, slice_set};
-ghost use Rattle.proc_kernel.specs.Processes.{meeting_order};
+ghost use Rattle.std.specs.Prelude.{◌≡◌, ◌<◌, All, true};
+ghost use Rattle.proc_kernel.specs.Processes.{set_waiting};
 ghost use Rattle.proc_kernel.specs.Slots.{process_in, IsPlaced};
 ghost use Rattle.proc_kernel.specs.Foretelling.{code_of, first_code, waiting_code, thaw_code, signal_code, room_code, copy_code, op_code, traps_next, due_code};
 
@@ -50,7 +50,11 @@ fn first_code(order: &[u8], manner: Manner, waiting: &[bool; 32]) -> Option<u8>
 fn room_code(count: usize, room: u64) -> Option<u8>
     ensures { result ≡ room_code count room }
 {
-    if count as u64 <= room { None } else { Some(153) }
+    if count as u64 <= room {
+        None
+    } else {
+        Some(153)
+    }
 }
 
 impl Slot {
@@ -72,7 +76,7 @@ impl Slot {
     #[tactic(auto, unfolding(crate::specs::Processes::meeting_order))]
     fn code_with(&self, n: u8) -> Option<u8>
         requires { n < 32 }
-        ensures { result ≡ first_code meeting_order (process_in self.now).manner (slice_set (process_in self.now).waiting n true) }
+        ensures { result ≡ waiting_code (set_waiting n true (process_in self.now)) }
     {
         let mut waiting = self.waiting;
         waiting[n as usize] = true;
@@ -85,7 +89,11 @@ impl Slot {
         ensures { result ≡ signal_code n thaws (process_in self.now) }
     {
         if is_frozen(self.pace) {
-            return if thaws && !self.busy { self.code_with(n) } else { None };
+            return if thaws && !self.busy {
+                self.code_with(n)
+            } else {
+                None
+            };
         }
         if self.busy {
             return None;
@@ -131,7 +139,13 @@ impl Slot {
         }
         match self.waiting_code() {
             Some(code) => Some(code),
-            None => { if self.traps_next() { None } else { self.op_code() } }
+            None => {
+                if self.traps_next() {
+                    None
+                } else {
+                    self.op_code()
+                }
+            }
         }
     }
 }

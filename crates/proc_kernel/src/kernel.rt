@@ -132,13 +132,9 @@ impl Kernel {
     pub fn signal(&mut self, owner: Owner, sent: Signal, thaws: bool, moment: u64) -> Effect
         requires signal { sent.number < 32 }
         requires moment { OfProcess (CanThaw moment) (process_of owner self.old.processes) }
-        ensures processes {
-            self.new.processes
-                ≡ after_step owner (signal sent.number thaws moment) self.old.processes
-        }
-        ensures effect {
-            result ≡ effect_at owner (signal sent.number thaws moment) self.old.processes
-        }
+        ensures processes { self.new.processes
+            ≡ after_step owner (signal sent.number thaws moment) self.old.processes }
+        ensures effect { result ≡ effect_at owner (signal sent.number thaws moment) self.old.processes }
         ensures spare { self.new.spare ≡ self.old.spare }
         ensures bytes { self.new.bytes ≡ self.old.bytes }
     {
@@ -151,7 +147,8 @@ impl Kernel {
     /// A piece of input comes to that process.
     pub fn feed(&mut self, owner: Owner, piece: Bytes, moment: u64)
         requires { 0 < self.old.spare }
-        ensures processes { self.new.processes ≡ change owner (feed piece moment) self.old.processes }
+        ensures processes { self.new.processes
+            ≡ change owner (feed piece moment) self.old.processes }
         ensures spare { self.new.spare + 1 ≡ self.old.spare }
         ensures bytes { self.new.bytes ≡ self.old.bytes }
     {
@@ -167,9 +164,7 @@ impl Kernel {
         requires spare { 0 < self.old.spare }
         requires moment { moment ≤ 9000000000000 }
         requires length { length_at (process_of owner self.old.processes) ≤ self.old.bytes }
-        ensures processes {
-            self.new.processes ≡ after_step owner (run_due moment) self.old.processes
-        }
+        ensures processes { self.new.processes ≡ after_step owner (run_due moment) self.old.processes }
         ensures effect { result ≡ effect_at owner (run_due moment) self.old.processes }
         ensures spare { self.new.spare + 1 ≡ self.old.spare }
         ensures bytes { self.new.bytes ≡ self.old.bytes }
@@ -193,10 +188,8 @@ impl Kernel {
     )
         requires stands { process_of owner self.old.processes ≡ None }
         requires spare { 0 < self.old.spare }
-        ensures processes {
-            self.new.processes
-                ≡ self.old.processes ++ begun owner (spawn script moment stdin room) ∷ []
-        }
+        ensures processes { self.new.processes
+            ≡ self.old.processes ++ begun owner (spawn script moment stdin room) ∷ [] }
         ensures spare { self.new.spare + 1 ≡ self.old.spare }
         ensures bytes { self.new.bytes ≡ self.old.bytes }
     {
@@ -250,9 +243,8 @@ impl Kernel {
     /// The code with which that signal would end the process at any moment, if it would.
     pub fn signal_code(&self, owner: Owner, sent: Signal, thaws: bool) -> Option<u8>
         requires { sent.number < 32 }
-        ensures {
-            (t : ℕ) → result ≡ code_at (signal sent.number thaws t) (process_of owner self.now.processes)
-        }
+        ensures { (t : ℕ) → result
+            ≡ code_at (signal sent.number thaws t) (process_of owner self.now.processes) }
     {
         match place_of(self.slots.as_slice(), owner) {
             None => None,
