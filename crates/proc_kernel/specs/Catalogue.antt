@@ -1,5 +1,8 @@
 -- own: the programs of the one image, and the script that each list of words names.
-use Rattle.std.specs.Prelude.{ℕ, zero, suc, ◌+◌, ◌*◌, ◌-◌, ◌/◌, ◌%◌, ◌==◌, ◌&&◌, nat_le, List, [], ◌∷◌, ◌++◌, length, replicate, Bool, Option, Some, None, if◌then◌else◌, codes}
+use Rattle.std.specs.List.{join_by, repeat}
+use Rattle.std.specs.Str.{all_ascii_digits}
+use Rattle.std.specs.Str.Parse.{digits_value}
+use Rattle.std.specs.Prelude.{ℕ, ◌/◌, ◌%◌, ◌==◌, ◌&&◌, nat_le, List, [], ◌∷◌, ◌++◌, length, replicate, Bool, Option, Some, None, if◌then◌else◌, codes}
 use Rattle.std.specs.Fmt.{decimal}
 use Rattle.engine_text.specs.Texts.{same_bytes}
 use Rattle.engine_text.specs.declared.script.Stream.TheVariants.{Stdout, Stderr}
@@ -13,18 +16,13 @@ use Rattle.proc_kernel.specs.declared.catalogue.Name.{Name}
 use Rattle.proc_kernel.specs.declared.catalogue.Name.TheVariants.{Hello, Echo, Cat, Sleep, Tick, Exit, Trap, Deaf, Flaky, Noise, Stuck}
 use Rattle.engine_text.specs.Scripts.{Program, script_of}
 
--- A decimal digit.
-abbrev pub is_digit : ℕ → Bool
-is_digit c = nat_le 48 c && nat_le c 57
-
--- The number that is spelled when these digits follow the number n, up to nine digits in all.
-abbrev pub digits_from : ℕ → List ℕ → Option ℕ
-digits_from n [] = Some n
-digits_from n (c ∷ cs) = if is_digit c && nat_le n 99999999 then digits_from (n * 10 + (c - 48)) cs else None
-
 -- One to nine digits.
+abbrev pub is_number : List ℕ → Bool
+is_number w = nat_le 1 (length w) && (nat_le (length w) 9 && all_ascii_digits w)
+
+-- The number that a word writes in decimal.
 abbrev pub number_of : List ℕ → Option ℕ
-number_of w = if nat_le 1 (length w) && nat_le (length w) 9 then digits_from 0 w else None
+number_of w = if is_number w then Some (digits_value 10 w) else None
 
 -- A number from low to high.
 abbrev pub within : ℕ → ℕ → Option ℕ → Option ℕ
@@ -33,16 +31,6 @@ within low high (Some n) = if nat_le low n && nat_le n high then Some n else Non
 
 abbrev pub number_in : ℕ → ℕ → List ℕ → Option ℕ
 number_in low high w = within low high (number_of w)
-
--- Words with a blank before each.
-abbrev pub blanked : List (List ℕ) → List ℕ
-blanked [] = []
-blanked (w ∷ ws) = 32 ∷ w ++ blanked ws
-
--- Words joined by blanks.
-abbrev pub joined : List (List ℕ) → List ℕ
-joined [] = []
-joined (w ∷ ws) = w ++ blanked ws
 
 -- A program without traps.
 abbrev pub plain : List Op → Program
@@ -55,8 +43,9 @@ print text = Write Stdout text
 abbrev pub hello_program : Program
 hello_program = plain (print (codes "Hello from engine\n") ∷ ops.Exit 0 ∷ [])
 
+-- It writes the words joined by blanks.
 abbrev pub echo_program : List (List ℕ) → Program
-echo_program words = plain (print (joined words ++ codes "\n") ∷ ops.Exit 0 ∷ [])
+echo_program words = plain (print (join_by (λ w. w) (codes " ") words ++ codes "\n") ∷ ops.Exit 0 ∷ [])
 
 abbrev pub cat_program : Program
 cat_program = plain (ops.Copy ∷ ops.Exit 0 ∷ [])
@@ -64,16 +53,15 @@ cat_program = plain (ops.Copy ∷ ops.Exit 0 ∷ [])
 abbrev pub sleep_program : ℕ → Program
 sleep_program time = plain (ops.Sleep time ∷ ops.Exit 0 ∷ [])
 
--- So many times a line and a sleep.
-abbrev pub ticks : ℕ → ℕ → List Op
-ticks zero time = []
-ticks (suc n) time = ticks n time ++ print (codes "tick\n") ∷ ops.Sleep time ∷ []
+-- A line and a sleep.
+abbrev pub tick_ops : ℕ → List Op
+tick_ops time = print (codes "tick\n") ∷ ops.Sleep time ∷ []
 
--- With 0 the line comes again and again.
+-- So many lines, each with a sleep; with 0 the line comes again and again.
 abbrev pub tick_program : ℕ → ℕ → Program
 tick_program n time = if n == 0
     then plain (print (codes "tick\n") ∷ Again time ∷ [])
-    else plain (ticks n time ++ ops.Exit 0 ∷ [])
+    else plain (repeat n (tick_ops time) ++ ops.Exit 0 ∷ [])
 
 abbrev pub exit_program : ℕ → Program
 exit_program code = plain (ops.Exit code ∷ [])
@@ -98,16 +86,14 @@ flaky_program n starts = if nat_le starts n
 unfoldable pub letters : ℕ → List ℕ
 letters n = replicate n 120
 
--- So many writes of 32,768 letters.
-abbrev pub blocks : ℕ → List Op
-blocks zero = []
-blocks (suc n) = blocks n ++ print (letters 32768) ∷ []
-
+-- The rest that is no whole block, where there is one.
 abbrev pub rest_block : ℕ → List Op
 rest_block n = if n == 0 then [] else print (letters n) ∷ []
 
+-- So many letters, in blocks of 32,768.
 abbrev pub noise_program : ℕ → Program
-noise_program n = plain ((blocks (n / 32768) ++ rest_block (n % 32768)) ++ ops.Exit 0 ∷ [])
+noise_program n =
+    plain ((replicate (n / 32768) (print (letters 32768)) ++ rest_block (n % 32768)) ++ ops.Exit 0 ∷ [])
 
 abbrev pub stuck_program : ℕ → Program
 stuck_program time = plain (Busy time ∷ ops.Exit 0 ∷ [])

@@ -61,7 +61,8 @@ has_item (x ∷ xs) = true
 abbrev pub has_input : Process → Bool
 has_input p = p.ended || has_item p.input
 
--- When the first of these ops is due after a step at t that makes it due at m. Copy is due at t, where input waits or has ended.
+-- When the first of these ops is due after a step at t that makes it due at m:
+-- Copy at t where input waits or has ended, and else not at all.
 abbrev pub due_next : List Op → ℕ → ℕ → Process → Option ℕ
 due_next [] t m p = None
 due_next (op ∷ ops) t m p = if is_copy op then (if has_input p then Some t else None) else Some m
@@ -117,7 +118,8 @@ is_trapped Deaf n = false
 
 -- The trap is used at t, once.
 abbrev pub trap_used : ℕ → Process → Process
-trap_used t p = if p.trapped then p else record p { script = bye_ops; left = bye_ops; trapped = true; pace = Running (Some t) }
+trap_used t p = if p.trapped then p else
+    record p { script = bye_ops; left = bye_ops; trapped = true; pace = Running (Some t) }
 
 -- The process met a signal and goes on.
 abbrev pub goes_on : Process → Met
@@ -149,16 +151,20 @@ abbrev pub unless_ended : Option ℕ → Process → (Process → Met) → Met
 unless_ended (Some c) p f = killed c p
 unless_ended None p f = f p
 
+abbrev pub then_meet : Met → (Process → Met) → Met
+then_meet m f = unless_ended m.code m.process f
+
 -- The waiting ones of these signals are met in this order, until one ends the process.
 abbrev pub meet_each : List ℕ → ℕ → Process → Met
 meet_each [] t p = goes_on p
-meet_each (n ∷ ns) t p = if waits n p
-    then unless_ended (meet n t (set_waiting n false p)).code (meet n t (set_waiting n false p)).process (λ q. meet_each ns t q)
-    else meet_each ns t p
+meet_each (n ∷ ns) t p =
+    if waits n p then then_meet (meet n t (set_waiting n false p)) (λ q. meet_each ns t q) else meet_each ns t p
 
 -- The order in which waiting signals are met: 9 first, then by number.
 unfoldable pub meeting_order : List ℕ
-meeting_order = 9 ∷ 1 ∷ 2 ∷ 3 ∷ 4 ∷ 5 ∷ 6 ∷ 7 ∷ 8 ∷ 10 ∷ 11 ∷ 12 ∷ 13 ∷ 14 ∷ 15 ∷ 16 ∷ 17 ∷ 18 ∷ 19 ∷ 20 ∷ 21 ∷ 22 ∷ 23 ∷ 24 ∷ 25 ∷ 26 ∷ 27 ∷ 28 ∷ 29 ∷ 30 ∷ 31 ∷ []
+meeting_order =
+    9 ∷ 1 ∷ 2 ∷ 3 ∷ 4 ∷ 5 ∷ 6 ∷ 7 ∷ 8 ∷ 10 ∷ 11 ∷ 12 ∷ 13 ∷ 14 ∷ 15 ∷ 16 ∷
+    17 ∷ 18 ∷ 19 ∷ 20 ∷ 21 ∷ 22 ∷ 23 ∷ 24 ∷ 25 ∷ 26 ∷ 27 ∷ 28 ∷ 29 ∷ 30 ∷ 31 ∷ []
 
 -- The waiting signals are met at t, until one ends the process.
 unfoldable pub meet_waiting : ℕ → Process → Met
@@ -229,7 +235,8 @@ meet_unless_busy t p = if p.busy then lives p else met_step (meet_waiting t p)
 abbrev pub thaw : ℕ → Process → ProcessStep
 thaw t p = meet_unless_busy t (record p { pace = thawed_pace t p.pace })
 
--- A signal to a process that runs is met unless it is uninterruptible, to a frozen one it waits; one that thaws waits first.
+-- A signal to a process that runs is met, unless it is uninterruptible: then it waits.
+-- In a frozen process it waits too, and where it thaws it is met with the others.
 abbrev pub signal : ℕ → Bool → ℕ → Process → ProcessStep
 signal n thaws t p =
     if is_frozen p.pace then (if thaws then thaw t (set_waiting n true p) else lives (set_waiting n true p)) else
@@ -269,7 +276,18 @@ no_signals = replicate 32 false
 
 -- A process begun at t with its first op due; without standard input its input has ended.
 abbrev pub fresh : Program → Bool → ℕ → Process
-fresh s stdin room = record { script = s.ops; left = s.ops; manner = s.manner; trapped = false; pace = Running None; busy = false; waiting = no_signals; input = []; ended = not stdin; room = room }
+fresh s stdin room = record {
+  script = s.ops;
+  left = s.ops;
+  manner = s.manner;
+  trapped = false;
+  pace = Running None;
+  busy = false;
+  waiting = no_signals;
+  input = [];
+  ended = not stdin;
+  room = room;
+}
 
 abbrev pub spawn : Program → ℕ → Bool → ℕ → Process
 spawn s t stdin room = advanced s.ops t t (fresh s stdin room)

@@ -1,5 +1,6 @@
 ghost use Rattle.std.specs.Prelude.{◌≡◌, ℕ, ◌≤◌, ◌<◌, ◌+◌, ◌^◌, Option, Some, None, IfOk, IfSome};
-ghost use Rattle.proc_kernel.specs.Catalogue.{name_of, digits_from, number_of, within, number_in, only_number, counted, ticking, alone, by_name, program_of, sleep_program, stuck_program, exit_program, noise_program, flaky_program};
+ghost use Rattle.std.specs.Str.{all_ascii_digits};
+ghost use Rattle.proc_kernel.specs.Catalogue.{name_of, is_number, number_of, within, number_in, only_number, counted, ticking, alone, by_name, program_of, sleep_program, stuck_program, exit_program, noise_program, flaky_program};
 
 use super::programs;
 use engine_text::{NoMemory, Script, Text, Words};
@@ -64,30 +65,31 @@ fn name_of(word: &Text) -> Option<Name>
     None
 }
 
-fn digits_from(n: u64, digits: &[u8]) -> Option<u64>
-    ensures { result ≡ digits_from n digits.now }
+fn all_digits(bytes: &[u8]) -> bool
+    ensures { result ≡ all_ascii_digits bytes.now }
 {
-    match digits {
-        [] => Some(n),
-        [c, rest @ ..] => {
-            if 48 <= *c && *c <= 57 && n <= 99_999_999 {
-                digits_from(n * 10 + (*c - 48) as u64, rest)
-            } else {
-                None
-            }
-        }
+    match bytes {
+        [] => true,
+        [c, rest @ ..] => c.is_ascii_digit() && all_digits(rest),
     }
 }
 
+/// Whether a word is one to nine digits.
+fn is_number(word: &Text) -> bool
+    ensures { result ≡ is_number word.now }
+{
+    let digits = word.as_slice();
+    1 <= digits.len() && digits.len() <= 9 && all_digits(digits)
+}
+
+/// The number that a word of one to nine digits writes.
 fn number_of(word: &Text) -> Option<u64>
     ensures { result ≡ number_of word.now }
 {
-    let digits = word.as_str().as_bytes();
-    if 1 <= digits.len() && digits.len() <= 9 {
-        digits_from(0, digits)
-    } else {
-        None
+    if !is_number(word) {
+        return None;
     }
+    word.as_str().parse().ok()
 }
 
 /// A number from low to high.
