@@ -6,3 +6,6 @@ pub mod List
 pub mod Exec
 pub mod Volume
 pub mod Event
+pub mod Fault
+pub mod Fields
+pub mod Lists
