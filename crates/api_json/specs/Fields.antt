@@ -32,6 +32,10 @@ read_if_present kind key (Some v) = and_then (or_fault (BadField key) (kind v)) 
 abbrev pub text_field : BodyKey → Data → Result (Option (List ℕ)) BodyFault
 text_field key d = read_if_present as_str key (field key d)
 
+-- a text that must be there
+abbrev pub needed_text : BodyKey → Data → Result (List ℕ) BodyFault
+needed_text key d = and_then (text_field key d) (or_fault (BadField key))
+
 -- a whole number
 abbrev pub whole_number : Data → Option ℤ
 whole_number d = option_and_then as_integer (as_number d)

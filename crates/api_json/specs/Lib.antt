@@ -9,3 +9,5 @@ pub mod Event
 pub mod Fault
 pub mod Fields
 pub mod Lists
+pub mod ExecCreate
+pub mod VolumeCreate

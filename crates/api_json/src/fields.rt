@@ -49,6 +49,18 @@ pub fn text_field<'v>(body: &'v Value, key: BodyKey) -> Result<Option<&'v str>, 
     }
 }
 
+/// A field that is a text and must be there.
+pub fn needed_text<'v>(body: &'v Value, key: BodyKey) -> Result<&'v str, BodyFault>
+    ensures { MatchResult result
+        (λ text. spec.needed_text key (view body.now) ≡ Ok text.now)
+        (λ fault. spec.needed_text key (view body.now) ≡ Err fault) }
+{
+    match text_field(body, key)? {
+        None => Err(BodyFault::BadField(key)),
+        Some(text) => Ok(text),
+    }
+}
+
 /// A field that is a truth value, false where it is absent.
 pub fn flag(body: &Value, key: BodyKey) -> Result<bool, BodyFault>
     ensures { result ≡ spec.flag key (view body.now) }
