@@ -12,3 +12,4 @@ pub mod Lists
 pub mod ExecCreate
 pub mod VolumeCreate
 pub mod Filters
+pub mod MountForms

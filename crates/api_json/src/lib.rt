@@ -6,6 +6,7 @@ mod fault;
 mod fields;
 mod filters;
 mod lists;
+mod mount_forms;
 mod volume_create;
 
 pub use exec_create::{ExecSpec, read_exec, read_exec_start};
@@ -13,4 +14,5 @@ pub use fault::{BodyFault, BodyKey, Refused};
 pub use fields::{object_field};
 pub use filters::{filter_word, read_filter};
 pub use lists::{texts_field, pairs_in};
+pub use mount_forms::read_mounts;
 pub use volume_create::{VolumeSpec, read_volume};
