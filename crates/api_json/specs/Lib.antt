@@ -13,3 +13,5 @@ pub mod ExecCreate
 pub mod VolumeCreate
 pub mod Filters
 pub mod MountForms
+pub mod HostConfig
+pub mod Create
