@@ -1,0 +1,17 @@
+pub mod Values
+pub mod Mount
+pub mod Status
+pub mod Container
+pub mod List
+pub mod Exec
+pub mod Volume
+pub mod Event
+pub mod Fault
+pub mod Fields
+pub mod Lists
+pub mod ExecCreate
+pub mod VolumeCreate
+pub mod Filters
+pub mod MountForms
+pub mod HostConfig
+pub mod Create
