@@ -1,1 +1,9 @@
 pub mod Utf8Lemmas
+pub mod IdLemmas
+pub mod YearLemmas
+pub mod CalendarLemmas
+pub mod MomentLemmas
+pub mod MomentFacts
+pub mod StandardFacts
+pub mod QueryLemmas
+pub mod SignalLemmas
