@@ -210,7 +210,7 @@ fn by_name(
     }
 }
 
-/// The script of the words at that count of starts; None where they name no program.
+/// The script of the words at that count of starts, counted from 1; None where they name no program.
 pub fn program(alloc: Global, words: &Words, starts: u64) -> Result<Option<Script>, NoMemory>
     ensures { IfOk result (λ s. s ≡ program_of words.now starts) }
 {
