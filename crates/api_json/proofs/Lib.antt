@@ -1,3 +1,4 @@
 mod ListLemmas
 mod ValueLemmas
 mod FloatLemmas
+mod DecimalLemmas

@@ -5,6 +5,7 @@ pub mod Container
 pub mod List
 pub mod Exec
 pub mod Volume
+pub mod EventRules
 pub mod Event
 pub mod Fault
 pub mod Fields

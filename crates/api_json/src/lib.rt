@@ -3,6 +3,7 @@
 
 mod container;
 mod create;
+mod event_rules;
 mod exec;
 mod exec_create;
 mod fault;
@@ -20,6 +21,7 @@ mod volume_create;
 
 pub use container::{ContainerView, container_body};
 pub use create::read_create;
+pub use event_rules::{action_word, attributes_fit, kind_word, read_action, read_kind};
 pub use exec::{ExecView, exec_body};
 pub use exec_create::{ExecSpec, read_exec, read_exec_start};
 pub use fault::{BodyFault, BodyKey, Refused};
