@@ -2,3 +2,4 @@ mod ListLemmas
 mod ValueLemmas
 mod FloatLemmas
 mod DecimalLemmas
+mod EventLemmas

@@ -5,7 +5,8 @@ use Rattle.serde_json.specs.Find.{get, as_str, as_object, as_number, as_u64}
 use Rattle.json_laws.specs.Sound.{line_text}
 use Rattle.engine_text.specs.Pairs.{ArePairsUtf8}
 use Rattle.engine_text.specs.declared.event.Event.{Event}
-use Rattle.api_json.specs.EventRules.{kind_word, kind_of, action_word, action_of, attributes_fit}
+pub use Rattle.api_json.specs.EventRules.{kind_word, action_word}
+use Rattle.api_json.specs.EventRules.{kind_of, action_of, attributes_fit}
 use Rattle.api_json.specs.Lists.{pairs_of_members}
 use Rattle.api_json.specs.Values.{text, natural, pairs_object}
 use Rattle.api_json.specs.declared.fault.Refused.{Refused}

@@ -3,6 +3,7 @@
 
 mod container;
 mod create;
+mod event;
 mod event_rules;
 mod exec;
 mod exec_create;
@@ -21,6 +22,7 @@ mod volume_create;
 
 pub use container::{ContainerView, container_body};
 pub use create::read_create;
+pub use event::{event_line, law_event_line_reads_back, read_event_line};
 pub use event_rules::{action_word, attributes_fit, kind_word, read_action, read_kind};
 pub use exec::{ExecView, exec_body};
 pub use exec_create::{ExecSpec, read_exec, read_exec_start};
