@@ -3,3 +3,4 @@ mod ValueLemmas
 mod FloatLemmas
 mod DecimalLemmas
 mod EventLemmas
+pub mod CreateLemmas
