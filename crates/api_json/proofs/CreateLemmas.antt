@@ -1,5 +1,5 @@
 -- What is read of a create keeps its limits: the signal, the seconds, the order of the labels and the name.
-use Rattle.std.proofs.Common.{◌≡◌, ◌<◌, ◌+◌, ℕ, zero, suc, ℤ, pos, negsuc, List, [], ◌∷◌, map, length, is_some, Bool, true, false, ◌&&◌, ◌==◌, nat_le, if◌then◌else◌, Option, Some, None, option_map, option_and_then, Result, Ok, Err, refl, sym, ap, ◌∙◌, arith, subst}
+use Rattle.std.proofs.Common.{◌≡◌, ◌<◌, ◌+◌, ℕ, ℤ, pos, negsuc, List, [], ◌∷◌, map, is_some, Bool, true, false, ◌&&◌, ◌==◌, nat_le, if◌then◌else◌, Option, Some, None, option_map, option_and_then, Result, Ok, Err, refl, sym, ap, ◌∙◌, arith, subst}
 use Rattle.std.specs.Str.{is_utf8}
 use Rattle.std.specs.List.{position}
 use Rattle.std.specs.Prelude.{⊤}
@@ -16,7 +16,7 @@ use Rattle.serde_json.specs.Find.{get, get_member, as_object, as_str}
 use Rattle.serde_json.specs.Read.{read, of_json, of_items, of_members, number_of, max_depth}
 use Rattle.json_laws.specs.Text.{data_of}
 use Rattle.json_laws.specs.Pairs.{Texts, texts_of}
-use Rattle.engine_text.specs.Signal.{read_signal, number_named, without_sig, small_number, numbered, signal_of, read_by, signal_names}
+use Rattle.engine_text.specs.Signal.{number_named, without_sig, small_number, signal_of, read_by, signal_names}
 use Rattle.engine_text.specs.Texts.{same_letters}
 use Rattle.engine_text.specs.declared.call.CreateSpec.{CreateSpec}
 use Rattle.engine_text.specs.declared.pairs.Pair.{Pair}

@@ -4,3 +4,4 @@ mod FloatLemmas
 mod DecimalLemmas
 mod EventLemmas
 pub mod CreateLemmas
+mod StandardFacts
