@@ -1,5 +1,5 @@
 -- Sentences about the definitions, each by an example or two.
-use Rattle.std.proofs.Common.{◌≡◌, ℕ, pos, negsuc, true, false, Ok, Err, Some, None, refl}
+use Rattle.std.proofs.Common.{◌≡◌, pos, negsuc, true, false, Ok, Err, Some, None, refl}
 use Rattle.std.specs.Prelude.{codes}
 use Rattle.engine_text.specs.declared.owner.Owner.TheVariants.{Container, Exec}
 use Rattle.engine_text.specs.declared.policy.Policy.TheVariants.{No, OnFailure}

@@ -48,17 +48,22 @@ fn filter(alloc: Global) -> Result<Filter, NoMemory> {
 const KILL: Signal = Signal { number: 9 };
 
 fn spec(alloc: Global) -> Result<CreateSpec, NoMemory> {
+    let name = Some(text(alloc)?);
+    let image = text(alloc)?;
+    let words = words(alloc)?;
+    let labels = pairs(alloc)?;
+    let mounts = mounts(alloc)?;
     Ok(CreateSpec {
-        name: Some(text(alloc)?),
-        image: text(alloc)?,
-        words: words(alloc)?,
+        name,
+        image,
+        words,
         policy: Policy::OnFailure(2),
         stop_signal: KILL,
         stop_after: -1,
         open_stdin: true,
         stdin_once: false,
-        labels: pairs(alloc)?,
-        mounts: mounts(alloc)?,
+        labels,
+        mounts,
     })
 }
 
@@ -115,191 +120,222 @@ fn logs_numbers_and_scripts_grow(rt: HostRuntime) -> Result<(), Fail> {
     Ok(())
 }
 
-fn container_calls(alloc: Global) -> Result<[Call; 8], NoMemory> {
-    Ok([
-        Call::Create(spec(alloc)?),
-        Call::Start {
-            target: text(alloc)?,
-        },
-        Call::Pause {
-            target: text(alloc)?,
-        },
-        Call::Unpause {
-            target: text(alloc)?,
-        },
-        Call::Inspect {
-            target: text(alloc)?,
-        },
-        Call::Stop {
-            target: text(alloc)?,
-            wait: Some(1),
-            signal: Some(KILL),
-        },
-        Call::Restart {
-            target: text(alloc)?,
-            wait: None,
-            signal: None,
-        },
-        Call::Kill {
-            target: text(alloc)?,
-            signal: KILL,
-        },
-    ])
+fn is_copied(alloc: Global, call: Call) -> bool {
+    call.copy(alloc).is_ok()
 }
 
-fn stream_calls(alloc: Global) -> Result<[Call; 6], NoMemory> {
-    let logs = LogAsk {
-        follow: true,
-        out: true,
-        err: false,
-        stamps: true,
-        tail: Some(5),
-        least: 6,
-        greatest: 7,
-    };
-    let attach = AttachAsk {
-        logs: true,
-        stream: true,
-        stdin: false,
-        out: true,
-        err: true,
-    };
-    Ok([
-        Call::Rename {
-            target: text(alloc)?,
-            name: text(alloc)?,
-        },
-        Call::Remove {
-            target: text(alloc)?,
-            force: true,
-        },
-        Call::Wait {
-            target: text(alloc)?,
-            until: Until::NextExit,
-        },
-        Call::List {
-            all: true,
-            limit: Some(8),
-            filter: filter(alloc)?,
-        },
-        Call::Logs {
-            target: text(alloc)?,
-            ask: logs,
-        },
-        Call::Attach {
-            target: text(alloc)?,
-            ask: attach,
-        },
-    ])
-}
-
-fn exec_and_volume_calls(alloc: Global) -> Result<[Call; 8], NoMemory> {
-    Ok([
-        Call::ExecCreate {
-            target: text(alloc)?,
-            words: words(alloc)?,
-            stdin: true,
-            out: false,
-            err: true,
-        },
-        Call::ExecStart {
-            id: text(alloc)?,
-            detach: true,
-        },
-        Call::ExecInspect { id: text(alloc)? },
-        Call::VolumeCreate {
-            name: text(alloc)?,
-            labels: pairs(alloc)?,
-        },
-        Call::VolumeInspect { name: text(alloc)? },
-        Call::VolumeRemove { name: text(alloc)? },
-        Call::VolumeList {
-            filter: filter(alloc)?,
-        },
-        Call::Events {
-            since: Some(9),
-            until: None,
-            filter: filter(alloc)?,
-        },
-    ])
-}
-
-fn own_calls(alloc: Global) -> Result<[Call; 5], NoMemory> {
-    let owner = Owner::Container(1);
-    Ok([
-        Call::JournalRead,
-        Call::Feed {
-            owner,
-            run: 2,
-            bytes: Bytes::of(alloc, b"in")?,
-        },
-        Call::FeedEnd { owner, run: 2 },
-        Call::Take { ticket: 3 },
-        Call::Drop { ticket: 4 },
-    ])
+fn is_reply_copied(alloc: Global, reply: Reply) -> bool {
+    reply.copy(alloc).is_ok()
 }
 
 #[test]
-fn every_call_is_copied(rt: HostRuntime) -> Result<(), Fail> {
+fn calls_of_a_container_are_copied(rt: HostRuntime) -> Result<(), Fail> {
     let alloc = rt.alloc();
-    for call in &container_calls(alloc)? {
-        assert!(rt; call.copy(alloc).is_ok());
-    }
-    for call in &stream_calls(alloc)? {
-        assert!(rt; call.copy(alloc).is_ok());
-    }
-    for call in &exec_and_volume_calls(alloc)? {
-        assert!(rt; call.copy(alloc).is_ok());
-    }
-    for call in &own_calls(alloc)? {
-        assert!(rt; call.copy(alloc).is_ok());
-    }
+    let spec = spec(alloc)?;
+    assert!(rt; is_copied(alloc, Call::Create(spec)));
+    let target = text(alloc)?;
+    assert!(rt; is_copied(alloc, Call::Start { target }));
+    let target = text(alloc)?;
+    assert!(rt; is_copied(alloc, Call::Pause { target }));
+    let target = text(alloc)?;
+    assert!(rt; is_copied(alloc, Call::Unpause { target }));
+    let target = text(alloc)?;
+    assert!(rt; is_copied(alloc, Call::Inspect { target }));
+    let (wait, signal) = (Some(1), Some(KILL));
+    let target = text(alloc)?;
+    assert!(rt;
+        is_copied(
+            alloc,
+            Call::Stop {
+                target,
+                wait,
+                signal
+            }
+        )
+    );
+    let target = text(alloc)?;
+    assert!(rt;
+        is_copied(
+            alloc,
+            Call::Restart {
+                target,
+                wait,
+                signal
+            }
+        )
+    );
+    let (signal, force, until) = (KILL, true, Until::NextExit);
+    let target = text(alloc)?;
+    assert!(rt; is_copied(alloc, Call::Kill { target, signal }));
+    let target = text(alloc)?;
+    assert!(rt; is_copied(alloc, Call::Remove { target, force }));
+    let target = text(alloc)?;
+    assert!(rt; is_copied(alloc, Call::Wait { target, until }));
+    let target = text(alloc)?;
+    let name = text(alloc)?;
+    assert!(rt; is_copied(alloc, Call::Rename { target, name }));
     Ok(())
 }
 
-fn replies(alloc: Global) -> Result<[Reply; 7], NoMemory> {
-    let spec = LogSpec {
-        owner: Owner::Exec(1),
-        out: true,
-        err: false,
-        stamps: false,
-        first: 2,
-        stop: StopRule::RunEnd(3),
-        least: 4,
-        greatest: 5,
-        feed: Some(6),
-    };
-    Ok([
-        Reply::Answer {
-            status: 200,
-            body: text(alloc)?,
-        },
-        Reply::Begun { ticket: 7 },
-        Reply::LogStream { spec },
-        Reply::EventStream {
-            first: 8,
-            until: Some(9),
-            filter: filter(alloc)?,
-        },
-        Reply::JournalStream { count: 10 },
-        Reply::Fed { taken: true },
-        Reply::Dropped,
-    ])
+const LOGS: LogAsk = LogAsk {
+    follow: true,
+    out: true,
+    err: false,
+    stamps: true,
+    tail: Some(5),
+    least: 6,
+    greatest: 7,
+};
+
+const ATTACH: AttachAsk = AttachAsk {
+    logs: true,
+    stream: true,
+    stdin: false,
+    out: true,
+    err: true,
+};
+
+#[test]
+fn calls_of_lists_and_streams_are_copied(rt: HostRuntime) -> Result<(), Fail> {
+    let alloc = rt.alloc();
+    let (all, limit) = (true, Some(8));
+    let filter_ = filter(alloc)?;
+    assert!(rt;
+        is_copied(
+            alloc,
+            Call::List {
+                all,
+                limit,
+                filter: filter_
+            }
+        )
+    );
+    let filter_ = filter(alloc)?;
+    assert!(rt; is_copied(alloc, Call::VolumeList { filter: filter_ }));
+    let (since, until) = (Some(9), None);
+    let filter_ = filter(alloc)?;
+    assert!(rt;
+        is_copied(
+            alloc,
+            Call::Events {
+                since,
+                until,
+                filter: filter_
+            }
+        )
+    );
+    let target = text(alloc)?;
+    assert!(rt; is_copied(alloc, Call::Logs { target, ask: LOGS }));
+    let target = text(alloc)?;
+    assert!(rt;
+        is_copied(
+            alloc,
+            Call::Attach {
+                target,
+                ask: ATTACH
+            }
+        )
+    );
+    Ok(())
 }
 
 #[test]
-fn events_and_replies_are_copied(rt: HostRuntime) -> Result<(), Fail> {
+fn calls_of_execs_and_volumes_are_copied(rt: HostRuntime) -> Result<(), Fail> {
     let alloc = rt.alloc();
-    let event = Event {
+    let (stdin, out, err, detach) = (true, false, true, true);
+    let target = text(alloc)?;
+    let words = words(alloc)?;
+    assert!(rt;
+        is_copied(
+            alloc,
+            Call::ExecCreate {
+                target,
+                words,
+                stdin,
+                out,
+                err
+            }
+        )
+    );
+    let id = text(alloc)?;
+    assert!(rt; is_copied(alloc, Call::ExecStart { id, detach }));
+    let id = text(alloc)?;
+    assert!(rt; is_copied(alloc, Call::ExecInspect { id }));
+    let name = text(alloc)?;
+    let labels = pairs(alloc)?;
+    assert!(rt; is_copied(alloc, Call::VolumeCreate { name, labels }));
+    let name = text(alloc)?;
+    assert!(rt; is_copied(alloc, Call::VolumeInspect { name }));
+    let name = text(alloc)?;
+    assert!(rt; is_copied(alloc, Call::VolumeRemove { name }));
+    Ok(())
+}
+
+#[test]
+fn calls_of_the_daemon_are_copied(rt: HostRuntime) -> Result<(), Fail> {
+    let alloc = rt.alloc();
+    let (owner, run, ticket) = (Owner::Container(1), 2, 3);
+    assert!(rt; is_copied(alloc, Call::JournalRead));
+    let bytes = Bytes::of(alloc, b"in")?;
+    assert!(rt; is_copied(alloc, Call::Feed { owner, run, bytes }));
+    assert!(rt; is_copied(alloc, Call::FeedEnd { owner, run }));
+    assert!(rt; is_copied(alloc, Call::Take { ticket }));
+    assert!(rt; is_copied(alloc, Call::Drop { ticket }));
+    Ok(())
+}
+
+const SPEC: LogSpec = LogSpec {
+    owner: Owner::Exec(1),
+    out: true,
+    err: false,
+    stamps: false,
+    first: 2,
+    stop: StopRule::RunEnd(3),
+    least: 4,
+    greatest: 5,
+    feed: Some(6),
+};
+
+#[test]
+fn replies_are_copied(rt: HostRuntime) -> Result<(), Fail> {
+    let alloc = rt.alloc();
+    let (status, ticket, first, count, until, taken) = (200, 7, 8, 10, Some(9), true);
+    let body = text(alloc)?;
+    assert!(rt; is_reply_copied(alloc, Reply::Answer { status, body }));
+    assert!(rt; is_reply_copied(alloc, Reply::Begun { ticket }));
+    assert!(rt; is_reply_copied(alloc, Reply::LogStream { spec: SPEC }));
+    let filter = filter(alloc)?;
+    assert!(rt;
+        is_reply_copied(
+            alloc,
+            Reply::EventStream {
+                first,
+                until,
+                filter
+            }
+        )
+    );
+    assert!(rt; is_reply_copied(alloc, Reply::JournalStream { count }));
+    assert!(rt; is_reply_copied(alloc, Reply::Fed { taken }));
+    assert!(rt; is_reply_copied(alloc, Reply::Dropped));
+    Ok(())
+}
+
+fn event(alloc: Global) -> Result<Event, NoMemory> {
+    let id = text(alloc)?;
+    let attributes = pairs(alloc)?;
+    Ok(Event {
         kind: EventKind::Container,
         action: Action::Rename,
-        id: text(alloc)?,
-        attributes: pairs(alloc)?,
+        id,
+        attributes,
         moment: 11,
-    };
-    assert!(rt; event.copy(alloc).is_ok());
-    for reply in &replies(alloc)? {
-        assert!(rt; reply.copy(alloc).is_ok());
-    }
+    })
+}
+
+#[test]
+fn events_are_copied(rt: HostRuntime) -> Result<(), Fail> {
+    let alloc = rt.alloc();
+    assert!(rt; event(alloc)?.copy(alloc).is_ok());
     Ok(())
 }
