@@ -1,2 +1,5 @@
 mod ListLemmas
 mod ValueLemmas
+mod FloatLemmas
+mod DecimalLemmas
+mod EventLemmas
