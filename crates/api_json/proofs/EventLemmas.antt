@@ -1,9 +1,9 @@
 -- The line of an event, read back.
-use Rattle.std.proofs.Common.{◌≡◌, ◌≤◌, ◌*◌, ◌/◌, ℕ, List, [], ◌∷◌, map, codes, Bool, true, ◌&&◌, Some, None, Option, option_map, refl, sym, ap, ap₂, ◌∙◌, arith, IsUtf8}
+use Rattle.std.proofs.Common.{◌≡◌, ◌*◌, ◌/◌, ℕ, List, [], ◌∷◌, map, codes, Bool, true, Some, None, Option, option_map, refl, sym, ap, ap₂, ◌∙◌, arith}
 use Rattle.std.proofs.lemmas.Bool.{and_parts}
 use Rattle.json.proofs.Printed.Utf8.{are_ascii}
 use Rattle.serde_json.specs.Data.{Data, no_members}
-use Rattle.json_laws.specs.Pairs.{Texts, DoKeysRise, put_pairs} 
+use Rattle.json_laws.specs.Pairs.{Texts, DoKeysRise, put_pairs}
 use Rattle.json_laws.specs.Pairs as laws
 use Rattle.json_laws.specs.Sound.{IsCarried}
 use Rattle.json_laws.proofs.RoundTrip.{some_same}
@@ -19,7 +19,7 @@ use Rattle.engine_text.specs.declared.event.Action.{Action}
 use Rattle.engine_text.specs.declared.event.Action.TheVariants.{Create, Start, Kill, Die, Stop, Restart, Pause, Unpause, Rename, Destroy, Attach, ExecCreate, ExecStart, ExecDie, Mount, Unmount}
 use Rattle.api_json.specs.Values.{pairs_of}
 use Rattle.api_json.specs.Lists.{pairs_from, pairs_of_members}
-use Rattle.api_json.specs.EventRules.{kind_word, kind_of, action_word, action_of, attribute_keys, has_keys, keys_fit, attributes_fit}
+use Rattle.api_json.specs.EventRules.{kind_word, kind_of, action_word, action_of, attribute_keys, has_keys, keys_fit}
 use Rattle.api_json.specs.Event.{IsLine, actor_members, event_members, event_data, event_of, event_line_text}
 use Rattle.api_json.proofs.DecimalLemmas.{same_is}
 

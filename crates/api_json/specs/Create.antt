@@ -4,7 +4,6 @@ use Rattle.serde_json.specs.Data.{Data, Members, no_members, member}
 use Rattle.serde_json.specs.Find.{as_object}
 use Rattle.engine_text.specs.Signal.{read_signal}
 use Rattle.engine_text.specs.declared.call.CreateSpec.{CreateSpec}
-use Rattle.engine_text.specs.declared.pairs.Pair.{Pair}
 use Rattle.engine_text.specs.declared.signal.Signal.{Signal}
 use Rattle.api_json.specs.Fault.{and_then, or_fault}
 use Rattle.api_json.specs.Fields.{body_of, field, needed_text, text_field, flag, whole_field, unset_flag}

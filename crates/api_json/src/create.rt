@@ -165,11 +165,7 @@ fn create_in(alloc: Global, name: Option<&str>, body: &Value) -> Result<CreateSp
 /// `Cmd`, `Tty`, `OpenStdin`, `StdinOnce`, `StopSignal`, `StopTimeout`, `Labels`, `Volumes` and
 /// `HostConfig`; others are passed over. The first fault is told. The name is kept as it was given.
 #[tactic(auto, unfolding(crate::specs::Create::create_of))]
-pub fn read_create(
-    alloc: Global,
-    name: Option<&str>,
-    body: &[u8],
-) -> Result<CreateSpec, Refused>
+pub fn read_create(alloc: Global, name: Option<&str>, body: &[u8]) -> Result<CreateSpec, Refused>
     ensures { Answers (spec.create_of (option_copied name.entry) body.now) result }
 {
     let body = read_body(alloc, body)?;

@@ -33,3 +33,6 @@ pub use status::{status_text, status_word};
 pub use values::IMAGE_NAME;
 pub use volume::{VolumeView, volume_body, volumes_body};
 pub use volume_create::{VolumeSpec, read_volume};
+
+#[cfg(test)]
+mod tests;

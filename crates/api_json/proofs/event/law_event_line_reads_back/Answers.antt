@@ -1,4 +1,4 @@
-use Rattle.std.proofs.Common.{◌≡◌, ◌≢◌, ℕ, List, IfOk, IfErr, Result, Ok, Err, refl, sym, ◌∙◌}
+use Rattle.std.proofs.Common.{◌≡◌, ℕ, List, IfOk, IfErr, Result, Ok, Err, refl, sym, ◌∙◌}
 use Rattle.engine_text.specs.declared.event.Event.{Event}
 use Rattle.api_json.specs.Event.{IsLine, IsLineRefusal, event_line_text}
 use Rattle.api_json.specs.declared.fault.Refused.{Refused}

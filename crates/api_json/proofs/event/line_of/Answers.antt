@@ -1,4 +1,4 @@
-use Rattle.std.proofs.Common.{◌≡◌, ◌||◌, Bool, false, ap, ◌∙◌}
+use Rattle.std.proofs.Common.{◌||◌, Bool, false, ap, ◌∙◌}
 use Rattle.serde_json.specs.Written.{has_float}
 use Rattle.json_laws.proofs.NoFloat.{no_float-pairs_data}
 use Rattle.api_json.specs.Values.{pairs_of}
