@@ -3,3 +3,5 @@ mod ValueLemmas
 mod FloatLemmas
 mod DecimalLemmas
 mod EventLemmas
+pub mod CreateLemmas
+mod StandardFacts

@@ -21,7 +21,7 @@ mod volume;
 mod volume_create;
 
 pub use container::{ContainerView, container_body};
-pub use create::read_create;
+pub use create::{law_creates_keep_to_limits, read_create};
 pub use event::{event_line, law_event_line_reads_back, read_event_line};
 pub use event_rules::{action_word, attributes_fit, kind_word, read_action, read_kind};
 pub use exec::{ExecView, exec_body};
