@@ -14,3 +14,4 @@ pub mod Asks
 pub mod Room
 pub mod Response
 pub mod Chunks
+pub mod Laws

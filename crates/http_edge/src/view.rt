@@ -62,7 +62,13 @@ impl<'r> RequestView<'r> {
     pub fn closes(&self) -> bool
         ensures { result ≡ closes (request_of self.now) }
     {
-        has_field(self.head(), self.spans(), b"connection", Want::Token, b"close")
+        has_field(
+            self.head(),
+            self.spans(),
+            b"connection",
+            Want::Token,
+            b"close",
+        )
     }
 
     /// Whether the request asks to upgrade the connection.
