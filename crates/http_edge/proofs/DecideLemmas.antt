@@ -1,14 +1,14 @@
 -- Whether bytes begin with a head can be told, piece by piece.
-use Rattle.std.proofs.Common.{arith, ◌≡◌, ◌<◌, ◌≤◌, ◌⊎◌, inl, inr, ℕ, zero, suc, List, [], ◌∷◌, ◌++◌, length, ◌+◌, sym, ap, subst, refl, ◌∙◌, Bool, true, false, append_assoc, append-nil, length-append}
-use Rattle.std.specs.Prelude.{IsUtf8, ⊤}
-use Rattle.std.specs.List.{flat_map, All}
+use Rattle.std.proofs.Common.{arith, ◌≡◌, ◌<◌, ◌≤◌, ◌⊎◌, inl, inr, ℕ, zero, suc, List, [], ◌∷◌, ◌++◌, length, sym, ap, subst, refl, ◌∙◌, Bool, true, false, append_assoc, append-nil, length-append}
+use Rattle.std.specs.Prelude.{IsUtf8}
+use Rattle.std.specs.List.{flat_map}
 use Rattle.std.specs.Str.{is_utf8}
 use Rattle.std.proofs.lemmas.Bool.{cases_order, cases_Bool}
 use Rattle.std.proofs.lemmas.Str.{IsUtf8-from_is_utf8, is_utf8-from_IsUtf8}
 use Rattle.std.proofs.lemmas.List.Elements.{All-nil, All-cons, All-head, All-tail}
 use Rattle.httparse.specs.Grammar.{is_token_byte, is_uri_byte, is_value_byte, AllPass, LineEnd, crlf, lf, print_end, print_blank, print_version, Field, IsField, print_field, RequestHead, ReadsRequest, HasNoRequest as HasNoHead}
 use Rattle.httparse.specs.Pieces.{Piece, Begins, Then, Stops, is_newline, Newline, Blank, Word, Method, Target, Version, Text, FieldLine, Section, RequestStart}
-use Rattle.httparse.proofs.PieceLemmas.{IsDeterministic, newline_not_stopped, print_end_unique, Blank_deterministic, Word_deterministic, Method_deterministic, Target_deterministic, Version_deterministic, Name_deterministic, RequestStart_deterministic, FieldLine_parts, FieldLine_deterministic, Section_skip, Section_line, space_ends_token, colon_ends_token}
+use Rattle.httparse.proofs.PieceLemmas.{IsDeterministic, newline_not_stopped, print_end_unique, Blank_deterministic, Word_deterministic, Method_deterministic, Target_deterministic, Version_deterministic, Name_deterministic, RequestStart_deterministic, FieldLine_parts, Section_skip, Section_line, space_ends_token, colon_ends_token}
 use Rattle.httparse.proofs.GrammarLemmas.{request_tree, request_head, request_pieces, request_from_pieces}
 use Rattle.http_edge.proofs.RoomLemmas.{end_takes, field_takes}
 

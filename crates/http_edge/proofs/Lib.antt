@@ -10,3 +10,4 @@ pub mod AskLemmas
 pub mod HexLemmas
 pub mod DecideLemmas
 pub mod ReadingLemmas
+mod StandardFacts

@@ -1,5 +1,6 @@
 pub mod Limits
 pub mod Message
+pub mod Given
 pub mod Framing
 pub mod Spelling
 pub mod Refusal

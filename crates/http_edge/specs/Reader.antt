@@ -1,5 +1,5 @@
 -- What a reader of requests is, and what a call of `next` does to it.
-use Rattle.std.specs.Prelude.{◌≡◌, ◌<◌, ◌≤◌, ◌⊎◌, ◌+◌, ◌++◌, min, ℕ, List, [], length, take, Option, None, Some}
+use Rattle.std.specs.Prelude.{◌≡◌, ◌<◌, ◌≤◌, ◌⊎◌, ◌+◌, ◌++◌, min, ℕ, List, [], length, take, None, Some}
 use Rattle.engine_ports.specs.Rose.{Rose, greatest_count}
 use Rattle.engine_ports.specs.Source.{SourceView, SourceGave, SourceEnded}
 use Rattle.engine_ports.specs.declared.ports.Got.{Got}

@@ -13,6 +13,7 @@ mod limits;
 mod line;
 mod reader;
 mod request;
+mod shown_fields;
 mod view;
 
 pub use answer::{write_answer, write_refusal};
@@ -23,4 +24,8 @@ pub use head::{Form, Head, write_head};
 pub use laws::{law_begins_with_none, law_of_requests, law_one_reading, law_refused_stays};
 pub use limits::{BODY_LIMIT, FIELD_LIMIT, HEAD_LIMIT};
 pub use reader::{Next, RequestReader, Stopped};
+pub use shown_fields::Fields;
 pub use view::{Buffers, RequestView};
+
+#[cfg(test)]
+mod tests;

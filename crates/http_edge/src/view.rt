@@ -3,6 +3,7 @@ ghost use Rattle.std.specs.Prelude.{◌≡◌, ◌≤◌, length, take, IsUtf8};
 ghost use Rattle.http_edge.specs.Shown.{IsShown};
 
 use crate::asks::{Want, has_field};
+use crate::shown_fields::Fields;
 use httparse::spans::{HeaderSpan, RequestSpans};
 use std::str;
 
@@ -42,6 +43,13 @@ impl<'r> RequestView<'r> {
         ensures { result.now ≡ (request_of self.now).target }
     {
         text(self.found.path.of(self.head()))
+    }
+
+    /// The fields, in order.
+    pub fn fields(&self) -> Fields<'r>
+        ensures { result ≡ (request_of self.now).fields }
+    {
+        Fields::new(self.head(), self.spans())
     }
 
     /// The body.

@@ -1,4 +1,4 @@
-use Rattle.std.proofs.Common.{arith, ◌/◌, ◌%◌, ◌≡◌, ◌++◌, ◌∷◌, [], ap, sym, ◌∙◌, append_assoc, length, length-append}
+use Rattle.std.proofs.Common.{arith, ◌/◌, ◌%◌, ◌++◌, ◌∷◌, [], ap, sym, ◌∙◌, append_assoc, length, length-append}
 use Rattle.http_edge.specs.Chunks.{hex_text, hex_digit}
 use Rattle.http_edge.proofs.HexLemmas.{hex_step}
 use Rattle.http_edge.proofs.chunk.+push_hex.Goals as goal

@@ -1,4 +1,4 @@
-use Rattle.std.proofs.Common.{arith, ◌≡◌, ap, length, length-append}
+use Rattle.std.proofs.Common.{arith, ap, length, length-append}
 use Rattle.std.specs.Prelude.{codes}
 use Rattle.http_edge.specs.Chunks.{hex_text}
 use Rattle.http_edge.proofs.HexLemmas.{hex_short}

@@ -1,4 +1,4 @@
-use Rattle.std.proofs.Common.{◌≡◌, ◌++◌, ◌∙◌, List, ℕ, ap, subst}
+use Rattle.std.proofs.Common.{◌++◌, ◌∙◌, List, ℕ, subst}
 use Rattle.std.specs.Prelude.{codes}
 use Rattle.engine_ports.specs.Sink.{WriteSays}
 use Rattle.engine_ports.proofs.PortLemmas.{written_on}

@@ -1,4 +1,4 @@
-use Rattle.std.proofs.Common.{arith, ◌≡◌, ◌<◌, ◌≤◌, ℕ, List, length, take, drop, ap, ◌∙◌}
+use Rattle.std.proofs.Common.{arith, ◌≡◌, ◌<◌, ◌≤◌, ℕ, List, length, take, ap}
 use Rattle.std.proofs.lemmas.List.{length-take-le}
 use Rattle.http_edge.proofs.ReadLemmas.{given_ahead, some_taken}
 use Rattle.http_edge.proofs.reader.RequestReader.take_rest.Goals as goal
