@@ -6,6 +6,7 @@ pub mod StreamLemmas
 pub mod EndLemmas
 pub mod RequestLemmas
 pub mod LineLemmas
+pub mod PhraseLemmas
 pub mod AskLemmas
 pub mod HexLemmas
 pub mod DecideLemmas

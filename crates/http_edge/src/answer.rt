@@ -1,6 +1,5 @@
 // A response with its body.
 ghost use Rattle.std.specs.Prelude.{◌≡◌, ◌++◌};
-ghost use Rattle.http.specs.StatusCode.{IsStatusCode};
 ghost use Rattle.engine_ports.specs.Sink.{WriteSays};
 ghost use Rattle.http_edge.specs.Response.{head_text, refusal_body, refusal_bytes};
 
@@ -11,7 +10,6 @@ use engine_ports::{Failed, Sink};
 /// Writes a head and its body: at once where they have at most 4,096 bytes, and else one after the
 /// other. It takes no memory.
 pub fn write_answer<K: Sink>(sink: &mut K, head: &Head, body: &[u8]) -> Result<(), Failed>
-    requires { IsStatusCode head.now.status }
     ensures { WriteSays result (head_text head.now ++ body.now) (K.takes sink.old) (K.takes sink.new) }
 {
     let mut line = head_line(head);
@@ -33,7 +31,6 @@ pub(crate) fn write_both<K: Sink>(sink: &mut K, first: &[u8], second: &[u8]) -> 
 /// Writes the response to a request that is refused with this status: the connection is closed
 /// behind it. It takes no memory.
 pub fn write_refusal<K: Sink>(sink: &mut K, status: u16) -> Result<(), Failed>
-    requires { IsStatusCode status }
     ensures { WriteSays result (refusal_bytes status) (K.takes sink.old) (K.takes sink.new) }
 {
     let body = refusal_line(status);
@@ -46,7 +43,6 @@ pub fn write_refusal<K: Sink>(sink: &mut K, status: u16) -> Result<(), Failed>
 }
 
 fn refusal_line(status: u16) -> Line
-    requires { IsStatusCode status }
     ensures { result ≡ refusal_body status }
 {
     let mut body = Line::new();

@@ -142,18 +142,12 @@ const REFUSALS: &[Refused] = &[
 
 fn is_head_written(alloc: Global, row: &Row) -> Result<bool, NoMemory> {
     let mut sink = MemSink::new(alloc, &[])?;
-    if row.head.status < 100 || row.head.status > 999 {
-        return Ok(false);
-    }
     let written = write_head(&mut sink, &row.head).is_ok();
     Ok(written && sink.bytes() == row.bytes)
 }
 
 fn is_refusal_written(alloc: Global, row: &Refused) -> Result<bool, NoMemory> {
     let mut sink = MemSink::new(alloc, &[])?;
-    if row.status < 100 || row.status > 999 {
-        return Ok(false);
-    }
     let written = write_refusal(&mut sink, row.status).is_ok();
     Ok(written && sink.bytes() == row.bytes)
 }
