@@ -179,7 +179,7 @@ fn a_short_answer_is_one_write(rt: HostRuntime) -> Result<(), Fail> {
     let body = vec![in rt.alloc(); b'x'; 4000]?;
     let mut sink = MemSink::new(rt.alloc(), &[1])?;
     assert!(rt; write_answer(&mut sink, &NO_BODY, &body) == Ok(()));
-    assert!(rt; sink.bytes().len() == 4053);
+    assert!(rt; sink.bytes().len() == 4055);
     Ok(())
 }
 
@@ -188,7 +188,7 @@ fn a_long_answer_is_two_writes(rt: HostRuntime) -> Result<(), Fail> {
     let body = vec![in rt.alloc(); b'x'; 5000]?;
     let mut sink = MemSink::new(rt.alloc(), &[1])?;
     assert!(rt; write_answer(&mut sink, &NO_BODY, &body) == Err(Failed));
-    assert!(rt; sink.bytes().len() == 53);
+    assert!(rt; sink.bytes().len() == 55);
     Ok(())
 }
 
