@@ -4,3 +4,4 @@ pub mod YearLemmas
 pub mod CalendarLemmas
 pub mod MomentLemmas
 pub mod MomentFacts
+pub mod QueryLemmas

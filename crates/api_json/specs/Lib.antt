@@ -1,0 +1,13 @@
+pub mod Values
+pub mod Mount
+pub mod Status
+pub mod Container
+pub mod List
+pub mod Exec
+pub mod Volume
+pub mod Event
+pub mod Fault
+pub mod Fields
+pub mod Lists
+pub mod ExecCreate
+pub mod VolumeCreate

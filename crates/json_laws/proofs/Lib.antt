@@ -1,0 +1,7 @@
+pub mod RoundTrip
+pub mod NoFloat
+pub mod Utf8
+pub mod Pairs
+pub mod Text
+pub mod Sound
+pub mod Lines
