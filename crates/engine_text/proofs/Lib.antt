@@ -5,3 +5,4 @@ pub mod CalendarLemmas
 pub mod MomentLemmas
 pub mod MomentFacts
 pub mod QueryLemmas
+pub mod SignalLemmas

@@ -7,7 +7,7 @@ use Rattle.engine_text.specs.Texts.{same_bytes}
 
 -- neither name nor maximum is another
 abbrev pub bad : Bad
-bad = record { }
+bad = record {}
 
 -- a maximum is from 0 to 2,147,483,647
 abbrev pub on_failure : ℤ → Result Policy Bad
