@@ -11,3 +11,4 @@ pub mod Fields
 pub mod Lists
 pub mod ExecCreate
 pub mod VolumeCreate
+pub mod Filters
