@@ -12,3 +12,6 @@ pub mod Lists
 pub mod ExecCreate
 pub mod VolumeCreate
 pub mod Filters
+pub mod MountForms
+pub mod HostConfig
+pub mod Create
