@@ -6,3 +6,4 @@ pub mod StreamLemmas
 pub mod EndLemmas
 pub mod RequestLemmas
 pub mod LineLemmas
+pub mod AskLemmas

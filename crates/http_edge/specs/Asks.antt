@@ -3,7 +3,9 @@ use Rattle.std.specs.Prelude.{ℕ, Bool, ◌==◌, ◌&&◌, if◌then◌else◌
 use Rattle.std.specs.List.{list_any}
 use Rattle.std.specs.Str.{bytes_eq}
 use Rattle.httparse.specs.Grammar.{trim_ows}
-use Rattle.http_edge.specs.Message.{Request, is_same_text, values_named}
+use Rattle.http_edge.specs.Message.{Header, Request, is_same_text, is_named}
+use Rattle.http_edge.specs.declared.asks.Want.{Want}
+use Rattle.http_edge.specs.declared.asks.Want.TheVariants.{Value, Token}
 
 -- its method is HEAD
 abbrev pub is_head : Request → Bool
@@ -23,16 +25,21 @@ parts_of (b ∷ bytes) = if b == 44 then [] ∷ parts_of bytes else joined_first
 abbrev pub has_token : List ℕ → List ℕ → Bool
 has_token token value = list_any (λ part. is_same_text (trim_ows part) token) (parts_of value)
 
--- a Connection field has the token
-abbrev pub connection_has : List ℕ → Request → Bool
-connection_has token request = list_any (has_token token) (values_named (codes "connection") request.fields)
+-- the value is this one, or holds it as a token
+abbrev pub fits : Want → List ℕ → List ℕ → Bool
+fits Value want value = is_same_text value want
+fits Token want value = has_token want value
 
--- it asks to close the connection
+-- a field of this name has such a value
+abbrev pub has_field : List ℕ → Want → List ℕ → List Header → Bool
+has_field name kind want fields = list_any (λ field. is_named name field && fits kind want field.1) fields
+
+-- it asks to close the connection: a Connection field holds the token
 abbrev pub closes : Request → Bool
-closes = connection_has (codes "close")
+closes request = has_field (codes "connection") Token (codes "close") request.fields
 
--- it asks to upgrade the connection: `Upgrade: tcp`, and a Connection field with the token
+-- it asks to upgrade the connection: `Upgrade: tcp`, and a Connection field holds the token
 abbrev pub asks_upgrade : Request → Bool
 asks_upgrade request =
-    list_any (is_same_text (codes "tcp")) (values_named (codes "upgrade") request.fields)
-    && connection_has (codes "upgrade") request
+    has_field (codes "upgrade") Value (codes "tcp") request.fields
+    && has_field (codes "connection") Token (codes "upgrade") request.fields

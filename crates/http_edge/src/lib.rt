@@ -2,6 +2,7 @@
 #![tactic(auto)]
 
 mod answer;
+mod asks;
 mod fields;
 mod fill;
 mod framing;
@@ -13,6 +14,7 @@ mod request;
 mod view;
 
 pub use answer::write_answer;
+pub use asks::Want;
 pub use framing::Framing;
 pub use head::{Form, Head, write_head};
 pub use limits::{BODY_LIMIT, FIELD_LIMIT, HEAD_LIMIT};
