@@ -1,4 +1,3 @@
-pub mod Request
 pub mod Routes
 pub mod Fault
 pub mod Reading

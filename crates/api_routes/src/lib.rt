@@ -27,3 +27,7 @@ pub use fault::Fault;
 pub use method::Method;
 pub use route::Route;
 pub use routes::Routes;
+pub use table::law_one_route_fits;
+
+#[cfg(test)]
+mod tests;
