@@ -14,16 +14,19 @@ use Rattle.http_edge.specs.Message.{Request}
 use Rattle.http_edge.specs.Asks.{asks_upgrade}
 use Rattle.api_routes.specs.Fault.{and_then}
 use Rattle.api_routes.specs.Keys.{flag, create_name, optional_name, new_name, signal_in, kill_signal, seconds_in, limit_in, condition_in, time_in}
-use Rattle.api_routes.specs.Calls.{of_body, filters_in, create_call, list_keys, event_keys, remove_call}
+use Rattle.api_routes.specs.Calls.{of_body, filters_in, create_call, logs_call, attach_ask, events_call, list_keys}
 use Rattle.api_json.specs.ExecCreate.{exec_of, exec_start_of}
 use Rattle.api_json.specs.VolumeCreate.{volume_of}
 use Rattle.api_routes.specs.Query.{value_or_empty}
 use Rattle.api_routes.specs.Path.{query_of}
-use Rattle.api_routes.specs.RouteClass.{Asked, route_class, ask, exec_start_class}
+use Rattle.api_routes.specs.RouteClass.{Asked, route_class, ask, in_chunks, takeover, exec_start_class}
 use Rattle.api_routes.specs.Built.{is_built, is_built_create, is_no_policy, has_none}
 use Rattle.api_routes.specs.Class.{class_of}
+use Rattle.api_routes.specs.Laws.{IsAsked}
 use Rattle.api_routes.specs.declared.class.Class.{Class}
 use Rattle.api_routes.specs.declared.class.Class.TheVariants.{Direct, Ask, Stream}
+use Rattle.api_routes.specs.declared.class.Takeover.{Takeover}
+use Rattle.api_routes.specs.declared.class.Takeover.TheVariants as takes
 use Rattle.api_routes.specs.declared.fault.Fault.{Fault}
 use Rattle.api_routes.specs.declared.fault.Fault.TheVariants.{Body, InvalidName, LinksLeftOut}
 use Rattle.api_routes.specs.declared.route.Route.{Route}
@@ -43,7 +46,23 @@ asked : (e : Result Call Fault) (c : Call) → ask e ≡ Ok (Ask c) → e ≡ Ok
 asked e c h = let w = went-on e _ (Ask c) h in let same : w.0 ≡ c = cc in w.1 ∙ ap Ok same
 
 never : (c : Call) → is_built c ≡ false → is_built c ≡ true → ⊥
-never c no yes = true≢false (sym yes ∙ no)
+never c unserved served = true≢false (sym served ∙ unserved)
+
+-- a stream isn't asked
+is-stream : (x c : Call) (t : Takeover) → Stream x t ≡ Ask c → ⊥
+is-stream x c t h = cc
+
+abbrev pub read_well : Class → Result Class Fault
+read_well class = Ok class
+
+same-class : (x y : Class) → read_well x ≡ read_well y → x ≡ y
+same-class x y h = cc
+
+streams : (x c : Call) (t : Takeover) → read_well (Stream x t) ≡ read_well (Ask c) → ⊥
+streams x c t h = is-stream x c t (same-class (Stream x t) (Ask c) h)
+
+chunks : (e : Result Call Fault) (c : Call) → in_chunks e ≡ Ok (Ask c) → ⊥
+chunks e c h = let w = went-on e (λ x. Ok (Stream x takes.None)) (Ask c) h in streams w.0 c takes.None w.2
 
 -- no other route asks for a call that is served
 pub only-create : (route : Route) (a : Asked) (c : Call) → route_class route a ≡ Ok (Ask c) → is_built c ≡ true → create_call a.query a.body ≡ Ok c
@@ -70,27 +89,25 @@ only-create to.Remove a c h b = absurd (never c (by (flag (codes "link") a.query
     by : (v : Bool) → cond v (Err LinksLeftOut) (Ok (call.Remove a.name (flag (codes "force") a.query))) ≡ Ok c → is_built c ≡ false
     by true e = let no : ⊥ = cc in absurd no
     by false e = let same : call.Remove a.name (flag (codes "force") a.query) ≡ c = cc in ap is_built (sym same)
-only-create to.Logs a c h b = let w = went-on _ _ (Ask c) h in let no : ⊥ = cc in absurd no
-only-create to.Attach a c h b = cc
+only-create to.Logs a c h b = absurd (chunks (logs_call a.name a.query) c h)
+only-create to.Attach a c h b = absurd (streams (call.Attach a.name (attach_ask a.query)) c (takeover a.upgrade) h)
 only-create to.ExecCreate a c h b =
     absurd (never c (one-more (of_body (exec_of a.body)) (λ exec. call.ExecCreate a.name exec.words exec.stdin exec.out exec.err) c (λ x. refl) (asked _ c h)) b)
 only-create to.ExecStart a c h b =
     let w = went-on (of_body (exec_start_of a.body)) _ (Ask c) h in
-    absurd (never c (by w.0 (same-class w.2)) b)
+    absurd (never c (by w.0 (same-class _ _ w.2)) b)
   where
-    same-class : {x y : Class} → Ok x ≡ Ok y → x ≡ y
-    same-class e = cc
     by : (detach : Bool) → exec_start_class a.name a.upgrade detach ≡ Ask c → is_built c ≡ false
     by true e = let same : call.ExecStart a.name true ≡ c = cc in ap is_built (sym same)
-    by false e = let no : ⊥ = cc in absurd no
+    by false e = absurd (is-stream _ _ _ e)
 only-create to.ExecInspect a c h b = let same : call.ExecInspect a.name ≡ c = cc in absurd (never c (ap is_built (sym same)) b)
 only-create to.VolumeList a c h b = absurd (never c (one-more (filters_in (key.Name ∷ []) a.query) (λ filter. call.VolumeList filter) c (λ x. refl) (asked _ c h)) b)
 only-create to.VolumeCreate a c h b =
     absurd (never c (one-more (of_body (volume_of a.body)) (λ volume. call.VolumeCreate volume.name volume.labels) c (λ x. refl) (asked _ c h)) b)
 only-create to.VolumeInspect a c h b = let same : call.VolumeInspect a.name ≡ c = cc in absurd (never c (ap is_built (sym same)) b)
 only-create to.VolumeRemove a c h b = let same : call.VolumeRemove a.name ≡ c = cc in absurd (never c (ap is_built (sym same)) b)
-only-create to.Events a c h b = let w = went-on _ _ (Ask c) h in let no : ⊥ = cc in absurd no
-only-create to.Journal a c h b = cc
+only-create to.Events a c h b = absurd (chunks (events_call a.query) c h)
+only-create to.Journal a c h b = absurd (streams call.JournalRead c takes.None h)
 
 -- what a name that was read is
 pub name-read : (query name : List ℕ) → create_name query ≡ Ok (Some name) → is_name name ≡ true
@@ -103,16 +120,6 @@ name-read query name h = by (value_or_empty (codes "name") query) h
         at : (v : Bool) → is_name (c ∷ cs) ≡ v → cond v (Ok (Some (c ∷ cs))) (Err (InvalidName (c ∷ cs))) ≡ Ok (Some name) → is_name name ≡ true
         at true t e = let same : c ∷ cs ≡ name = cc in ap is_name (sym same) ∙ t
         at false t e = let no : ⊥ = cc in absurd no
-
--- what is known of a create that is asked and served: its body, its name, and that what isn't served is not in it
-pub record IsAsked (r : Request) (spec : CreateSpec) : Type 0 where
-  pub given : CreateSpec
-  pub body : create_of None r.body ≡ Ok given
-  pub name : create_name (query_of r.target) ≡ Ok spec.name
-  pub same : spec ≡ record given { name = spec.name }
-  pub mounts : spec.mounts ≡ []
-  pub policy : spec.policy ≡ No
-  pub open_stdin : spec.open_stdin ≡ false
 
 of-read : {A : Type 0} (e : Result A BodyFault) (x : A) → of_body e ≡ Ok x → e ≡ Ok x
 of-read (Ok y) x h = let same : y ≡ x = cc in ap Ok same
@@ -146,8 +153,7 @@ asked-create r c h =
     let same : call.Create spec ≡ c = cc in
     let built : is_built_create spec ≡ true = ap is_built same ∙ w.3 in
     let p = both (has_none spec.mounts && is_no_policy spec.policy) (not spec.open_stdin) built in
-    let q = both (has_none spec.mounts) (is_no_policy spec.policy) p.0 in
-    (
+    let q = both (has_none spec.mounts) (is_no_policy spec.policy) p.0 in (
       spec,
       sym same,
       record {

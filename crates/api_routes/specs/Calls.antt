@@ -97,9 +97,9 @@ abbrev pub log_ask : List ℕ → Result LogAsk Fault
 log_ask query =
     if flag (codes "stdout") query || flag (codes "stderr") query
     then and_then (time_in (codes "since") query) (λ since.
-        and_then (time_in (codes "until") query) (λ until.
-        and_then (tail_in query) (λ tail.
-        Ok (asked_logs query since until tail))))
+    and_then (time_in (codes "until") query) (λ until.
+    and_then (tail_in query) (λ tail.
+    Ok (asked_logs query since until tail))))
     else Err NoStream
 
 abbrev pub logs_call : List ℕ → List ℕ → Result Call Fault

@@ -10,3 +10,4 @@ pub mod Built
 pub mod Calls
 pub mod RouteClass
 pub mod Class
+pub mod Laws

@@ -8,6 +8,7 @@ mod containers;
 mod execs;
 mod fault;
 mod keys;
+mod laws;
 mod logs;
 mod method;
 mod names;
@@ -24,6 +25,7 @@ mod version;
 
 pub use class::{Class, DirectAnswer, DirectKind, Takeover};
 pub use fault::Fault;
+pub use laws::{law_creates, law_served_calls};
 pub use method::Method;
 pub use route::Route;
 pub use routes::Routes;

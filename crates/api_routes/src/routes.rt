@@ -27,7 +27,11 @@ pub struct Routes {
 fn message_kind(method: &str) -> DirectKind
     ensures { result ≡ spec.message_kind method.now }
 {
-    if method == "HEAD" { DirectKind::MessageHead } else { DirectKind::Message }
+    if method == "HEAD" {
+        DirectKind::MessageHead
+    } else {
+        DirectKind::Message
+    }
 }
 
 // The answer that tells a fault.

@@ -76,23 +76,31 @@ fn is_create(class: &Class, name: Option<&str>, image: &str) -> bool {
 
 const IMAGE: &str = "{\"Image\":\"engine/tools:latest\"}";
 
-const VERSION: &str = "{\"ApiVersion\":\"1.43\",\"Arch\":\"amd64\",\"MinAPIVersion\":\"1.24\",\"Os\":\"linux\",\"Version\":\"1.0.0\"}";
+const VERSION: &str =
+    "{\"ApiVersion\":\"1.43\",\"Arch\":\"amd64\",\"MinAPIVersion\":\"1.24\",\"Os\":\"linux\",\"Version\":\"1.0.0\"}";
 
-const TOO_OLD: &str =
-    "client version 1.23 is too old. Minimum supported API version is 1.24";
+const TOO_OLD: &str = "client version 1.23 is too old. Minimum supported API version is 1.24";
 
-const TOO_NEW: &str =
-    "client version 1.44 is too new. Maximum supported API version is 1.43";
+const TOO_NEW: &str = "client version 1.44 is too new. Maximum supported API version is 1.43";
 
 #[test]
 fn ping_and_version_are_fixed(rt: HostRuntime) -> Result<(), Fail> {
     let alloc = rt.alloc();
     let routes = Routes::new(alloc)?;
-    for target in ["/_ping", "/_ping?a=b", "/v1.24/_ping", "/v1.43/_ping", "/v01.043/_ping"] {
+    for target in [
+        "/_ping",
+        "/_ping?a=b",
+        "/v1.24/_ping",
+        "/v1.43/_ping",
+        "/v01.043/_ping",
+    ] {
         let class = routes.class_of(alloc, "GET", target, b"", false)?;
         assert!(rt; is_direct(&class, 200, "OK", DirectKind::Plain), "{target}");
         let class = routes.class_of(alloc, "HEAD", target, b"", false)?;
-        assert!(rt; is_direct(&class, 200, "OK", DirectKind::PlainHead), "HEAD {target}");
+        assert!(rt;
+            is_direct(&class, 200, "OK", DirectKind::PlainHead),
+            "HEAD {target}"
+        );
     }
     let class = routes.class_of(alloc, "GET", "/version", b"", false)?;
     assert!(rt; is_direct(&class, 200, VERSION, DirectKind::Json));
@@ -134,7 +142,12 @@ fn versions_and_paths_are_read_by_segments(rt: HostRuntime) -> Result<(), Fail> 
         delete("/containers/create", 501, "not built"),
     ];
     for case in &cases {
-        assert!(rt; holds(&routes, alloc, case)?, "{} {}", case.method, case.target);
+        assert!(rt;
+            holds(&routes, alloc, case)?,
+            "{} {}",
+            case.method,
+            case.target
+        );
     }
     Ok(())
 }
@@ -146,27 +159,68 @@ fn each_fault_of_a_query_has_its_text(rt: HostRuntime) -> Result<(), Fail> {
     let cases = [
         post("/containers/a/stop?t=-2", "", 400, "bad t"),
         post("/containers/a/stop?t=2147484", "", 400, "bad t"),
-        post("/containers/a/stop?t=2147483&signal=2", "", 501, "not built"),
-        post("/containers/a/restart?signal=32", "", 400, "Invalid signal: 32"),
-        post("/containers/a/kill?signal=NOPE", "", 400, "Invalid signal: NOPE"),
+        post(
+            "/containers/a/stop?t=2147483&signal=2",
+            "",
+            501,
+            "not built",
+        ),
+        post(
+            "/containers/a/restart?signal=32",
+            "",
+            400,
+            "Invalid signal: 32",
+        ),
+        post(
+            "/containers/a/kill?signal=NOPE",
+            "",
+            400,
+            "Invalid signal: NOPE",
+        ),
         post("/containers/a/rename", "", 400, "Invalid container name ()"),
-        post("/containers/a/rename?name=%2Fb", "", 400, "Invalid container name (/b)"),
+        post(
+            "/containers/a/rename?name=%2Fb",
+            "",
+            400,
+            "Invalid container name (/b)",
+        ),
         post("/containers/a/wait?condition=x", "", 400, "bad condition"),
         get("/containers/json?limit=1234567890", 400, "bad limit"),
         get("/containers/json?limit=", 400, "bad limit"),
         get("/containers/json?filters=null", 400, "invalid filter"),
-        get("/containers/a/logs", 400, "you must choose at least one stream"),
+        get(
+            "/containers/a/logs",
+            400,
+            "you must choose at least one stream",
+        ),
         get("/containers/a/logs?stdout=1&tail=x", 400, "bad tail"),
-        get("/containers/a/logs?stdout=1&since=1.1234567890", 400, "bad time"),
-        get("/containers/a/logs?stderr=1&until=12345678901", 400, "bad time"),
-        get("/containers/a/logs?stdout=1&since=5.&tail=all", 501, "not built"),
+        get(
+            "/containers/a/logs?stdout=1&since=1.1234567890",
+            400,
+            "bad time",
+        ),
+        get(
+            "/containers/a/logs?stderr=1&until=12345678901",
+            400,
+            "bad time",
+        ),
+        get(
+            "/containers/a/logs?stdout=1&since=5.&tail=all",
+            501,
+            "not built",
+        ),
         get("/events?since=", 400, "bad time"),
         get("/volumes?filters=[]", 400, "invalid filter"),
         delete("/containers/a?link=1", 400, "links are left out"),
         delete("/containers/a?link=No", 501, "not built"),
     ];
     for case in &cases {
-        assert!(rt; holds(&routes, alloc, case)?, "{} {}", case.method, case.target);
+        assert!(rt;
+            holds(&routes, alloc, case)?,
+            "{} {}",
+            case.method,
+            case.target
+        );
     }
     Ok(())
 }
@@ -178,16 +232,39 @@ fn the_first_of_several_faults_is_told(rt: HostRuntime) -> Result<(), Fail> {
     let cases = [
         post("/containers/create?name=a", "{", 400, "bad JSON"),
         post("/containers/create?name=a", "{}", 400, "bad field Image"),
-        post("/containers/create?name=a", IMAGE, 400, "Invalid container name (a)"),
-        post("/containers/create?name=a&name=ab", IMAGE, 400, "Invalid container name (a)"),
+        post(
+            "/containers/create?name=a",
+            IMAGE,
+            400,
+            "Invalid container name (a)",
+        ),
+        post(
+            "/containers/create?name=a&name=ab",
+            IMAGE,
+            400,
+            "Invalid container name (a)",
+        ),
         post("/containers/a/stop?signal=NOPE&t=x", "", 400, "bad t"),
         get("/containers/json?filters=x&limit=x", 400, "bad limit"),
-        get("/containers/a/logs?tail=x&until=x", 400, "you must choose at least one stream"),
-        get("/containers/a/logs?tail=x&until=x&stderr=1", 400, "bad time"),
+        get(
+            "/containers/a/logs?tail=x&until=x",
+            400,
+            "you must choose at least one stream",
+        ),
+        get(
+            "/containers/a/logs?tail=x&until=x&stderr=1",
+            400,
+            "bad time",
+        ),
         post("/containers/%/stop?t=x", "", 400, "bad path"),
     ];
     for case in &cases {
-        assert!(rt; holds(&routes, alloc, case)?, "{} {}", case.method, case.target);
+        assert!(rt;
+            holds(&routes, alloc, case)?,
+            "{} {}",
+            case.method,
+            case.target
+        );
     }
     Ok(())
 }
@@ -197,7 +274,13 @@ fn a_create_has_the_name_of_its_query(rt: HostRuntime) -> Result<(), Fail> {
     let alloc = rt.alloc();
     let routes = Routes::new(alloc)?;
     let body = IMAGE.as_bytes();
-    let class = routes.class_of(alloc, "POST", "/v1.43/containers/create?name=%2Fab&name=c", body, false)?;
+    let class = routes.class_of(
+        alloc,
+        "POST",
+        "/v1.43/containers/create?name=%2Fab&name=c",
+        body,
+        false,
+    )?;
     assert!(rt; is_create(&class, Some("/ab"), "engine/tools:latest"));
     let class = routes.class_of(alloc, "POST", "/containers/create?other=1", body, false)?;
     assert!(rt; is_create(&class, None, "engine/tools:latest"));
