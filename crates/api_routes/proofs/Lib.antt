@@ -4,3 +4,4 @@ pub mod NumeralLemmas
 pub mod VersionLemmas
 pub mod ClassLemmas
 pub mod CreateLemmas
+pub mod StandardFacts

@@ -1,16 +1,20 @@
 // What no clause says: the printed texts, and requests written out.
 use crate::{Class, DirectKind, Routes};
+use engine_ports::MemSource;
 use engine_text::{Call, NoMemory};
+use http_edge::{Next, RequestReader};
 use std::alloc::Global;
 use std::test::Fail;
 
-/// A request, and the status and text of the message that answers it.
+/// A request, and the direct answer that it gets.
+#[derive(Drop)]
 struct Case {
     method: &'static str,
     target: &'static str,
     body: &'static str,
     status: u16,
     text: &'static str,
+    kind: DirectKind,
 }
 
 fn get(target: &'static str, status: u16, text: &'static str) -> Case {
@@ -20,6 +24,7 @@ fn get(target: &'static str, status: u16, text: &'static str) -> Case {
         body: "",
         status,
         text,
+        kind: DirectKind::Message,
     }
 }
 
@@ -30,6 +35,7 @@ fn post(target: &'static str, body: &'static str, status: u16, text: &'static st
         body,
         status,
         text,
+        kind: DirectKind::Message,
     }
 }
 
@@ -40,38 +46,58 @@ fn delete(target: &'static str, status: u16, text: &'static str) -> Case {
         body: "",
         status,
         text,
+        kind: DirectKind::Message,
+    }
+}
+
+// The same request by another method, with an answer of this kind.
+fn answered(case: Case, method: &'static str, kind: DirectKind) -> Case {
+    Case {
+        method,
+        target: case.target,
+        body: case.body,
+        status: case.status,
+        text: case.text,
+        kind,
     }
 }
 
 // Whether a class is this direct answer.
-fn is_direct(class: &Class, status: u16, text: &str, kind: DirectKind) -> bool {
+fn is_direct(class: &Class, case: &Case) -> bool {
     match class {
         Class::Direct(answer) => {
-            answer.status == status && answer.text.as_str() == text && answer.kind == kind
+            answer.status == case.status
+                && answer.text.as_str() == case.text
+                && answer.kind == case.kind
         }
         _ => false,
     }
 }
 
-// Whether a request is answered by its message.
+// Whether a request gets its answer.
 fn holds(routes: &Routes, alloc: Global, case: &Case) -> Result<bool, NoMemory> {
     let class = routes.class_of(alloc, case.method, case.target, case.body.as_bytes(), false)?;
-    Ok(is_direct(&class, case.status, case.text, DirectKind::Message))
+    Ok(is_direct(&class, case))
 }
 
-// Whether a create asks for this name and image.
-fn is_create(class: &Class, name: Option<&str>, image: &str) -> bool {
+// Whether a class is a create of this name and image.
+fn is_create(class: &Class, name: &str, image: &str) -> bool {
     match class {
         Class::Ask(Call::Create(spec)) => {
-            let named = match (&spec.name, name) {
-                (Some(given), Some(name)) => given.as_str() == name,
-                (None, None) => true,
-                _ => false,
+            let given = match &spec.name {
+                Some(given) => given.as_str(),
+                None => "",
             };
-            named && spec.image.as_str() == image
+            given == name && spec.image.as_str() == image
         }
         _ => false,
     }
+}
+
+// Whether a target asks for a create of this name; an empty one stands for none.
+fn creates(routes: &Routes, alloc: Global, target: &str, name: &str) -> Result<bool, NoMemory> {
+    let class = routes.class_of(alloc, "POST", target, IMAGE.as_bytes(), false)?;
+    Ok(is_create(&class, name, "engine/tools:latest"))
 }
 
 const IMAGE: &str = "{\"Image\":\"engine/tools:latest\"}";
@@ -87,34 +113,41 @@ const TOO_NEW: &str = "client version 1.44 is too new. Maximum supported API ver
 fn ping_and_version_are_fixed(rt: HostRuntime) -> Result<(), Fail> {
     let alloc = rt.alloc();
     let routes = Routes::new(alloc)?;
-    for target in [
-        "/_ping",
-        "/_ping?a=b",
-        "/v1.24/_ping",
-        "/v1.43/_ping",
-        "/v01.043/_ping",
-    ] {
-        let class = routes.class_of(alloc, "GET", target, b"", false)?;
-        assert!(rt; is_direct(&class, 200, "OK", DirectKind::Plain), "{target}");
-        let class = routes.class_of(alloc, "HEAD", target, b"", false)?;
+    let cases = [
+        answered(get("/_ping", 200, "OK"), "GET", DirectKind::Plain),
+        answered(get("/_ping?a=b", 200, "OK"), "HEAD", DirectKind::PlainHead),
+        answered(get("/v1.24/_ping", 200, "OK"), "GET", DirectKind::Plain),
+        answered(
+            get("/v1.43/_ping", 200, "OK"),
+            "HEAD",
+            DirectKind::PlainHead,
+        ),
+        answered(get("/v01.043/_ping", 200, "OK"), "GET", DirectKind::Plain),
+        answered(get("/version", 200, VERSION), "GET", DirectKind::Json),
+        answered(
+            get("/version", 404, "page not found"),
+            "HEAD",
+            DirectKind::MessageHead,
+        ),
+        answered(
+            get("/v1.44/_ping", 400, TOO_NEW),
+            "HEAD",
+            DirectKind::MessageHead,
+        ),
+        answered(
+            get("/_ping", 404, "page not found"),
+            "PUT",
+            DirectKind::Message,
+        ),
+    ];
+    for case in &cases {
         assert!(rt;
-            is_direct(&class, 200, "OK", DirectKind::PlainHead),
-            "HEAD {target}"
+            holds(&routes, alloc, case)?,
+            "{} {}",
+            case.method,
+            case.target
         );
     }
-    let class = routes.class_of(alloc, "GET", "/version", b"", false)?;
-    assert!(rt; is_direct(&class, 200, VERSION, DirectKind::Json));
-    Ok(())
-}
-
-#[test]
-fn the_answer_to_head_has_no_body(rt: HostRuntime) -> Result<(), Fail> {
-    let alloc = rt.alloc();
-    let routes = Routes::new(alloc)?;
-    let class = routes.class_of(alloc, "HEAD", "/version", b"", false)?;
-    assert!(rt; is_direct(&class, 404, "page not found", DirectKind::MessageHead));
-    let class = routes.class_of(alloc, "HEAD", "/v1.44/_ping", b"", false)?;
-    assert!(rt; is_direct(&class, 400, TOO_NEW, DirectKind::MessageHead));
     Ok(())
 }
 
@@ -273,18 +306,35 @@ fn the_first_of_several_faults_is_told(rt: HostRuntime) -> Result<(), Fail> {
 fn a_create_has_the_name_of_its_query(rt: HostRuntime) -> Result<(), Fail> {
     let alloc = rt.alloc();
     let routes = Routes::new(alloc)?;
-    let body = IMAGE.as_bytes();
-    let class = routes.class_of(
-        alloc,
-        "POST",
-        "/v1.43/containers/create?name=%2Fab&name=c",
-        body,
-        false,
-    )?;
-    assert!(rt; is_create(&class, Some("/ab"), "engine/tools:latest"));
-    let class = routes.class_of(alloc, "POST", "/containers/create?other=1", body, false)?;
-    assert!(rt; is_create(&class, None, "engine/tools:latest"));
-    let class = routes.class_of(alloc, "POST", "/containers/create?name=", body, false)?;
-    assert!(rt; is_create(&class, None, "engine/tools:latest"));
+    let named = "/v1.43/containers/create?name=%2Fab&name=c";
+    assert!(rt; creates(&routes, alloc, named, "/ab")?);
+    assert!(rt; creates(&routes, alloc, "/containers/create?other=1", "")?);
+    assert!(rt; creates(&routes, alloc, "/containers/create?name=", "")?);
+    Ok(())
+}
+
+// Whether the first request of these bytes asks for a create of this name.
+fn read_creates(alloc: Global, bytes: &[u8], name: &str) -> Result<bool, NoMemory> {
+    let routes = Routes::new(alloc)?;
+    let Ok(mut source) = MemSource::new(alloc, bytes, 7, &[]) else {
+        return Err(NoMemory);
+    };
+    let Ok(mut reader) = RequestReader::new(alloc) else {
+        return Err(NoMemory);
+    };
+    match reader.next(&mut source) {
+        Next::Request(request) => {
+            let class = routes.classify(alloc, &request)?;
+            Ok(is_create(&class, name, "engine/tools:latest"))
+        }
+        _ => Ok(false),
+    }
+}
+
+#[test]
+fn a_request_is_classified_as_it_was_read(rt: HostRuntime) -> Result<(), Fail> {
+    let bytes =
+        b"POST /v1.43/containers/create?name=web HTTP/1.1\r\nHost: x\r\nContent-Length: 31\r\n\r\n{\"Image\":\"engine/tools:latest\"}";
+    assert!(rt; read_creates(rt.alloc(), bytes, "web")?);
     Ok(())
 }
