@@ -22,7 +22,9 @@ use Rattle.api_routes.specs.Path.{query_of}
 use Rattle.api_routes.specs.RouteClass.{Asked, route_class, ask, in_chunks, takeover, exec_start_class}
 use Rattle.api_routes.specs.Built.{is_built, is_built_create, is_no_policy, has_none}
 use Rattle.api_routes.specs.Class.{class_of}
-use Rattle.api_routes.specs.Laws.{IsAsked}
+use Rattle.api_routes.specs.Sound.{IsWithin}
+use Rattle.api_routes.specs.Laws.{IsAsked, IsNamed}
+use Rattle.api_routes.proofs.SoundLemmas.{create-within}
 use Rattle.api_routes.specs.declared.class.Class.{Class}
 use Rattle.api_routes.specs.declared.class.Class.TheVariants.{Direct, Ask, Stream}
 use Rattle.api_routes.specs.declared.class.Takeover.{Takeover}
@@ -143,6 +145,14 @@ both : (a b : Bool) → (a && b) ≡ true → (a ≡ true) × (b ≡ true)
 both true b h = (refl, h)
 both false b h = absurd (true≢false (sym h))
 
+named : (query : List ℕ) (name : Option (List ℕ)) → create_name query ≡ Ok name → IsNamed name
+named query None h = tt
+named query (Some name) h = name-read query name h
+
+-- a name isn't among the bounds
+renamed : (spec : CreateSpec) (name : Option (List ℕ)) → IsWithin spec → IsWithin (record spec { name = name })
+renamed spec name w = record { signal = w.signal; seconds = w.seconds; labels = w.labels }
+
 -- the one call that is asked and served
 pub asked-create : (r : Request) (c : Call) → class_of r ≡ Ask c → (spec : CreateSpec) × (c ≡ call.Create spec) × IsAsked r spec
 asked-create r c h =
@@ -164,5 +174,7 @@ asked-create r c h =
         mounts = no-mounts spec.mounts q.0;
         policy = no-policy spec.policy q.1;
         open_stdin = is-not spec.open_stdin p.1;
+        within = renamed b.0 n.0 (create-within None r.body b.0 (of-read _ b.0 b.1));
+        named = named (query_of r.target) n.0 n.1;
       },
     )

@@ -5,3 +5,5 @@ pub mod VersionLemmas
 pub mod ClassLemmas
 pub mod CreateLemmas
 pub mod StandardFacts
+pub mod KeyLemmas
+pub mod SoundLemmas

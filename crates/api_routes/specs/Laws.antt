@@ -1,5 +1,6 @@
 -- What the class of a request tells of its call (own).
-use Rattle.std.specs.Prelude.{◌≡◌, IsTrue, List, [], false, Option, Some, None, Result, Ok}
+use Rattle.std.specs.Prelude.{◌≡◌, ℕ, IsTrue, List, [], false, Option, Some, None, Result, Ok}
+use Rattle.engine_text.specs.Name.{is_name}
 use Rattle.engine_text.specs.declared.call.Call.{Call}
 use Rattle.engine_text.specs.declared.call.Call.TheVariants as call
 use Rattle.engine_text.specs.declared.call.CreateSpec.{CreateSpec}
@@ -9,6 +10,7 @@ use Rattle.http_edge.specs.Message.{Request}
 use Rattle.api_routes.specs.Path.{query_of}
 use Rattle.api_routes.specs.Keys.{create_name}
 use Rattle.api_routes.specs.Built.{is_built}
+use Rattle.api_routes.specs.Sound.{IsWithin}
 use Rattle.api_routes.specs.Class.{class_of}
 use Rattle.api_routes.specs.declared.class.Class.TheVariants.{Ask, Stream}
 use Rattle.api_routes.specs.declared.class.Takeover.{Takeover}
@@ -20,6 +22,11 @@ AsksAreServed = (r : Request) (c : Call) → class_of r ≡ Ask c → IsTrue (is
 abbrev pub StreamsAreServed : Type 0
 StreamsAreServed = (r : Request) (c : Call) (t : Takeover) → class_of r ≡ Stream c t → IsTrue (is_built c)
 
+-- a name that is given is one
+abbrev pub IsNamed : Option (List ℕ) → Type 0
+IsNamed None = Unit {0}
+IsNamed (Some name) = IsTrue (is_name name)
+
 -- a create that is asked is what its body says, with the name of its query, and has no part that isn't served
 pub record IsAsked (r : Request) (spec : CreateSpec) : Type 0 where
   pub given : CreateSpec
@@ -29,6 +36,8 @@ pub record IsAsked (r : Request) (spec : CreateSpec) : Type 0 where
   pub mounts : spec.mounts ≡ []
   pub policy : spec.policy ≡ No
   pub open_stdin : spec.open_stdin ≡ false
+  pub within : IsWithin spec
+  pub named : IsNamed spec.name
 
 -- the one call that is asked
 abbrev pub AsksAreCreates : Type 0

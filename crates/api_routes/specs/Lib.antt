@@ -10,4 +10,5 @@ pub mod Built
 pub mod Calls
 pub mod RouteClass
 pub mod Class
+pub mod Sound
 pub mod Laws
