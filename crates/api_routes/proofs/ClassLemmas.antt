@@ -60,7 +60,7 @@ built-streams (Stream d u) c t h = by (is_built d) refl h
     by false e h = let no : ⊥ = cc in absurd no
 
 -- what was read is what the route that the request fits reads, where its call is served
-read-last : (m t b : List ℕ) (u : Bool) (class : Class) → read_class m t b u ≡ Ok class
+pub read-last : (m t b : List ℕ) (u : Bool) (class : Class) → read_class m t b u ≡ Ok class
     → (route : Route) × (name : List ℕ) × (read : Class)
     × (route_class route (record { name = name; query = query_of t; body = b; upgrade = u }) ≡ Ok read) × (if_built read ≡ Ok class)
 read-last m t b u class h =

@@ -7,3 +7,4 @@ pub mod CreateLemmas
 pub mod StandardFacts
 pub mod KeyLemmas
 pub mod SoundLemmas
+pub mod StatusLemmas

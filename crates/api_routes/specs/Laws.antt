@@ -1,5 +1,5 @@
 -- What the class of a request tells of its call (own).
-use Rattle.std.specs.Prelude.{◌≡◌, ℕ, IsTrue, List, [], false, Option, Some, None, Result, Ok}
+use Rattle.std.specs.Prelude.{◌≡◌, ◌≤◌, ◌<◌, ℕ, IsTrue, List, [], false, Option, Some, None, Result, Ok}
 use Rattle.engine_text.specs.Name.{is_name}
 use Rattle.engine_text.specs.declared.call.Call.{Call}
 use Rattle.engine_text.specs.declared.call.Call.TheVariants as call
@@ -12,7 +12,8 @@ use Rattle.api_routes.specs.Keys.{create_name}
 use Rattle.api_routes.specs.Built.{is_built}
 use Rattle.api_routes.specs.Sound.{IsWithin}
 use Rattle.api_routes.specs.Class.{class_of}
-use Rattle.api_routes.specs.declared.class.Class.TheVariants.{Ask, Stream}
+use Rattle.api_routes.specs.declared.class.Class.TheVariants.{Direct, Ask, Stream}
+use Rattle.api_routes.specs.declared.class.DirectAnswer.{DirectAnswer}
 use Rattle.api_routes.specs.declared.class.Takeover.{Takeover}
 
 -- only calls that are served are asked and streamed
@@ -42,3 +43,11 @@ pub record IsAsked (r : Request) (spec : CreateSpec) : Type 0 where
 -- the one call that is asked
 abbrev pub AsksAreCreates : Type 0
 AsksAreCreates = (r : Request) (c : Call) → class_of r ≡ Ask c → (spec : CreateSpec) × (c ≡ call.Create spec) × IsAsked r spec
+
+-- a status of three digits
+abbrev pub IsStatus : ℕ → Type 0
+IsStatus status = (100 ≤ status) × (status < 1000)
+
+-- each direct answer has one
+abbrev pub AnswersHaveStatus : Type 0
+AnswersHaveStatus = (r : Request) (answer : DirectAnswer) → class_of r ≡ Direct answer → IsStatus answer.status
