@@ -1,6 +1,5 @@
 // The head of a response.
 ghost use Rattle.std.specs.Prelude.{◌≡◌, ◌≤◌, ◌+◌, ◌++◌, [], length};
-ghost use Rattle.http.specs.StatusCode.{IsStatusCode};
 ghost use Rattle.engine_ports.specs.Sink.{WriteSays};
 ghost use Rattle.http_edge.specs.Response.{phrase_of, connection_line, first_lines, sized_lines, chunked_lines, from_line, form_lines, takeover_head, head_text};
 
@@ -31,7 +30,7 @@ pub enum Form {
 /// The head of a response.
 #[derive(Clone, Copy, Debug, PartialEq, Eq)]
 pub struct Head {
-    /// From 100 to 999.
+    /// The canonical phrase stands beside it, where there is one.
     pub status: u16,
     pub form: Form,
     /// Whether the connection is closed behind this response.
@@ -40,7 +39,6 @@ pub struct Head {
 
 /// Writes the head of a response at once. It takes no memory.
 pub fn write_head<K: Sink>(sink: &mut K, head: &Head) -> Result<(), Failed>
-    requires { IsStatusCode head.now.status }
     ensures { WriteSays result (head_text head.now) (K.takes sink.old) (K.takes sink.new) }
 {
     let line = head_line(head);
@@ -49,7 +47,6 @@ pub fn write_head<K: Sink>(sink: &mut K, head: &Head) -> Result<(), Failed>
 
 /// The head's bytes.
 pub(crate) fn head_line(head: &Head) -> Line
-    requires { IsStatusCode head.now.status }
     ensures text { result ≡ head_text head.now }
     ensures short { length result ≤ 512 }
 {
@@ -76,9 +73,8 @@ fn takeover_head(upgrade: bool) -> &'static [u8]
     }
 }
 
-/// The canonical phrase of a status.
+/// The canonical phrase of a status, or none.
 pub(crate) fn phrase(status: u16) -> &'static str
-    requires { IsStatusCode status }
     ensures text { result.now ≡ phrase_of status }
     ensures short { length result.now ≤ 64 }
 {
@@ -89,8 +85,7 @@ pub(crate) fn phrase(status: u16) -> &'static str
 }
 
 fn push_first(line: &mut Line, status: u16, close: bool)
-    requires status { IsStatusCode status }
-    requires line { length line.old ≤ 64 }
+    requires { length line.old ≤ 64 }
     ensures text { line.new ≡ line.old ++ first_lines status close }
     ensures short { length line.new ≤ length line.old + 192 }
 {
