@@ -5,6 +5,7 @@ pub mod Container
 pub mod List
 pub mod Exec
 pub mod Volume
+pub mod EventRules
 pub mod Event
 pub mod Fault
 pub mod Fields
@@ -15,3 +16,5 @@ pub mod Filters
 pub mod MountForms
 pub mod HostConfig
 pub mod Create
+pub mod Views
+pub mod CreateLaws

@@ -1,0 +1,41 @@
+-- Timers of containers, and the least of what is due (own: in order of moment, rank and number).
+use Rattle.std.specs.Prelude.{ℕ, ◌==◌, ◌&&◌, ◌||◌, nat_lt, List, [], ◌∷◌, ◌++◌, Bool, if◌then◌else◌, Option, Some, None, find}
+use Rattle.container_table.specs.Lists.{remove_first}
+use Rattle.engine_text.specs.declared.step.DueAction.{DueAction}
+
+-- Whether it has that rank and number.
+abbrev pub is_timer : ℕ → ℕ → DueAction → Bool
+is_timer rank number d = (d.rank == rank) && (d.number == number)
+
+-- The timer of that rank and number.
+abbrev pub timer_in : ℕ → ℕ → List DueAction → Option DueAction
+timer_in rank number timers = find (is_timer rank number) timers
+
+-- The timers without it.
+abbrev pub cleared : ℕ → ℕ → List DueAction → List DueAction
+cleared rank number timers = remove_first (is_timer rank number) timers
+
+-- The timers with one of that rank and number at that moment, in the place of an earlier one.
+abbrev pub with_timer : ℕ → ℕ → ℕ → List DueAction → List DueAction
+with_timer moment rank number timers =
+    cleared rank number timers ++ record { moment = moment; rank = rank; number = number } ∷ []
+
+-- Whether a comes before b: by moment, then by rank, then by number.
+abbrev pub is_before : DueAction → DueAction → Bool
+is_before a b =
+    nat_lt a.moment b.moment
+    || ((a.moment == b.moment) && (nat_lt a.rank b.rank || ((a.rank == b.rank) && nat_lt a.number b.number)))
+
+-- The lesser of the best so far and another.
+abbrev pub nearer : Option DueAction → DueAction → Option DueAction
+nearer None d = Some d
+nearer (Some best) d = Some (if is_before d best then d else best)
+
+-- The least of these and the best so far.
+abbrev pub least_of : Option DueAction → List DueAction → Option DueAction
+least_of best [] = best
+least_of best (d ∷ ds) = least_of (nearer best d) ds
+
+-- The least of these, found by comparing all.
+abbrev pub least : List DueAction → Option DueAction
+least timers = least_of None timers

@@ -1,0 +1,17 @@
+pub mod Scenes
+pub mod StandardFacts
+pub mod RunFacts
+pub mod CallFacts
+pub mod TableFacts
+pub mod ProcessFacts
+pub mod LegalFacts
+pub mod Histories
+pub mod ChainLemmas
+pub mod ListLemmas
+pub mod VolumeLemmas
+pub mod StepLemmas
+pub mod CreateLemmas
+pub mod InspectLemmas
+pub mod SoundFacts
+pub mod JournalFacts
+pub mod StreamFacts

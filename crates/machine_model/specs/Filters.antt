@@ -1,0 +1,95 @@
+-- Filters of lists and events (Docker Engine API v1.43, ContainerList, SystemEvents, VolumeList).
+use Rattle.std.specs.Prelude.{ℕ, List, [], ◌++◌, Bool, true, false, ◌&&◌, ◌||◌, if◌then◌else◌, Option, Some, None, codes, decimal, find}
+use Rattle.std.specs.List.{list_any, list_all}
+use Rattle.engine_text.specs.Texts.{same_bytes, begins_with, has_part}
+use Rattle.api_json.specs.Values.{image_name}
+use Rattle.api_json.specs.Status.{status_word}
+use Rattle.api_json.specs.Event.{kind_word, action_word}
+use Rattle.engine_text.specs.declared.filter.FilterRow.{FilterRow}
+use Rattle.engine_text.specs.declared.filter.FilterKey.{FilterKey}
+use Rattle.engine_text.specs.declared.filter.FilterKey.TheVariants as Key
+use Rattle.engine_text.specs.declared.container.Container.{Container}
+use Rattle.engine_text.specs.declared.volume.Volume.{Volume}
+use Rattle.engine_text.specs.declared.pairs.Pair.{Pair}
+use Rattle.engine_text.specs.declared.event.Event.{Event}
+use Rattle.engine_text.specs.declared.event.EventKind.{EventKind}
+use Rattle.engine_text.specs.declared.event.EventKind.TheVariants.{Container as OfContainer, Volume as OfVolume}
+use Rattle.engine_text.specs.declared.status.Status.{Status}
+use Rattle.engine_text.specs.declared.status.Status.TheVariants.{Created, Running, Paused, Restarting, Removing, Exited, Dead}
+
+-- One value fits; for Label every value.
+abbrev pub row_passes : FilterKey → (List ℕ → Bool) → List (List ℕ) → Bool
+row_passes Key.Label fits values = list_all fits values
+row_passes _ fits values = list_any fits values
+
+-- An item of which this tells what fits, key by key.
+abbrev pub passes : (FilterKey → List ℕ → Bool) → List FilterRow → Bool
+passes fits rows = list_all (λ r. row_passes r.key (fits r.key) r.values) rows
+
+-- Either spelling.
+abbrev pub is_image : List ℕ → Bool
+is_image image = same_bytes image image_name || same_bytes image (codes "engine/tools")
+
+-- ---- containers
+
+-- Whether the status is exited.
+abbrev pub is_exited : Status → Bool
+is_exited Exited = true
+is_exited Created = false
+is_exited Running = false
+is_exited Paused = false
+is_exited Restarting = false
+is_exited Removing = false
+is_exited Dead = false
+
+-- `key` or `key=value`
+abbrev pub is_label : List ℕ → Pair → Bool
+is_label value p = same_bytes value p.key || same_bytes value (p.key ++ codes "=" ++ p.value)
+
+-- Whether a container fits a value of a key of the list.
+abbrev pub container_fits : Container → FilterKey → List ℕ → Bool
+container_fits c Key.Id value = begins_with c.id value
+container_fits c Key.Name value = has_part c.name value
+container_fits c Key.State value = same_bytes (status_word c.life.status) value
+container_fits c Key.Exited value = is_exited c.life.status && same_bytes (decimal c.life.code) value
+container_fits c Key.Ancestor value = is_image value
+container_fits c Key.Label value = list_any (is_label value) c.life.labels
+container_fits c Key.Volume value = list_any (λ m. same_bytes m.volume value) c.life.mounts
+container_fits c _ value = false
+
+-- ---- volumes
+
+-- Whether a volume fits a value of a key of the list of volumes.
+abbrev pub volume_fits : Volume → FilterKey → List ℕ → Bool
+volume_fits v Key.Name value = has_part v.name value
+volume_fits v _ value = false
+
+-- ---- events
+
+-- Whether an event is of a container.
+abbrev pub is_of_container : EventKind → Bool
+is_of_container OfContainer = true
+is_of_container OfVolume = false
+
+-- The value of an attribute that was found.
+abbrev pub value_of : Option Pair → List ℕ
+value_of None = []
+value_of (Some p) = p.value
+
+-- The value of an event's attribute, empty where it has none.
+abbrev pub attribute : List ℕ → Event → List ℕ
+attribute key e = value_of (find (λ p. same_bytes p.key key) e.attributes)
+
+-- Whether an event fits a value of a key of events.
+abbrev pub event_fits : Event → FilterKey → List ℕ → Bool
+event_fits e Key.Kind value = same_bytes (kind_word e.kind) value
+event_fits e Key.Action value = same_bytes (action_word e.action) value
+event_fits e Key.Container value =
+    is_of_container e.kind && (same_bytes e.id value || same_bytes (attribute (codes "name") e) value)
+event_fits e Key.Image value = is_of_container e.kind && is_image value
+event_fits e Key.Volume value = if is_of_container e.kind then false else same_bytes e.id value
+event_fits e _ value = false
+
+-- Whether an event passes a filter.
+abbrev pub event_passes : List FilterRow → Event → Bool
+event_passes filter e = passes (event_fits e) filter
