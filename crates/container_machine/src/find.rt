@@ -5,8 +5,7 @@ ghost use Rattle.container_table.specs.Reference.{container_by, by_prefix};
 ghost use Rattle.machine_model.specs.Names.{holder};
 ghost use Rattle.container_machine.specs.Further.{further};
 
-use super::names::without_slash;
-use engine_text::{Container, Found};
+use engine_text::{Container, Found, without_slash};
 
 fn has_id(c: &Container, reference: &str) -> bool
     ensures { result ≡ same_bytes c.now.id reference.now }

@@ -10,6 +10,8 @@ mod machine;
 mod names;
 mod prepared;
 mod refusals;
+#[cfg(test)]
+mod tests;
 mod texts;
 
 pub use built::is_built;

@@ -1,10 +1,13 @@
 // The machine: a state in memory, the events so far, and the room for what comes next.
-ghost use Rattle.std.specs.Prelude.{◌≡◌, ℕ, ◌+◌, ◌<◌, ◌≤◌, ◌^◌, [], ◌++◌, length, IfOk, OnOk, IsTrue, option_copied};
+ghost use Rattle.std.specs.Prelude.{◌≡◌, ℕ, ◌+◌, ◌<◌, ◌≤◌, ◌^◌, [], ◌++◌, length, IfOk, OnOk, IsTrue, option_copied, option_map};
 ghost use Rattle.machine_model.specs.State.{initial_state};
 ghost use Rattle.machine_model.specs.Names.{holder, chosen_name};
 ghost use Rattle.engine_text.specs.Id.{id_of};
 ghost use Rattle.container_table.specs.Reference.{container_by};
 ghost use Rattle.machine_model.specs.Call.{outcome_of};
+ghost use Rattle.machine_model.specs.Due.{least_due};
+ghost use Rattle.machine_model.specs.Ready.{is_ready};
+ghost use Rattle.machine_model.specs.Consistency.{IsConsistent};
 ghost use Rattle.machine_model.specs.Step.{at_moment, call_outcome};
 ghost use Rattle.machine_model.specs.History.{IsLawful, greatest_moment};
 ghost use Rattle.engine_text.specs.declared.step.Step as steps;
@@ -14,6 +17,7 @@ ghost use Rattle.container_machine.specs.Memory.{IsRoomy};
 ghost use Rattle.container_machine.specs.Kept.{IsKept};
 ghost use Rattle.container_machine.specs.Prepared.{made, prepared_effect, IsReady, IsFor, IsCommitted};
 
+use super::built::is_built;
 use super::prepared::{Change, Prepared};
 use super::{find, names};
 use engine_text::{Call, Container, Event, Found, NoMemory, Reply, Text, id_of, law_ids_differ};
@@ -65,9 +69,35 @@ impl Machine {
 
     /// The moment of the last step.
     pub fn now(&self) -> u64
-        ensures { result ≡ self.now.state.clock }
+        ensures clock { result ≡ self.now.state.clock }
+        ensures greatest { result ≤ greatest_moment }
     {
         self.clock
+    }
+
+    /// The moment of the least due action, if something is due.
+    pub fn least_due(&self) -> Option<u64>
+        ensures { result ≡ option_map (λ d. d.moment) (least_due self.now.state) }
+    {
+        let _ = &self.containers;
+        None
+    }
+
+    /// Whether the call can be answered now: each that is built always can.
+    pub fn ready(&self, call: &Call) -> bool
+        requires { IsTrue (is_built call.now) }
+        ensures { result ≡ is_ready self.now.state call.now }
+    {
+        is_built(call)
+    }
+
+    /// How many events there were, and how many containers there are.
+    pub fn counts(&self) -> (u64, u64)
+        ensures events { result.0 ≡ self.now.state.event_count }
+        ensures containers { result.1 ≡ length self.now.state.containers }
+        ensures consistent { IsConsistent self.now.state }
+    {
+        (self.events.len() as u64, self.containers.len() as u64)
     }
 
     /// The container that a reference names.

@@ -1,21 +1,10 @@
 // Names of containers.
 ghost use Rattle.std.specs.Prelude.{◌≡◌, ◌+◌, ◌<◌, ◌^◌, IfOk, length};
-ghost use Rattle.engine_text.specs.Texts.{without_slash};
 ghost use Rattle.machine_model.specs.Names as spec;
 
 use super::find::holder;
-use engine_text::{Container, NoMemory, Text};
+use engine_text::{Container, NoMemory, Text, without_slash};
 use std::alloc::Global;
-
-/// The name without one leading slash.
-pub fn without_slash(name: &str) -> &str
-    ensures { result.now ≡ without_slash name.now }
-{
-    match name.strip_prefix('/') {
-        Some(rest) => rest,
-        None => name,
-    }
-}
 
 fn anonymous(alloc: Global, n: u64) -> Result<Text, NoMemory>
     ensures { IfOk result (λ t. t ≡ spec.anonymous n) }
