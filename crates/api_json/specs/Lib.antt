@@ -6,3 +6,13 @@ pub mod List
 pub mod Exec
 pub mod Volume
 pub mod Event
+pub mod Fault
+pub mod Fields
+pub mod Lists
+pub mod ExecCreate
+pub mod VolumeCreate
+pub mod Filters
+pub mod MountForms
+pub mod HostConfig
+pub mod Create
+pub mod Views
