@@ -77,7 +77,9 @@ impl Machine {
 
     /// The moment of the least due action, if something is due.
     pub fn least_due(&self) -> Option<u64>
-        ensures { result ≡ option_map (λ d. d.moment) (least_due self.now.state) }
+        ensures moment { result ≡ option_map (λ d. d.moment) (least_due self.now.state) }
+        // while no call that is built makes anything due
+        ensures idle { least_due self.now.state ≡ None }
     {
         let _ = &self.containers;
         None
@@ -89,6 +91,28 @@ impl Machine {
         ensures { result ≡ is_ready self.now.state call.now }
     {
         is_built(call)
+    }
+
+    /// How many calls there were.
+    pub fn calls(&self) -> u64
+        ensures { result ≡ self.now.state.call_count }
+    {
+        self.call_count
+    }
+
+    /// How many steps there were.
+    pub fn steps(&self) -> u64
+        ensures { result ≡ self.now.state.step_count }
+    {
+        self.step_count
+    }
+
+    /// How many tickets stand.
+    pub fn tickets(&self) -> u64
+        ensures { result ≡ length self.now.state.tickets }
+    {
+        let _ = &self.containers;
+        0
     }
 
     /// How many events there were, and how many containers there are.
