@@ -1,10 +1,13 @@
 -- One container further in the search by prefix.
-use Rattle.std.proofs.Common.{◌≡◌, ℕ, ◌<◌, ◌+◌, Bool, true, false, List, [], ◌∷◌, ◌++◌, Some, None, refl, ap, ◌∙◌, take, find, filter, length, get_or, if◌then◌else◌}
+use Rattle.std.proofs.Common.{◌≡◌, ℕ, ◌<◌, ◌+◌, Bool, true, false, List, [], ◌∷◌, ◌++◌, refl, ap, ◌∙◌, take, filter, length, get_or, if◌then◌else◌, sym}
 use Rattle.std.proofs.lemmas.List.{take_more}
-use Rattle.engine_text.specs.Texts.{begins_with, same_bytes, without_slash}
+use Rattle.engine_text.specs.Texts.{begins_with}
 use Rattle.engine_text.specs.declared.container.Container.{Container}
-use Rattle.engine_text.specs.declared.container.Found.{Found}
-use Rattle.container_table.specs.Reference.{by_prefix, only, container_by}
+use Rattle.container_table.specs.Reference.{by_prefix, only}
+use Rattle.std.proofs.Math.ListN.{get_or-map}
+use Rattle.std.proofs.lemmas.List.{length-map}
+use Rattle.container_machine.specs.Held.{container_in, containers_in}
+use Rattle.container_machine.specs.declared.held.Held.{Held}
 use Rattle.container_machine.specs.Further.{further, another}
 
 only_more : (cs : List Container) (c : Container) → only (cs ++ c ∷ []) ≡ another c.number (only cs)
@@ -29,6 +32,11 @@ fits_more cs r c false e = ap only (filter_more (λ d. begins_with d.id r) cs c 
 pub prefix_more : (cs : List Container) (r : List ℕ) (i : ℕ) (d : Container) → i < length cs → by_prefix (take (i + 1) cs) r ≡ further (begins_with (get_or cs i d).id r) (get_or cs i d).number (by_prefix (take i cs) r)
 prefix_more cs r i d low = ap (λ l. by_prefix l r) (take_more cs i d low) ∙ fits_more (take i cs) r (get_or cs i d) (begins_with (get_or cs i d).id r) refl
 
--- no id, but a name
-pub found_by_name : (cs : List Container) (r : List ℕ) (c : Container) → find (λ c. same_bytes c.id r) cs ≡ None → find (λ c. same_bytes c.name (without_slash r)) cs ≡ Some c → container_by cs r ≡ Found.One c.number
-found_by_name cs r c a b = rw (a, b)
+-- of the containers in memory
+pub prefix_more_in : (held : List Held) (r : List ℕ) (i : ℕ) (h : Held) → i < length held → h ≡ get_or held i h
+    → by_prefix (take (i + 1) (containers_in held)) r ≡ further (begins_with h.container.id r) h.container.number (by_prefix (take i (containers_in held)) r)
+prefix_more_in held r i h low is =
+    let cs : List Container = containers_in held in
+    let here : get_or cs i (container_in h) ≡ container_in h = get_or-map container_in held i h ∙ ap container_in (sym is) in
+    let fits : i < length cs = simp length-map low in
+    prefix_more cs r i (container_in h) fits ∙ ap (λ (c : Container). further (begins_with c.id r) c.number (by_prefix (take i cs) r)) here

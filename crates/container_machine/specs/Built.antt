@@ -17,4 +17,6 @@ is_built_create spec = not (is_full spec.mounts) && is_no_policy spec.policy
 
 abbrev pub is_built : Call → Bool
 is_built (Call.Create spec) = is_built_create spec
+is_built (Call.Start target) = true
+is_built (Call.Inspect target) = true
 is_built _ = false

@@ -25,6 +25,7 @@ pub fn is_built(call: &Call) -> bool
 {
     match call {
         Call::Create(spec) => is_built_create(spec),
+        Call::Start { target: _ } | Call::Inspect { target: _ } => true,
         _ => false,
     }
 }

@@ -4,8 +4,11 @@
 mod answers;
 mod built;
 mod calls;
+mod due;
 mod events;
 mod find;
+mod held;
+mod lives;
 mod machine;
 mod names;
 mod prepared;
@@ -15,5 +18,6 @@ mod tests;
 mod texts;
 
 pub use built::is_built;
+pub use held::Held;
 pub use machine::Machine;
-pub use prepared::{Change, Prepared};
+pub use prepared::{Change, Prepared, PreparedDue};

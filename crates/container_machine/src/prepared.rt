@@ -1,13 +1,24 @@
-// A call that is ready to be committed, with all that it puts in.
+// A step that is ready to be committed, with all that it puts in.
 ghost use Rattle.std.specs.Prelude.{◌≡◌};
 
-use engine_text::{Container, Event, Reply};
+use super::held::Held;
+use engine_text::{DueAction, Event, Reply, Script};
 
 /// What a prepared call changes.
 #[derive(Drop)]
 pub enum Change {
     Nothing,
-    Add { container: Container, event: Event },
+    Add {
+        held: Held,
+        event: Event,
+    },
+    Launch {
+        number: u64,
+        script: Script,
+        stdin: bool,
+        room: u64,
+        event: Event,
+    },
 }
 
 /// A call that is ready to be committed: its moment, its reply and its change.
@@ -25,4 +36,11 @@ impl Prepared {
     {
         &self.reply
     }
+}
+
+/// A due action that is ready to be committed, with the event of the end that it brings, if it does.
+#[derive(Drop)]
+pub struct PreparedDue {
+    pub due: DueAction,
+    pub end: Option<Event>,
 }

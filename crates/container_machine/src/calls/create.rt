@@ -1,13 +1,13 @@
 // Create: the image first, then the name.
 ghost use Rattle.std.specs.Prelude.{◌≡◌, ◌++◌, [], codes, IfOk, IsTrue};
 ghost use Rattle.machine_model.specs.Filters.{is_image};
-ghost use Rattle.machine_model.specs.Step.{at_moment};
 ghost use Rattle.machine_model.specs.Calls.Create as spec;
 ghost use Rattle.container_machine.specs.Built.{is_built_create};
-ghost use Rattle.container_machine.specs.Prepared.{made};
+ghost use Rattle.container_machine.specs.Prepared.{Makes};
 
 use crate::answers::refuse;
 use crate::events::plain_event;
+use crate::held::Held;
 use crate::machine::Machine;
 use crate::names::chosen_name;
 use crate::prepared::{Change, Prepared};
@@ -81,8 +81,8 @@ impl Machine {
         asked: &CreateSpec,
     ) -> Result<Prepared, NoMemory>
         requires { asked.now.mounts ≡ [] }
-        ensures moment { IfOk result (λ p. p.moment ≡ moment) }
-        ensures outcome { IfOk result (λ p. made p (at_moment moment self.now.state) ≡ spec.created (spec.new_container name asked.now (at_moment moment self.now.state)) (at_moment moment self.now.state)) }
+        ensures { IfOk result (λ p. Makes p moment self.now.state
+            (λ s. spec.created (spec.new_container name asked.now s) s)) }
     {
         let number = self.next_number();
         let container = Container {
@@ -94,7 +94,11 @@ impl Machine {
         let event = plain_event(alloc, Action::Create, &container, moment)?;
         let body = created_text(alloc, &container.id)?;
         let reply = Reply::Answer { status: 201, body };
-        let change = Change::Add { container, event };
+        let held = Held {
+            container,
+            records: Vec::new(alloc),
+        };
+        let change = Change::Add { held, event };
         Ok(Prepared {
             moment,
             reply,
@@ -110,12 +114,11 @@ impl Machine {
         asked: &CreateSpec,
     ) -> Result<Prepared, NoMemory>
         requires { asked.now.mounts ≡ [] }
-        ensures moment { IfOk result (λ p. p.moment ≡ moment) }
-        ensures outcome { IfOk result (λ p. made p (at_moment moment self.now.state) ≡ spec.by_name name asked.now (at_moment moment self.now.state)) }
+        ensures { IfOk result (λ p. Makes p moment self.now.state (spec.by_name name asked.now)) }
     {
         match self.holder(name.as_str()) {
             Some(other) => {
-                let text = name_conflict(alloc, name.as_str(), other.id.as_str())?;
+                let text = name_conflict(alloc, name.as_str(), other.container.id.as_str())?;
                 refuse(alloc, moment, 409, &text)
             }
             None => self.prepare_new(alloc, moment, name, asked),
@@ -131,8 +134,7 @@ impl Machine {
         asked: &CreateSpec,
     ) -> Result<Prepared, NoMemory>
         requires { IsTrue (is_built_create asked.now) }
-        ensures moment { IfOk result (λ p. p.moment ≡ moment) }
-        ensures outcome { IfOk result (λ p. made p (at_moment moment self.now.state) ≡ spec.create_outcome asked.now (at_moment moment self.now.state)) }
+        ensures { IfOk result (λ p. Makes p moment self.now.state (spec.create_outcome asked.now)) }
     {
         if !is_image(&asked.image) {
             let text = no_such_image(alloc, asked.image.as_str())?;
