@@ -1,0 +1,22 @@
+-- What is due of the processes, one after the other (own).
+use Rattle.std.specs.Prelude.{ℕ, List, Option, Some, None}
+use Rattle.std.specs.List.{filter_map}
+use Rattle.container_table.specs.Timers.{nearer}
+use Rattle.proc_kernel.specs.Processes.{next_due}
+use Rattle.proc_kernel.specs.Tables.{Entry}
+use Rattle.machine_model.specs.State.{owner_number}
+use Rattle.machine_model.specs.Due.{action_at}
+use Rattle.engine_text.specs.declared.owner.Owner.{Owner}
+use Rattle.engine_text.specs.declared.step.DueAction.{DueAction}
+
+abbrev pub action_of : Entry → Option DueAction
+action_of e = action_at (owner_number e.owner) (next_due e.process)
+
+abbrev pub actions_of : List Entry → List DueAction
+actions_of = filter_map action_of
+
+-- the best so far, after one more process
+abbrev pub further_at : Option DueAction → Option Owner → Option ℕ → Option DueAction
+further_at best None due = best
+further_at best (Some owner) None = best
+further_at best (Some owner) (Some moment) = nearer best (record { moment = moment; rank = 0; number = owner_number owner })

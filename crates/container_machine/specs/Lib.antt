@@ -1,0 +1,11 @@
+pub mod Held
+pub mod Memory
+pub mod Built
+pub mod Kept
+pub mod Launched
+pub mod Lives
+pub mod Dues
+pub mod Prepared
+pub mod Inside
+pub mod Further
+pub mod Ran

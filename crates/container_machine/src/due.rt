@@ -1,0 +1,58 @@
+// The least of what is due.
+ghost use Rattle.std.specs.Prelude.{◌≡◌, ℕ, ◌+◌, ◌<◌, ◌==◌, List, take, Option, Some, None, length};
+ghost use Rattle.container_table.specs.Timers.{is_before, nearer, least_of};
+ghost use Rattle.machine_model.specs.State.{owner_number};
+ghost use Rattle.container_machine.specs.Dues.{actions_of, further_at};
+
+use engine_text::{DueAction, Owner};
+use proc_kernel::Kernel;
+
+fn is_before(a: DueAction, b: DueAction) -> bool
+    ensures { result ≡ is_before a b }
+{
+    a.moment < b.moment
+        || (a.moment == b.moment && (a.rank < b.rank || (a.rank == b.rank && a.number < b.number)))
+}
+
+fn nearer(best: Option<DueAction>, action: DueAction) -> Option<DueAction>
+    ensures { result ≡ nearer best action }
+{
+    match best {
+        None => Some(action),
+        Some(b) => Some(if is_before(action, b) { action } else { b }),
+    }
+}
+
+fn number_of(owner: Owner) -> u64
+    ensures { result ≡ owner_number owner }
+{
+    match owner {
+        Owner::Container(number) => number,
+        Owner::Exec(number) => number,
+    }
+}
+
+fn further(best: Option<DueAction>, owner: Option<Owner>, due: Option<u64>) -> Option<DueAction>
+    ensures { result ≡ further_at best owner due }
+{
+    let (Some(owner), Some(moment)) = (owner, due) else {
+        return best;
+    };
+    let action = DueAction {
+        moment,
+        rank: 0,
+        number: number_of(owner),
+    };
+    nearer(best, action)
+}
+
+/// The least of what is due of the processes.
+pub fn least_of(kernel: &Kernel) -> Option<DueAction>
+    ensures { result ≡ least_of None (actions_of kernel.now.processes) }
+{
+    let mut best = None;
+    for i in 0..kernel.len() {
+        best = further(best, kernel.owner_at(i), kernel.due_of(i));
+    }
+    best
+}

@@ -1,0 +1,87 @@
+// The texts of refusals.
+ghost use Rattle.std.specs.Prelude.{◌≡◌, ◌++◌, IfOk};
+ghost use Rattle.machine_model.specs.Refusals as spec;
+
+use super::texts::join;
+use engine_text::{NoMemory, Text};
+use std::alloc::Global;
+
+/// No image of that name is there.
+pub fn no_such_image(alloc: Global, image: &str) -> Result<Text, NoMemory>
+    ensures { IfOk result (λ t. t ≡ spec.no_such_image image.now) }
+{
+    join(alloc, "No such image: ", image, "")
+}
+
+/// Another container has the name.
+pub fn name_conflict(alloc: Global, name: &str, id: &str) -> Result<Text, NoMemory>
+    ensures { IfOk result (λ t. t ≡ spec.name_conflict name.now id.now) }
+{
+    let front = join(
+        alloc,
+        "Conflict. The container name \"/",
+        name,
+        "\" is already in use by container \"",
+    )?;
+    join(
+        alloc,
+        front.as_str(),
+        id,
+        "\". You have to remove (or rename) that container to be able to reuse that name.",
+    )
+}
+
+/// No container has that reference.
+pub fn no_such_container(alloc: Global, reference: &str) -> Result<Text, NoMemory>
+    ensures { IfOk result (λ t. t ≡ spec.no_such_container reference.now) }
+{
+    join(alloc, "No such container: ", reference, "")
+}
+
+/// The ids of several containers begin with that reference.
+pub fn many_found(alloc: Global, reference: &str) -> Result<Text, NoMemory>
+    ensures { IfOk result (λ t. t ≡ spec.many_found reference.now) }
+{
+    join(
+        alloc,
+        "multiple IDs found with provided prefix: ",
+        reference,
+        "",
+    )
+}
+
+/// A paused container isn't started.
+pub fn start_of_paused(alloc: Global) -> Result<Text, NoMemory>
+    ensures { IfOk result (λ t. t ≡ spec.start_of_paused) }
+{
+    Text::of(
+        alloc,
+        "cannot start a paused container, try unpause instead",
+    )
+}
+
+/// A container is being removed.
+pub fn being_removed(alloc: Global, id: &str) -> Result<Text, NoMemory>
+    ensures { IfOk result (λ t. t ≡ spec.being_removed id.now) }
+{
+    join(
+        alloc,
+        "removal of container ",
+        id,
+        " is already in progress",
+    )
+}
+
+/// A container is dead.
+pub fn dead(alloc: Global, id: &str) -> Result<Text, NoMemory>
+    ensures { IfOk result (λ t. t ≡ spec.dead id.now) }
+{
+    join(alloc, "Container ", id, " is dead")
+}
+
+/// The words name no program.
+pub fn unknown_command(alloc: Global, word: &str) -> Result<Text, NoMemory>
+    ensures { IfOk result (λ t. t ≡ spec.unknown_command word.now) }
+{
+    join(alloc, "unknown command: ", word, "")
+}
