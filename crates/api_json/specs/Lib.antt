@@ -6,3 +6,8 @@ pub mod List
 pub mod Exec
 pub mod Volume
 pub mod Event
+pub mod Fault
+pub mod Fields
+pub mod Lists
+pub mod ExecCreate
+pub mod VolumeCreate

@@ -1,0 +1,9 @@
+pub mod Request
+pub mod Routes
+pub mod Fault
+pub mod Path
+pub mod Version
+pub mod Query
+pub mod Built
+pub mod Calls
+pub mod Class
