@@ -1,0 +1,12 @@
+pub mod Limits
+pub mod Message
+pub mod Framing
+pub mod Spelling
+pub mod Refusal
+pub mod Fields
+pub mod Reading
+pub mod Outcome
+pub mod Shown
+pub mod Held
+pub mod Reader
+pub mod Lending
