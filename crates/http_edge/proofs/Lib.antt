@@ -5,3 +5,5 @@ pub mod DigitLemmas
 pub mod StreamLemmas
 pub mod EndLemmas
 pub mod RequestLemmas
+pub mod LineLemmas
+pub mod AskLemmas

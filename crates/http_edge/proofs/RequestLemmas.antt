@@ -2,8 +2,13 @@
 use Rattle.std.proofs.Common.{arith, ◌≡◌, ◌<◌, ◌≤◌, ℕ, List, [], ◌∷◌, length, ◌+◌, ◌++◌, take, drop, map, sym, ap, subst, refl, inl, inr, ◌⊎◌, ◌∙◌, length-append, length-drop, append_assoc, append-nil}
 use Rattle.std.proofs.lemmas.List.{take_at, take-append-drop, drop-drop, drop_all, take_all, length-take-le}
 use Rattle.std.proofs.Math.Nat.{eq-or-lt_of_le}
+use Rattle.std.specs.Prelude.{IsUtf8, IsTrue}
+use Rattle.std.proofs.lemmas.Bool.Decides.{nat_tests}
+use Rattle.std.proofs.lemmas.Str.{IsUtf8-from_ascii}
+use Rattle.std.proofs.lemmas.Str.Ascii.{IsAscii-from_all}
+use Rattle.std.proofs.lemmas.List.Elements.{All-weaker}
 use Rattle.httparse.proofs.GrammarLemmas.{ReadsRequest-append}
-use Rattle.httparse.specs.Grammar.{RequestHead, print_request, HasNoRequest as HasNoHead, NeverHasRequest, MayBecomeRequest}
+use Rattle.httparse.specs.Grammar.{is_token_byte, AllPass, RequestHead, print_request, HasNoRequest as HasNoHead, NeverHasRequest, MayBecomeRequest}
 use Rattle.httparse.specs.Spans.{header_bytes, IsRequestAt, IsRequestWithin}
 use Rattle.httparse.specs.declared.spans.HeaderSpan.{HeaderSpan}
 use Rattle.httparse.specs.declared.spans.RequestSpans.{RequestSpans}
@@ -15,6 +20,7 @@ use Rattle.http_edge.specs.Spelling.{head_framing, SpellsBody, HasNoRequest}
 use Rattle.http_edge.specs.Refusal.{BeginsWithHead, RefusesBody, CutsBody, IsRefused, never, too_long, by_framing, IsUnfinished, in_body}
 use Rattle.http_edge.specs.Reading.{Fills, FillsPart, Reached, IsBehind}
 use Rattle.http_edge.specs.Outcome.{request_at, BeginsBy}
+use Rattle.http_edge.specs.Shown.{IsShown}
 use Rattle.http_edge.specs.declared.framing.Framing.{Framing}
 use Rattle.http_edge.specs.declared.framing.Framing.TheVariants.{Length}
 use Rattle.http_edge.proofs.EndLemmas.{unfinished_none}
@@ -154,3 +160,21 @@ ended_on before got s t u f e = record { rose = rose_since s.ends t.ends u.ends 
 
 pub failed_on : (before got : List ℕ) (s t u : SourceView) → Fills before got s t → Rose t.faults u.faults → Rose s.faults u.faults
 failed_on before got s t u f e = rose_since s.faults t.faults u.faults f.gave.faults e
+
+-- a token is text
+token_is_ascii : (b : ℕ) → IsTrue (is_token_byte b) → b < 128
+unfolding is_token_byte
+token_is_ascii b token = grind (arith, nat_tests)
+
+token_text : (bytes : List ℕ) → AllPass is_token_byte bytes → IsUtf8 bytes
+token_text bytes pass = IsUtf8-from_ascii bytes (IsAscii-from_all bytes (All-weaker (λ b. IsTrue (is_token_byte b)) (λ b. b < 128) token_is_ascii bytes pass))
+
+-- a request that was found can be shown
+pub shown : (got : List ℕ) (spans : List HeaderSpan) (r : RequestSpans) (body : List ℕ) (h : RequestHead) (size : ℕ)
+    → IsRequestWithin got spans r → IsRequestAt got spans r h → size ≤ length body → IsShown got spans r body size
+shown got spans r body h size within at fits = record {
+  within = within;
+  size_fits = fits;
+  method = subst IsUtf8 (sym at.method) (token_text h.method at.reads.0.method.1);
+  target = subst IsUtf8 (sym at.path) at.reads.0.target_text;
+}

@@ -10,3 +10,7 @@ pub mod Shown
 pub mod Held
 pub mod Reader
 pub mod Lending
+pub mod Asks
+pub mod Room
+pub mod Response
+pub mod Chunks

@@ -1,6 +1,6 @@
 -- What reading one request came to.
-use Rattle.std.specs.Prelude.{◌≡◌, ◌≤◌, ◌+◌, ℕ, List, [], length, map, take}
-use Rattle.httparse.specs.Spans.{span_bytes, header_bytes, IsRequestWithin}
+use Rattle.std.specs.Prelude.{◌≡◌, ◌+◌, ℕ, List, [], length, map, take}
+use Rattle.httparse.specs.Spans.{span_bytes, header_bytes}
 use Rattle.httparse.specs.declared.spans.HeaderSpan.{HeaderSpan}
 use Rattle.httparse.specs.declared.spans.RequestSpans.{RequestSpans}
 use Rattle.engine_ports.specs.Rose.{Rose}
@@ -9,6 +9,7 @@ use Rattle.http_edge.specs.Message.{Request}
 use Rattle.http_edge.specs.Spelling.{Begins, HasNoRequest}
 use Rattle.http_edge.specs.Refusal.{IsRefused, IsUnfinished}
 use Rattle.http_edge.specs.Reading.{Reached}
+use Rattle.http_edge.specs.Shown.{IsShown}
 use Rattle.http_edge.specs.declared.request.Outcome.{Outcome}
 use Rattle.http_edge.specs.declared.request.Outcome.TheVariants.{Whole, End, Bad, CutShort, Failed}
 
@@ -30,7 +31,7 @@ BeginsBy request count behind bytes =
 -- gave, and of what stands ahead afterwards
 abbrev pub Facts : Outcome → List ℕ → List ℕ → List ℕ → List HeaderSpan → List ℕ → SourceView → SourceView → Type 0
 Facts (Whole r size) before ahead bytes spans body s s' =
-    IsRequestWithin bytes spans r × (size ≤ length body)
+    IsShown bytes spans r body size
     × Reached before s s' (BeginsBy (request_at bytes spans r body size) (r.len + size) ahead)
 Facts End before ahead bytes spans body s s' = Reached before s s' (λ all. all ≡ []) × (ahead ≡ []) × SourceEnded s s'
 Facts (Bad status) before ahead bytes spans body s s' = Reached before s s' (λ all. IsRefused all status)

@@ -1,6 +1,6 @@
 use Rattle.std.proofs.Common.{arith, rules, ◌≡◌, ◌≤◌, length, take, refl}
 use Rattle.std.proofs.lemmas.List.{length-take-le}
-use Rattle.http_edge.proofs.RequestLemmas.{never_refused, long_refused, framing_refused, reads_whole, cut_body, reached_none, ended_on, failed_on}
+use Rattle.http_edge.proofs.RequestLemmas.{never_refused, long_refused, framing_refused, reads_whole, cut_body, reached_none, shown, ended_on, failed_on}
 use Rattle.http_edge.proofs.request.read_request.Goals as goal
 
 pub returns-in-Malformed-clause-facts : goal.returns-in-Malformed-clause-facts
@@ -32,8 +32,7 @@ returns-in-Whole-default-clause-facts g c =
     let taken = rw c.in-Whole-default.is-0 at c.take_body.ensures.taken in
     let size : length c.take_body.new.body ≡ c.in-Length.size = search rules in
     let behind = rw size at c.take_body.ensures.behind in (
-      facts.0,
-      search rules,
+      shown _ _ _ _ facts.1.0 _ facts.0 facts.1.1 (search rules),
       reads_whole _ _ _ _ _ _ c.in-Head.found facts.1.0 _ _ _ c.take_body.new.body _ c.read_head-read.ensures.fills small facts.0 facts.1.1 c.in-Length.ensures refl behind size taken,
     )
 
