@@ -1,7 +1,7 @@
 -- Fields of a body, each of one kind; an absent field and null are the same (own, after Moby's decoding of JSON).
-use Rattle.std.specs.Prelude.{ℤ, ℕ, List, Bool, false, Option, Some, None, Result, Ok, Err, is_some, if◌then◌else◌, option_and_then, option_map}
-use Rattle.serde_json.specs.Data.{Data}
-use Rattle.serde_json.specs.Find.{get, as_null, as_bool, as_number, as_integer, as_str, as_object}
+use Rattle.std.specs.Prelude.{◌^◌, ℤ, pos, ℕ, nat_lt, List, Bool, false, Option, Some, None, Result, Ok, Err, is_some, if◌then◌else◌, option_and_then, option_map}
+use Rattle.serde_json.specs.Data.{Num, unsigned, negative, float, Data}
+use Rattle.serde_json.specs.Find.{get, as_null, as_bool, as_number, as_str, as_object}
 use Rattle.json_laws.specs.Text.{data_of}
 use Rattle.api_json.specs.Fault.{key_text, and_then, or_fault}
 use Rattle.api_json.specs.declared.fault.BodyKey.{BodyKey}
@@ -36,9 +36,17 @@ text_field key d = read_if_present as_str key (field key d)
 abbrev pub needed_text : BodyKey → Data → Result (List ℕ) BodyFault
 needed_text key d = and_then (text_field key d) (or_fault (BadField key))
 
--- a whole number
+-- a whole number; one past 2 ^ 63 - 1, which is past every limit of a field, counts as that
+abbrev pub whole_in : Num → Option ℤ
+whole_in (unsigned n) = Some (pos (if nat_lt n (2 ^ 63) then n else 9223372036854775807))
+whole_in (negative z) = Some z
+whole_in (float x) = None
+
 abbrev pub whole_number : Data → Option ℤ
-whole_number d = option_and_then as_integer (as_number d)
+whole_number d = option_and_then whole_in (as_number d)
+
+abbrev pub whole_field : BodyKey → Data → Result (Option ℤ) BodyFault
+whole_field key d = read_if_present whole_number key (field key d)
 
 -- a truth value, false where absent
 abbrev pub flag_or_false : BodyKey → Option Data → Result Bool BodyFault

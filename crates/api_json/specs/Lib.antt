@@ -11,3 +11,7 @@ pub mod Fields
 pub mod Lists
 pub mod ExecCreate
 pub mod VolumeCreate
+pub mod Filters
+pub mod MountForms
+pub mod HostConfig
+pub mod Create

@@ -71,6 +71,35 @@ pub fn flag(body: &Value, key: BodyKey) -> Result<bool, BodyFault>
     }
 }
 
+// A whole number; one past the greatest counts as that.
+fn whole_number(value: &Value) -> Option<i64>
+    ensures { result ≡ spec.whole_number (view value.now) }
+{
+    match value.as_i64() {
+        Some(number) => Some(number),
+        None => {
+            if value.is_u64() {
+                Some(i64::MAX)
+            } else {
+                None
+            }
+        }
+    }
+}
+
+/// A field that is a whole number; one past the greatest of 64 bits with a sign counts as that.
+pub fn whole_field(body: &Value, key: BodyKey) -> Result<Option<i64>, BodyFault>
+    ensures { result ≡ spec.whole_field key (view body.now) }
+{
+    match field(body, key) {
+        None => Ok(None),
+        Some(value) => match whole_number(value) {
+            None => Err(BodyFault::BadField(key)),
+            Some(number) => Ok(Some(number)),
+        },
+    }
+}
+
 /// A truth value that must not be true, else the fault.
 pub fn unset_flag(body: &Value, key: BodyKey, fault: BodyFault) -> Result<bool, BodyFault>
     ensures { result ≡ spec.unset_flag fault key (view body.now) }

@@ -1,14 +1,18 @@
 //! Bodies of requests and answers, and event lines, both ways.
 #![tactic(auto)]
 
+mod create;
 mod exec_create;
 mod fault;
 mod fields;
+mod filters;
+mod host_config;
 mod lists;
+mod mount_forms;
 mod volume_create;
 
+pub use create::read_create;
 pub use exec_create::{ExecSpec, read_exec, read_exec_start};
 pub use fault::{BodyFault, BodyKey, Refused};
-pub use fields::{object_field};
-pub use lists::{texts_field, pairs_in};
+pub use filters::{filter_word, read_filter};
 pub use volume_create::{VolumeSpec, read_volume};

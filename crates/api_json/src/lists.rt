@@ -11,8 +11,8 @@ use engine_text::{NoMemory, Pair, Pairs, Text, Words};
 use serde_json::{Map, Value};
 use std::alloc::Global;
 
-// The texts of a list, or none where an item is no text.
-fn read_words(alloc: Global, items: &[Value]) -> Result<Option<Words>, NoMemory>
+/// The texts of a list, or none where an item is no text.
+pub fn read_words(alloc: Global, items: &[Value]) -> Result<Option<Words>, NoMemory>
     ensures { IfOk result (λ found. found ≡ words_of (items_view items.now)) }
 {
     let mut words = Words::new(alloc);

@@ -1,0 +1,4 @@
+pub mod CutLemmas
+pub mod TextLemmas
+pub mod NumeralLemmas
+pub mod VersionLemmas

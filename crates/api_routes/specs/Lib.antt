@@ -1,9 +1,13 @@
 pub mod Request
 pub mod Routes
 pub mod Fault
+pub mod Reading
 pub mod Path
+pub mod Numeral
 pub mod Version
 pub mod Query
+pub mod Keys
 pub mod Built
 pub mod Calls
+pub mod RouteClass
 pub mod Class

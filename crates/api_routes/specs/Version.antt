@@ -1,19 +1,21 @@
 -- The version that a path may begin with (Docker Engine API v1.43, "Versioning"; own: from 1.24).
-use Rattle.std.specs.Prelude.{ℕ, List, [], ◌∷◌, ◌++◌, Bool, ◌&&◌, ◌||◌, ◌==◌, leb, nat_lt, length, codes, if◌then◌else◌, Option, Some, None, Result, Ok, Err}
-use Rattle.std.specs.List.{list_all, slice_split}
-use Rattle.std.specs.Char.{is_ascii_digit}
+use Rattle.std.specs.Prelude.{ℕ, List, [], ◌∷◌, Bool, ◌&&◌, ◌||◌, ◌==◌, nat_lt, if◌then◌else◌, Option, Some, None, Result, Ok, Err}
+use Rattle.std.specs.List.{before_first, after_first}
 use Rattle.std.specs.Str.Parse.{digits_value}
+use Rattle.api_routes.specs.Numeral.{is_numeral}
+use Rattle.api_routes.specs.declared.version.Version.{Version as Numbers}
 use Rattle.api_routes.specs.declared.fault.Fault.{Fault}
 use Rattle.api_routes.specs.declared.fault.Fault.TheVariants.{VersionTooOld, VersionTooNew}
 
--- from one to so many decimal digits
-abbrev pub is_numeral : ℕ → List ℕ → Bool
-is_numeral most text = leb 1 (length text) && leb (length text) most && list_all is_ascii_digit text
-
--- the numerals before and behind the dot
+-- the digits and the dot as given, and the numbers before and behind the dot
 pub record Version : Type 0 where
-  pub major : List ℕ
-  pub minor : List ℕ
+  pub text : List ℕ
+  pub major : ℕ
+  pub minor : ℕ
+
+-- a version of the code
+abbrev pub seen : Numbers → Version
+seen v = record { text = v.text.now; major = v.major; minor = v.minor }
 
 -- `b'v'`
 abbrev pub letter_v : ℕ
@@ -24,33 +26,36 @@ abbrev pub dot : ℕ
 dot = 46
 
 -- two numerals of at most four digits
-abbrev pub version_in : List (List ℕ) → Option Version
-version_in (a ∷ b ∷ []) = if is_numeral 4 a && is_numeral 4 b then Some (record { major = a; minor = b }) else None
-version_in pieces = None
+abbrev pub version_in : List ℕ → List ℕ → List ℕ → Option Version
+version_in text a b =
+    if is_numeral 4 a && is_numeral 4 b
+    then Some (record { text = text; major = digits_value 10 a; minor = digits_value 10 b })
+    else None
 
--- a segment `v1.43`
+-- the version that a segment as `v1.43` names, cut at its first dot
 abbrev pub version_of : List ℕ → Option Version
 version_of [] = None
-version_of (c ∷ rest) = if c == letter_v then version_in (slice_split (λ b. b == dot) rest) else None
+version_of (c ∷ text) =
+    if c == letter_v
+    then version_in text (before_first (λ b. b == dot) text) (after_first (λ b. b == dot) text)
+    else None
 
--- below 1.n, by number
+-- below 1.n
 abbrev pub is_below : ℕ → Version → Bool
-is_below n v =
-    (digits_value 10 v.major == 0) || ((digits_value 10 v.major == 1) && nat_lt (digits_value 10 v.minor) n)
+is_below n v = nat_lt v.major 1 || ((v.major == 1) && nat_lt v.minor n)
 
--- as it was given
-abbrev pub version_text : Version → List ℕ
-version_text v = v.major ++ codes "." ++ v.minor
+-- what is behind the version, if it is from 1.24 to 1.43
+abbrev pub if_served : Version → List (List ℕ) → Result (List (List ℕ)) Fault
+if_served v rest =
+    if is_below 24 v then Err (VersionTooOld v.text)
+    else if is_below 44 v then Ok rest
+    else Err (VersionTooNew v.text)
 
--- from 1.24 to 1.43
-abbrev pub with_version : Option Version → List ℕ → List (List ℕ) → Result (List (List ℕ)) Fault
-with_version None s ss = Ok (s ∷ ss)
-with_version (Some v) s ss =
-    if is_below 24 v then Err (VersionTooOld (version_text v))
-    else if is_below 44 v then Ok ss
-    else Err (VersionTooNew (version_text v))
+abbrev pub behind_first : Option Version → List ℕ → List (List ℕ) → Result (List (List ℕ)) Fault
+behind_first None segment rest = Ok (segment ∷ rest)
+behind_first (Some v) segment rest = if_served v rest
 
 -- the segments behind the version; without one the current version is meant
 abbrev pub behind_version : List (List ℕ) → Result (List (List ℕ)) Fault
 behind_version [] = Ok []
-behind_version (s ∷ ss) = with_version (version_of s) s ss
+behind_version (segment ∷ rest) = behind_first (version_of segment) segment rest
