@@ -1,6 +1,7 @@
 -- The pieces of bodies as JSON data: texts, numbers, lists and objects (RFC 8259, sections 3 to 7).
 use Rattle.std.specs.Prelude.{ℕ, ℤ, List, [], ◌∷◌, map, codes, Option}
-use Rattle.serde_json.specs.Data.{Data, string, number, array, unsigned, Items, no_items, item}
+use Rattle.serde_json.specs.Data.{Data, string, number, array, unsigned, no_items}
+use Rattle.serde_json.specs.View.{items_of}
 use Rattle.serde_json.specs.Find.{of_integer}
 use Rattle.json_laws.specs.Pairs.{Texts, pairs_data}
 use Rattle.engine_text.specs.Moment.{moment_text}
@@ -22,14 +23,9 @@ integer z = number (of_integer z)
 abbrev pub moment : Option ℕ → Data
 moment m = text (moment_text m)
 
--- these things as items
-abbrev pub items_of : {A : Type 0} → (A → Data) → List A → Items
-items_of f [] = no_items
-items_of f (x ∷ xs) = item (f x) (items_of f xs)
-
 -- the list of these things
 abbrev pub list_of : {A : Type 0} → (A → Data) → List A → Data
-list_of f xs = array (items_of f xs)
+list_of f xs = array (items_of (map f xs))
 
 -- the list without items
 abbrev pub empty_list : Data

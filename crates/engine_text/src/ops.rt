@@ -1,6 +1,6 @@
 // The ops of a script (own: none takes more than a week, and there are 2,048 at most).
 ghost use Rattle.std.specs.Prelude.{◌≡◌, ◌≤◌, ◌<◌, [], ◌∷◌, ◌++◌, length, All, OnOk, OnErr};
-ghost use Rattle.engine_text.specs.Scripts.{IsShort, most_ops};
+ghost use Rattle.engine_text.specs.Scripts.{IsShort, AreOps, most_ops};
 
 use super::NoMemory;
 use super::script::Op;
@@ -33,6 +33,22 @@ impl Ops {
         Ops {
             items: Vec::new(alloc),
         }
+    }
+
+    /// The ops of a vector; it takes no memory.
+    pub fn from_vec(items: Vec<Op>) -> Ops
+        requires { AreOps items.items }
+        ensures { result ≡ items.items }
+    {
+        Ops { items }
+    }
+
+    /// The ops as a vector; it takes no memory.
+    pub fn into_vec(self) -> Vec<Op>
+        ensures { result.items ≡ self }
+    {
+        let Ops { items } = self;
+        items
     }
 
     /// Adds an op at the end.

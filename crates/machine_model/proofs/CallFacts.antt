@@ -6,8 +6,8 @@ use Rattle.rand_core.specs.Steps.{u32_at}
 use Rattle.hex.specs.Hex.{encode_with}
 use Rattle.json.specs.Print.{escape_byte}
 use Rattle.proc_kernel.specs.Processes.{meet_waiting, meeting_order}
-use Rattle.engine_text.specs.Id.{id_of}
-use Rattle.engine_text.specs.Moment.{moment_text}
+use Rattle.engine_text.specs.Id.{id_of, key_bytes}
+use Rattle.engine_text.specs.Moment.{moment_text, date_time_text, day_text, clock_text, place_of, year_of, month_of}
 use Rattle.engine_text.specs.Signal.{signal_name}
 use Rattle.engine_text.specs.declared.owner.Owner.TheVariants as Owner
 use Rattle.engine_text.specs.declared.call.Call.TheVariants as Call
@@ -37,7 +37,7 @@ two_names = (
     ∷ [])
 
 pub names_are_kept_without_slash : names two_names ≡ web ∷ codes "anon-1" ∷ codes "ab" ∷ []
-unfolding digits escape_byte id_of encode_with quarter_round column_round diagonal_round double_rounds block_word u32_at moment_text signal_name meet_waiting meeting_order
+unfolding digits escape_byte id_of key_bytes encode_with quarter_round column_round diagonal_round double_rounds block_word u32_at moment_text date_time_text day_text clock_text place_of year_of month_of signal_name meet_waiting meeting_order
 names_are_kept_without_slash = refl
 
 pub create_bodies : bodies two_names
@@ -47,7 +47,7 @@ pub create_bodies : bodies two_names
     ∷ codes "{\"Id\":\"d0c5b9b7442870728d812f034c635e8192b02c311c7947630000000000000002\",\"Warnings\":[]}"
     ∷ codes "{\"message\":\"Conflict. The container name \\\"/ab\\\" is already in use by container \\\"d0c5b9b7442870728d812f034c635e8192b02c311c7947630000000000000002\\\". You have to remove (or rename) that container to be able to reuse that name.\"}"
     ∷ codes "{\"message\":\"No such image: nope\"}" ∷ []
-unfolding digits escape_byte id_of encode_with quarter_round column_round diagonal_round double_rounds block_word u32_at moment_text signal_name meet_waiting meeting_order
+unfolding digits escape_byte id_of key_bytes encode_with quarter_round column_round diagonal_round double_rounds block_word u32_at moment_text date_time_text day_text clock_text place_of year_of month_of signal_name meet_waiting meeting_order
 create_bodies = refl
 
 -- a full id before a name, a name before a prefix
@@ -63,11 +63,11 @@ looked_up = (
     ∷ [])
 
 pub reference_states : states looked_up ≡ codes "running" ∷ codes "running" ∷ []
-unfolding digits escape_byte id_of encode_with quarter_round column_round diagonal_round double_rounds block_word u32_at moment_text signal_name meet_waiting meeting_order
+unfolding digits escape_byte id_of key_bytes encode_with quarter_round column_round diagonal_round double_rounds block_word u32_at moment_text date_time_text day_text clock_text place_of year_of month_of signal_name meet_waiting meeting_order
 reference_states = refl
 
 pub reference_statuses : statuses looked_up ≡ 201 ∷ 201 ∷ 204 ∷ 204 ∷ 304 ∷ 404 ∷ 304 ∷ []
-unfolding digits escape_byte id_of encode_with quarter_round column_round diagonal_round double_rounds block_word u32_at moment_text signal_name meet_waiting meeting_order
+unfolding digits escape_byte id_of key_bytes encode_with quarter_round column_round diagonal_round double_rounds block_word u32_at moment_text date_time_text day_text clock_text place_of year_of month_of signal_name meet_waiting meeting_order
 reference_statuses = refl
 
 -- renamed: its own name, a taken one, a free one; the event has both names
@@ -81,12 +81,12 @@ renamed = (
     ∷ [])
 
 pub rename_statuses : statuses renamed ≡ 201 ∷ 201 ∷ 400 ∷ 409 ∷ 204 ∷ []
-unfolding digits escape_byte id_of encode_with quarter_round column_round diagonal_round double_rounds block_word u32_at moment_text signal_name meet_waiting meeting_order
+unfolding digits escape_byte id_of key_bytes encode_with quarter_round column_round diagonal_round double_rounds block_word u32_at moment_text date_time_text day_text clock_text place_of year_of month_of signal_name meet_waiting meeting_order
 rename_statuses = refl
 
 pub rename_line : map event_line_text (drop 2 (events renamed))
     ≡ codes "{\"Action\":\"rename\",\"Actor\":{\"Attributes\":{\"image\":\"engine/tools:latest\",\"name\":\"new\",\"oldName\":\"web\"},\"ID\":\"76b8e0ada0f13d90405d6ae55386bd28bdd219b8a08ded1a0000000000000000\"},\"Type\":\"container\",\"scope\":\"local\",\"time\":1700000000,\"timeNano\":1700000000000000000}\n" ∷ []
-unfolding digits escape_byte id_of encode_with quarter_round column_round diagonal_round double_rounds block_word u32_at moment_text signal_name meet_waiting meeting_order line_text
+unfolding digits escape_byte id_of key_bytes encode_with quarter_round column_round diagonal_round double_rounds block_word u32_at moment_text date_time_text day_text clock_text place_of year_of month_of signal_name meet_waiting meeting_order line_text
 rename_line = refl
 
 -- ---- execs
@@ -114,28 +114,28 @@ with_execs =
     ∷ []
 
 pub exec_statuses : statuses (with_execs) ≡ 201 ∷ 409 ∷ 204 ∷ 201 ∷ 200 ∷ 409 ∷ 204 ∷ 409 ∷ 204 ∷ []
-unfolding digits escape_byte id_of encode_with quarter_round column_round diagonal_round double_rounds block_word u32_at moment_text signal_name meet_waiting meeting_order
+unfolding digits escape_byte id_of key_bytes encode_with quarter_round column_round diagonal_round double_rounds block_word u32_at moment_text date_time_text day_text clock_text place_of year_of month_of signal_name meet_waiting meeting_order
 exec_statuses = refl
 
 -- its time left was 600 ms
 pub exec_time_left : moments (with_execs ++ Step.Due ∷ []) ≡ 0 ∷ 0 ∷ 0 ∷ 0 ∷ 400 ∷ 2000 ∷ 2600 ∷ []
-unfolding digits escape_byte id_of encode_with quarter_round column_round diagonal_round double_rounds block_word u32_at moment_text signal_name meet_waiting meeting_order
+unfolding digits escape_byte id_of key_bytes encode_with quarter_round column_round diagonal_round double_rounds block_word u32_at moment_text date_time_text day_text clock_text place_of year_of month_of signal_name meet_waiting meeting_order
 exec_time_left = refl
 
 pub exec_events : actions (with_execs ++ Step.Due ∷ [])
     ≡ codes "create" ∷ codes "start" ∷ codes "exec_create" ∷ codes "exec_start" ∷ codes "pause" ∷ codes "unpause" ∷ codes "exec_die 0" ∷ []
-unfolding digits escape_byte id_of encode_with quarter_round column_round diagonal_round double_rounds block_word u32_at moment_text signal_name meet_waiting meeting_order
+unfolding digits escape_byte id_of key_bytes encode_with quarter_round column_round diagonal_round double_rounds block_word u32_at moment_text date_time_text day_text clock_text place_of year_of month_of signal_name meet_waiting meeting_order
 exec_events = refl
 
 -- the container's end ends it with 137, before the die
 pub exec_dies_first : actions (with_execs ++ kill 2000 9 ∷ [])
     ≡ codes "create" ∷ codes "start" ∷ codes "exec_create" ∷ codes "exec_start" ∷ codes "pause" ∷ codes "unpause" ∷ codes "kill 9" ∷ codes "exec_die 137" ∷ codes "die 137" ∷ []
-unfolding digits escape_byte id_of encode_with quarter_round column_round diagonal_round double_rounds block_word u32_at moment_text signal_name meet_waiting meeting_order
+unfolding digits escape_byte id_of key_bytes encode_with quarter_round column_round diagonal_round double_rounds block_word u32_at moment_text date_time_text day_text clock_text place_of year_of month_of signal_name meet_waiting meeting_order
 exec_dies_first = refl
 
 pub exec_is_shown : drop 8 (bodies (with_execs ++ kill 2000 9 ∷ at 2000 (Call.ExecInspect exec_one) ∷ []))
     ≡ [] ∷ [] ∷ codes "{\"CanRemove\":false,\"ContainerID\":\"76b8e0ada0f13d90405d6ae55386bd28bdd219b8a08ded1a0000000000000000\",\"DetachKeys\":\"\",\"ExitCode\":137,\"ID\":\"ef3fdfd6c61578fbf5cf35bd3dd33b8009631634d21e42ac0000000000000001\",\"OpenStderr\":false,\"OpenStdin\":false,\"OpenStdout\":true,\"Pid\":0,\"ProcessConfig\":{\"arguments\":[\"1000\"],\"entrypoint\":\"sleep\",\"privileged\":false,\"tty\":false},\"Running\":false}" ∷ []
-unfolding digits escape_byte id_of encode_with quarter_round column_round diagonal_round double_rounds block_word u32_at moment_text signal_name meet_waiting meeting_order
+unfolding digits escape_byte id_of key_bytes encode_with quarter_round column_round diagonal_round double_rounds block_word u32_at moment_text date_time_text day_text clock_text place_of year_of month_of signal_name meet_waiting meeting_order
 exec_is_shown = refl
 
 -- ---- volumes
@@ -153,24 +153,24 @@ volume_used = (
     ∷ [])
 
 pub volume_statuses : statuses volume_used ≡ 201 ∷ 201 ∷ 201 ∷ 409 ∷ 200 ∷ 204 ∷ 204 ∷ 404 ∷ []
-unfolding digits escape_byte id_of encode_with quarter_round column_round diagonal_round double_rounds block_word u32_at moment_text signal_name meet_waiting meeting_order
+unfolding digits escape_byte id_of key_bytes encode_with quarter_round column_round diagonal_round double_rounds block_word u32_at moment_text date_time_text day_text clock_text place_of year_of month_of signal_name meet_waiting meeting_order
 volume_statuses = refl
 
 pub volume_events : map (λ e. event_line_text e) (take 2 (events volume_used))
     ≡ codes "{\"Action\":\"create\",\"Actor\":{\"Attributes\":{\"driver\":\"local\"},\"ID\":\"zz\"},\"Type\":\"volume\",\"scope\":\"local\",\"time\":1700000000,\"timeNano\":1700000000000000000}\n"
     ∷ codes "{\"Action\":\"create\",\"Actor\":{\"Attributes\":{\"driver\":\"local\"},\"ID\":\"data1\"},\"Type\":\"volume\",\"scope\":\"local\",\"time\":1700000000,\"timeNano\":1700000000000000000}\n" ∷ []
-unfolding digits escape_byte id_of encode_with quarter_round column_round diagonal_round double_rounds block_word u32_at moment_text signal_name meet_waiting meeting_order line_text
+unfolding digits escape_byte id_of key_bytes encode_with quarter_round column_round diagonal_round double_rounds block_word u32_at moment_text date_time_text day_text clock_text place_of year_of month_of signal_name meet_waiting meeting_order line_text
 volume_events = refl
 
 pub volume_actions : actions volume_used
     ≡ codes "create" ∷ codes "create" ∷ codes "create" ∷ codes "destroy" ∷ codes "destroy" ∷ []
-unfolding digits escape_byte id_of encode_with quarter_round column_round diagonal_round double_rounds block_word u32_at moment_text signal_name meet_waiting meeting_order
+unfolding digits escape_byte id_of key_bytes encode_with quarter_round column_round diagonal_round double_rounds block_word u32_at moment_text date_time_text day_text clock_text place_of year_of month_of signal_name meet_waiting meeting_order
 volume_actions = refl
 
 -- in byte order of names
 pub volumes_listed : take 1 (drop 4 (bodies volume_used))
     ≡ codes "{\"Volumes\":[{\"CreatedAt\":\"2023-11-14T22:13:20.000000000Z\",\"Driver\":\"local\",\"Labels\":{},\"Mountpoint\":\"/var/lib/engine/volumes/data1/_data\",\"Name\":\"data1\",\"Options\":{},\"Scope\":\"local\"},{\"CreatedAt\":\"2023-11-14T22:13:20.000000000Z\",\"Driver\":\"local\",\"Labels\":{},\"Mountpoint\":\"/var/lib/engine/volumes/zz/_data\",\"Name\":\"zz\",\"Options\":{},\"Scope\":\"local\"}],\"Warnings\":[]}" ∷ []
-unfolding digits escape_byte id_of encode_with quarter_round column_round diagonal_round double_rounds block_word u32_at moment_text signal_name meet_waiting meeting_order
+unfolding digits escape_byte id_of key_bytes encode_with quarter_round column_round diagonal_round double_rounds block_word u32_at moment_text date_time_text day_text clock_text place_of year_of month_of signal_name meet_waiting meeting_order
 volumes_listed = refl
 
 -- ---- input
@@ -189,11 +189,11 @@ cat_fed = (
     ∷ dues 2)
 
 pub cat_copies : written cat_fed ≡ codes "abc\n" ∷ []
-unfolding digits id_of encode_with quarter_round column_round diagonal_round double_rounds block_word u32_at meet_waiting meeting_order
+unfolding digits id_of key_bytes encode_with quarter_round column_round diagonal_round double_rounds block_word u32_at meet_waiting meeting_order
 cat_copies = refl
 
 pub cat_events : actions cat_fed ≡ codes "create" ∷ codes "attach" ∷ codes "start" ∷ codes "die 0" ∷ []
-unfolding digits id_of encode_with quarter_round column_round diagonal_round double_rounds block_word u32_at meet_waiting meeting_order
+unfolding digits id_of key_bytes encode_with quarter_round column_round diagonal_round double_rounds block_word u32_at meet_waiting meeting_order
 cat_events = refl
 
 pub cat_replies : drop 1 (replies cat_fed)
@@ -209,7 +209,7 @@ pub cat_replies : drop 1 (replies cat_fed)
       feed = Some 1;
     })
     ∷ Reply.Answer 204 [] ∷ Reply.Fed true ∷ Reply.Fed true ∷ []
-unfolding digits id_of encode_with quarter_round column_round diagonal_round double_rounds block_word u32_at meet_waiting meeting_order
+unfolding digits id_of key_bytes encode_with quarter_round column_round diagonal_round double_rounds block_word u32_at meet_waiting meeting_order
 cat_replies = refl
 
 -- ---- lists and inspect
@@ -217,7 +217,7 @@ cat_replies = refl
 pub listed : drop 1 (bodies (create [] ∷ at 0 (Call.List false None []) ∷ at 0 (Call.List true None []) ∷ []))
     ≡ codes "[]"
     ∷ codes "[{\"Command\":\"hello\",\"Created\":1700000000,\"Id\":\"76b8e0ada0f13d90405d6ae55386bd28bdd219b8a08ded1a0000000000000000\",\"Image\":\"engine/tools:latest\",\"Labels\":{},\"Mounts\":[],\"Names\":[\"/web\"],\"Ports\":[],\"State\":\"created\",\"Status\":\"Created\"}]" ∷ []
-unfolding digits escape_byte id_of encode_with quarter_round column_round diagonal_round double_rounds block_word u32_at moment_text signal_name meet_waiting meeting_order
+unfolding digits escape_byte id_of key_bytes encode_with quarter_round column_round diagonal_round double_rounds block_word u32_at moment_text date_time_text day_text clock_text place_of year_of month_of signal_name meet_waiting meeting_order
 listed = refl
 
 pub inspected : drop 2 (bodies (
@@ -225,7 +225,7 @@ pub inspected : drop 2 (bodies (
     ∷ start 0
     ∷ dues 7 ++ at 700 (Call.Inspect web) ∷ []))
     ≡ codes "{\"Args\":[\"1\"],\"Config\":{\"Cmd\":[\"exit\",\"1\"],\"Image\":\"engine/tools:latest\",\"Labels\":{},\"OpenStdin\":false,\"StdinOnce\":false,\"StopSignal\":\"SIGTERM\",\"StopTimeout\":10,\"Tty\":false},\"Created\":\"2023-11-14T22:13:20.000000000Z\",\"HostConfig\":{\"AutoRemove\":false,\"RestartPolicy\":{\"MaximumRetryCount\":3,\"Name\":\"on-failure\"}},\"Id\":\"76b8e0ada0f13d90405d6ae55386bd28bdd219b8a08ded1a0000000000000000\",\"Image\":\"engine/tools:latest\",\"Mounts\":[],\"Name\":\"/web\",\"Path\":\"exit\",\"RestartCount\":3,\"State\":{\"Dead\":false,\"Error\":\"\",\"ExitCode\":1,\"FinishedAt\":\"2023-11-14T22:13:20.700000000Z\",\"OOMKilled\":false,\"Paused\":false,\"Pid\":0,\"Restarting\":false,\"Running\":false,\"StartedAt\":\"2023-11-14T22:13:20.700000000Z\",\"Status\":\"exited\"}}" ∷ []
-unfolding digits escape_byte id_of encode_with quarter_round column_round diagonal_round double_rounds block_word u32_at moment_text signal_name meet_waiting meeting_order
+unfolding digits escape_byte id_of key_bytes encode_with quarter_round column_round diagonal_round double_rounds block_word u32_at moment_text date_time_text day_text clock_text place_of year_of month_of signal_name meet_waiting meeting_order
 inspected = refl
 
 -- ---- logs
@@ -252,7 +252,7 @@ first_of _ = 99
 pub tails : map first_of (drop 2 (replies (ticked
     ++ logs 25 (Some 2) false 0 ∷ logs 25 (Some 0) false 0 ∷ logs 25 (Some 5) false 0 ∷ logs 25 None false 0 ∷ logs 25 (Some 1) true (t + 5) ∷ [])))
     ≡ 1 ∷ 3 ∷ 0 ∷ 0 ∷ 2 ∷ []
-unfolding digits id_of encode_with quarter_round column_round diagonal_round double_rounds block_word u32_at meet_waiting meeting_order
+unfolding digits id_of key_bytes encode_with quarter_round column_round diagonal_round double_rounds block_word u32_at meet_waiting meeting_order
 tails = refl
 
 -- ---- which run an attach follows
@@ -283,7 +283,7 @@ pub attached_runs : map stop_of (replies (
     ∷ attach 50 true false
     ∷ []))
     ≡ None ∷ Some 1 ∷ None ∷ Some 2 ∷ None ∷ Some 1 ∷ Some 1 ∷ None ∷ []
-unfolding digits id_of encode_with quarter_round column_round diagonal_round double_rounds block_word u32_at meet_waiting meeting_order
+unfolding digits id_of key_bytes encode_with quarter_round column_round diagonal_round double_rounds block_word u32_at meet_waiting meeting_order
 attached_runs = refl
 
 -- without `logs` it begins at the log's length; without OpenStdin nothing is fed
@@ -306,7 +306,7 @@ pub attach_first : drop 4 (replies (
       greatest = 9999999999999;
       feed = None;
     }) ∷ []
-unfolding digits id_of encode_with quarter_round column_round diagonal_round double_rounds block_word u32_at meet_waiting meeting_order
+unfolding digits id_of key_bytes encode_with quarter_round column_round diagonal_round double_rounds block_word u32_at meet_waiting meeting_order
 attach_first = refl
 
 -- ---- the end of input
@@ -323,7 +323,7 @@ pub input_goes_on : drop 1 (replies (
     ∷ at 5 (Call.Feed (Owner.Exec 7) 1 (codes "a"))
     ∷ []))
     ≡ Reply.Answer 204 [] ∷ Reply.Fed true ∷ Reply.Fed true ∷ Reply.Answer 204 [] ∷ Reply.Fed false ∷ Reply.Fed false ∷ []
-unfolding digits id_of encode_with quarter_round column_round diagonal_round double_rounds block_word u32_at meet_waiting meeting_order
+unfolding digits id_of key_bytes encode_with quarter_round column_round diagonal_round double_rounds block_word u32_at meet_waiting meeting_order
 input_goes_on = refl
 
 -- nor does it end what the process reads
@@ -332,7 +332,7 @@ pub input_stays_open : states (
     ∷ start 0
     ∷ at 0 (Call.FeedEnd (Owner.Container 0) 1)
     ∷ dues 2) ≡ codes "running" ∷ []
-unfolding digits id_of encode_with quarter_round column_round diagonal_round double_rounds block_word u32_at meet_waiting meeting_order
+unfolding digits id_of key_bytes encode_with quarter_round column_round diagonal_round double_rounds block_word u32_at meet_waiting meeting_order
 input_stays_open = refl
 
 -- a detached exec reads the end at once
@@ -344,7 +344,7 @@ pub detached_ends : drop 2 (actions (
     ∷ at 0 (Call.ExecStart exec_one true)
     ∷ dues 2))
     ≡ codes "exec_create" ∷ codes "exec_start" ∷ codes "exec_die 0" ∷ []
-unfolding digits id_of encode_with quarter_round column_round diagonal_round double_rounds block_word u32_at meet_waiting meeting_order
+unfolding digits id_of key_bytes encode_with quarter_round column_round diagonal_round double_rounds block_word u32_at meet_waiting meeting_order
 detached_ends = refl
 
 -- ---- events by moment
@@ -373,7 +373,7 @@ pub filtered : map is_full_list (drop 3 (replies (
     ∷ at 0 (Call.List true None (record { key = Key.Name; values = [] } ∷ []))
     ∷ [])))
     ≡ true ∷ false ∷ true ∷ true ∷ false ∷ true ∷ false ∷ []
-unfolding digits escape_byte id_of encode_with quarter_round column_round diagonal_round double_rounds block_word u32_at moment_text signal_name meet_waiting meeting_order
+unfolding digits escape_byte id_of key_bytes encode_with quarter_round column_round diagonal_round double_rounds block_word u32_at moment_text date_time_text day_text clock_text place_of year_of month_of signal_name meet_waiting meeting_order
 filtered = refl
 
 -- ---- names and references again
@@ -384,7 +384,7 @@ pub next_free_name : names (
     ∷ at 0 (Call.Create (record (spec []) { name = None }))
     ∷ at 0 (Call.Create (record (spec []) { name = None }))
     ∷ []) ≡ codes "anon-1" ∷ codes "anon-2" ∷ codes "anon-3" ∷ []
-unfolding digits id_of encode_with quarter_round column_round diagonal_round double_rounds block_word u32_at meet_waiting meeting_order
+unfolding digits id_of key_bytes encode_with quarter_round column_round diagonal_round double_rounds block_word u32_at meet_waiting meeting_order
 next_free_name = refl
 
 -- a prefix of two ids names many, a longer one names one
@@ -399,5 +399,5 @@ pub many_ids : drop 7 (statuses (
     ∷ at 0 (Call.Start (codes "5"))
     ∷ at 0 (Call.Start (codes "5b13"))
     ∷ [])) ≡ 400 ∷ 204 ∷ []
-unfolding digits escape_byte id_of encode_with quarter_round column_round diagonal_round double_rounds block_word u32_at moment_text signal_name meet_waiting meeting_order
+unfolding digits escape_byte id_of key_bytes encode_with quarter_round column_round diagonal_round double_rounds block_word u32_at moment_text date_time_text day_text clock_text place_of year_of month_of signal_name meet_waiting meeting_order
 many_ids = refl

@@ -7,3 +7,10 @@ pub mod ProcessFacts
 pub mod LegalFacts
 pub mod Histories
 pub mod ChainLemmas
+pub mod ListLemmas
+pub mod VolumeLemmas
+pub mod StepLemmas
+pub mod CreateLemmas
+pub mod InspectLemmas
+pub mod SoundFacts
+pub mod JournalFacts

@@ -1,11 +1,12 @@
--- own: what is foretold of signals is what meeting them gives.
-use Rattle.std.proofs.Common.{◌≡◌, ◌≢◌, ◌==◌, ◌&&◌, not, ℕ, ◌+◌, Bool, true, false, List, [], ◌∷◌, Option, Some, None, refl, ap, sym, ◌∙◌, arith, All, get_or, slice_index_or, slice_set, if◌then◌else◌}
+-- own: what is foretold of a step is what the step gives.
+use Rattle.std.proofs.Common.{◌≡◌, ◌≢◌, ◌==◌, ◌&&◌, not, ℕ, ◌+◌, Bool, true, false, List, [], ◌∷◌, Option, Some, None, refl, sym, ◌∙◌, arith, slice_index_or, slice_set, if◌then◌else◌}
 use Rattle.std.proofs.lemmas.List.{get_or-set_other}
 use Rattle.std.proofs.lemmas.Bool.Decides.{nat_tests}
 use Rattle.engine_text.specs.declared.script.Manner.{Manner}
-use Rattle.engine_text.specs.declared.script.Manner.TheVariants.{Plain, Trap, Deaf}
-use Rattle.proc_kernel.specs.Processes.{Process, Met, meet, meet_each, set_waiting, waits, is_harmless, is_ignored, is_trapped, trap_used, goes_on, killed, unless_ended, after_meeting, met_step, meet_waiting, meeting_order, lives, thaw, thawed_pace}
-use Rattle.proc_kernel.specs.Foretelling.{code_of, or_else, first_code, code_in}
+use Rattle.proc_kernel.specs.Processes.{Process, Met, meet, meet_each, set_waiting, waits, is_harmless, is_ignored, is_trapped, trap_used, goes_on, killed, unless_ended, after_meeting, met_step, meet_waiting, meeting_order, lives, thaw, thawed_pace, is_frozen, signal}
+use Rattle.proc_kernel.specs.Foretelling.{code_of, or_else, first_code, waiting_code, code_in, thaw_code, frozen_code, signal_code}
+
+-- ---- one signal
 
 chain : (a b c d : Bool) (t n : ℕ) (p : Process) → (if a then killed 137 p else if b then goes_on p else if c then goes_on p else if d then goes_on (trap_used t p) else killed (128 + n) p).code
     ≡ (if a then Some 137 else if b then None else if c then None else if d then None else Some (128 + n))
@@ -37,6 +38,8 @@ chain_same false false false false t n p = record { manner = refl; waiting = ref
 pub meet_same : (n t : ℕ) (p : Process) → Same p (meet n t p).process
 meet_same n t p = chain_same (n == 9) (is_harmless n) (is_ignored p.manner n) (is_trapped p.manner n) t n p
 
+-- ---- the waiting signals
+
 -- Whether a signal stands in none of these places, and whether all of them differ.
 abbrev pub is_apart : ℕ → List ℕ → Bool
 is_apart n [] = true
@@ -46,67 +49,89 @@ abbrev pub all_differ : List ℕ → Bool
 all_differ [] = true
 all_differ (n ∷ ns) = is_apart n ns && all_differ ns
 
-both : (a b : Bool) → (a && b) ≡ true → (a ≡ true) × (b ≡ true)
+pub both : (a b : Bool) → (a && b) ≡ true → (a ≡ true) × (b ≡ true)
 both true b e = (refl, e)
 both false b e = absurd (cc)
 
-differs : (m n : ℕ) → not (m == n) ≡ true → m ≢ n
+pub differs : (m n : ℕ) → not (m == n) ≡ true → m ≢ n
 differs m n e = grind (arith, nat_tests, e)
 
 join : Bool → Manner → ℕ → Option ℕ → Option ℕ
 join b m n r = if b then or_else (code_of n m) r else r
 
-join_same : (b b' : Bool) (m m' : Manner) (n : ℕ) (r r' : Option ℕ) → b ≡ b' → m ≡ m' → r ≡ r' → join b m n r ≡ join b' m' n r'
-join_same b b' m m' n r r' e f g = cc
+join_same : (b b' : Bool) (m : Manner) (n : ℕ) (r r' : Option ℕ) → b ≡ b' → r ≡ r' → join b m n r ≡ join b' m n r'
+join_same b b' m n r r' e g = cc
 
-first_joined : (n : ℕ) (ns : List ℕ) (p : Process) → first_code (n ∷ ns) p ≡ join (waits n p) p.manner n (first_code ns p)
+first_joined : (n : ℕ) (ns : List ℕ) (m : Manner) (w : List Bool) → first_code (n ∷ ns) m w ≡ join (slice_index_or w n false) m n (first_code ns m w)
 unfolding join
-first_joined n ns p = refl
+first_joined n ns m w = refl
 
-first_same : (ns : List ℕ) (n : ℕ) (p q : Process) → is_apart n ns ≡ true → q.manner ≡ p.manner → ((k : ℕ) → k ≢ n → waits k q ≡ waits k p) → first_code ns q ≡ first_code ns p
-first_same [] n p q a e h = refl
-first_same (m ∷ ms) n p q a e h =
-    let two = both (not (m == n)) (is_apart n ms) a in
-    first_joined m ms q ∙ join_same (waits m q) (waits m p) q.manner p.manner m (first_code ms q) (first_code ms p) (h m (differs m n two.0)) e (first_same ms n p q two.1 e h) ∙ sym (first_joined m ms p)
+-- Two sets that differ at most in n, which isn't asked for.
+abbrev pub SameBut : ℕ → List Bool → List Bool → Type 0
+SameBut n w v = (k : ℕ) → k ≢ n → slice_index_or v k false ≡ slice_index_or w k false
+
+pub set_but : (n : ℕ) (b : Bool) (w : List Bool) → SameBut n w (slice_set w n b)
+set_but n b w = λ k ne. get_or-set_other w n k b false ne
+
+first_same : (ns : List ℕ) (n : ℕ) (m : Manner) (w v : List Bool) → is_apart n ns ≡ true → SameBut n w v → first_code ns m v ≡ first_code ns m w
+first_same [] n m w v a h = refl
+first_same (k ∷ ks) n m w v a h =
+    let two = both (not (k == n)) (is_apart n ks) a in
+    first_joined k ks m v ∙ join_same (slice_index_or v k false) (slice_index_or w k false) m k (first_code ks m v) (first_code ks m w) (h k (differs k n two.0)) (first_same ks n m w v two.1 h) ∙ sym (first_joined k ks m w)
+
+first_kept : (ns : List ℕ) (n : ℕ) (p q : Process) (w : List Bool) → is_apart n ns ≡ true → q.manner ≡ p.manner → q.waiting ≡ w → SameBut n p.waiting w → first_code ns q.manner q.waiting ≡ first_code ns p.manner p.waiting
+first_kept ns n p q w a e f h = rw (e, f) (first_same ns n p.manner p.waiting w a h)
 
 unless_step : (c c' : Option ℕ) (q : Process) (f : Process → Met) (r : Option ℕ) → c ≡ c' → (f q).code ≡ r → (unless_ended c q f).code ≡ or_else c' r
 unless_step (Some x) c' q f r e h = rw (← e) refl
 unless_step None c' q f r e h = rw (← e) h
 
-meets : (b : Bool) (n : ℕ) (ns : List ℕ) (t : ℕ) (p : Process) → is_apart n ns ≡ true → ((q : Process) → (meet_each ns t q).code ≡ first_code ns q)
+meets : (b : Bool) (n : ℕ) (ns : List ℕ) (t : ℕ) (p : Process) → is_apart n ns ≡ true → ((q : Process) → (meet_each ns t q).code ≡ first_code ns q.manner q.waiting)
     → (if b then unless_ended (meet n t (set_waiting n false p)).code (meet n t (set_waiting n false p)).process (λ q. meet_each ns t q) else meet_each ns t p).code
-    ≡ (if b then or_else (code_of n p.manner) (first_code ns p) else first_code ns p)
+    ≡ (if b then or_else (code_of n p.manner) (first_code ns p.manner p.waiting) else first_code ns p.manner p.waiting)
 meets false n ns t p a ih = ih p
 meets true n ns t p a ih =
     let less : Process = set_waiting n false p in
-    let same : Same less (meet n t less).process = meet_same n t less in
-    unless_step (meet n t less).code (code_of n p.manner) (meet n t less).process (λ q. meet_each ns t q) (first_code ns p) (code_meets n t less)
-    (ih (meet n t less).process ∙ first_same ns n p (meet n t less).process a same.manner
-    (λ k ne. ap (λ (w : List Bool). get_or w k false) same.waiting ∙ get_or-set_other p.waiting n k false false ne))
+    let q : Process = (meet n t less).process in
+    let same : Same less q = meet_same n t less in
+    unless_step (meet n t less).code (code_of n p.manner) q (λ x. meet_each ns t x) (first_code ns p.manner p.waiting) (code_meets n t less)
+    (ih q ∙ first_kept ns n p q less.waiting a same.manner same.waiting (set_but n false p.waiting))
 
-pub foretold : (ns : List ℕ) (t : ℕ) (p : Process) → all_differ ns ≡ true → (meet_each ns t p).code ≡ first_code ns p
+pub foretold : (ns : List ℕ) (t : ℕ) (p : Process) → all_differ ns ≡ true → (meet_each ns t p).code ≡ first_code ns p.manner p.waiting
 foretold [] t p d = refl
 foretold (n ∷ ns) t p d = let two = both (is_apart n ns) (all_differ ns) d in meets (waits n p) n ns t p two.0 (λ q. foretold ns t q two.1)
+
+pub waiting_told : (t : ℕ) (p : Process) → (meet_waiting t p).code ≡ waiting_code p
+unfolding meet_waiting meeting_order
+waiting_told t p = foretold meeting_order t p refl
+
+-- ---- thaws and signals
 
 ended_by : (c : Option ℕ) (q : Process) → code_in (after_meeting c q).effect ≡ c
 ended_by (Some c) q = refl
 ended_by None q = refl
 
-thawed : (b : Bool) (t : ℕ) (p : Process) → code_in (if b then lives p else met_step (meet_waiting t p)).effect ≡ (if b then None else first_code meeting_order p)
-unfolding meet_waiting meeting_order
-thawed true t p = refl
-thawed false t p = ended_by (meet_each meeting_order t p).code (meet_each meeting_order t p).process ∙ foretold meeting_order t p refl
+pub met_told : (t : ℕ) (p : Process) → code_in (met_step (meet_waiting t p)).effect ≡ waiting_code p
+met_told t p = ended_by (meet_waiting t p).code (meet_waiting t p).process ∙ waiting_told t p
+
+thaw_by : (b : Bool) (t : ℕ) (p : Process) → code_in (if b then lives p else met_step (meet_waiting t p)).effect ≡ (if b then None else waiting_code p)
+thaw_by true t p = refl
+thaw_by false t p = met_told t p
 
 -- What a thaw at any moment ends the process with.
-pub thaw_code : (t : ℕ) (p : Process) → code_in (thaw t p).effect ≡ (if p.busy then None else first_code meeting_order p)
-unfolding meeting_order
-thaw_code t p =
-    let q : Process = record p { pace = thawed_pace t p.pace } in
-    thawed p.busy t q ∙ ap (λ (r : Option ℕ). if p.busy then None else r) (first_same meeting_order 0 p q refl refl (λ k ne. refl))
+pub thaw_told : (t : ℕ) (p : Process) → thaw_code p ≡ code_in (thaw t p).effect
+thaw_told t p = sym (thaw_by p.busy t (record p { pace = thawed_pace t p.pace }))
 
-when_false : (b : Bool) (r : Option ℕ) → b ≡ false → (if b then None else r) ≡ r
-when_false true r e = absurd (cc)
-when_false false r e = refl
+frozen_told : (n : ℕ) (thaws : Bool) (t : ℕ) (p : Process) → frozen_code n thaws p ≡ code_in (if thaws then thaw t (set_waiting n true p) else lives (set_waiting n true p)).effect
+frozen_told n false t p = refl
+frozen_told n true t p = thaw_told t (set_waiting n true p)
 
-pub thaw_code_idle : (t : ℕ) (p : Process) → p.busy ≡ false → code_in (thaw t p).effect ≡ first_code meeting_order p
-thaw_code_idle t p e = thaw_code t p ∙ when_false p.busy (first_code meeting_order p) e
+signal_by : (frozen busy : Bool) (n : ℕ) (thaws : Bool) (t : ℕ) (p : Process) → (if frozen then frozen_code n thaws p else if busy then None else code_of n p.manner)
+    ≡ code_in (if frozen then (if thaws then thaw t (set_waiting n true p) else lives (set_waiting n true p)) else if busy then lives (set_waiting n true p) else met_step (meet n t p)).effect
+signal_by true busy n thaws t p = frozen_told n thaws t p
+signal_by false true n thaws t p = refl
+signal_by false false n thaws t p = sym (ended_by (meet n t p).code (meet n t p).process ∙ code_meets n t p)
+
+-- What a signal at any moment ends the process with.
+pub signal_told : (n : ℕ) (thaws : Bool) (t : ℕ) (p : Process) → signal_code n thaws p ≡ code_in (signal n thaws t p).effect
+signal_told n thaws t p = signal_by (is_frozen p.pace) p.busy n thaws t p

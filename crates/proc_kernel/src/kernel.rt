@@ -1,8 +1,9 @@
-ghost use Rattle.std.specs.Prelude.{◌≡◌, Some, None, ◌<◌, ◌+◌, ◌≤◌, [], ◌∷◌, ◌++◌, position, All, IfOk, OnOk, OnErr, map};
+ghost use Rattle.std.specs.Prelude.{◌≡◌, ℕ, Some, None, ◌<◌, ◌+◌, ◌≤◌, [], ◌∷◌, ◌++◌, position, All, IfOk, OnOk, OnErr, map};
 ghost use Rattle.std.specs.VecDeque.{deque_len, deque_capacity};
 ghost use Rattle.engine_text.specs.Owner.{same_owner};
 ghost use Rattle.proc_kernel.specs.Processes.{run_due, spawn, feed, feed_end, freeze, thaw, signal, CanThaw};
-ghost use Rattle.proc_kernel.specs.Tables.{Table, change, process_of, effect_of, without, due_at, length_at, room_at, begun, OfProcess};
+ghost use Rattle.proc_kernel.specs.Foretelling.{code_at};
+ghost use Rattle.proc_kernel.specs.Tables.{Table, change, process_of, after_step, effect_at, without, due_at, length_at, room_at, begun, OfProcess};
 
 use super::rooms::{buffers_of, trays_of, widen};
 use super::slot::Slot;
@@ -116,8 +117,8 @@ impl Kernel {
     /// That process is thawed, and meets the signals that waited.
     pub fn thaw(&mut self, owner: Owner, moment: u64) -> Effect
         requires moment { OfProcess (CanThaw moment) (process_of owner self.old.processes) }
-        ensures processes { self.new.processes ≡ change owner (λ p. (thaw moment p).process) self.old.processes }
-        ensures effect { result ≡ effect_of (thaw moment) (process_of owner self.old.processes) }
+        ensures processes { self.new.processes ≡ after_step owner (thaw moment) self.old.processes }
+        ensures effect { result ≡ effect_at owner (thaw moment) self.old.processes }
         ensures spare { self.new.spare ≡ self.old.spare }
         ensures bytes { self.new.bytes ≡ self.old.bytes }
     {
@@ -131,8 +132,9 @@ impl Kernel {
     pub fn signal(&mut self, owner: Owner, sent: Signal, thaws: bool, moment: u64) -> Effect
         requires signal { sent.number < 32 }
         requires moment { OfProcess (CanThaw moment) (process_of owner self.old.processes) }
-        ensures processes { self.new.processes ≡ change owner (λ p. (signal sent.number thaws moment p).process) self.old.processes }
-        ensures effect { result ≡ effect_of (signal sent.number thaws moment) (process_of owner self.old.processes) }
+        ensures processes { self.new.processes
+            ≡ after_step owner (signal sent.number thaws moment) self.old.processes }
+        ensures effect { result ≡ effect_at owner (signal sent.number thaws moment) self.old.processes }
         ensures spare { self.new.spare ≡ self.old.spare }
         ensures bytes { self.new.bytes ≡ self.old.bytes }
     {
@@ -145,7 +147,8 @@ impl Kernel {
     /// A piece of input comes to that process.
     pub fn feed(&mut self, owner: Owner, piece: Bytes, moment: u64)
         requires { 0 < self.old.spare }
-        ensures processes { self.new.processes ≡ change owner (feed piece moment) self.old.processes }
+        ensures processes { self.new.processes
+            ≡ change owner (feed piece moment) self.old.processes }
         ensures spare { self.new.spare + 1 ≡ self.old.spare }
         ensures bytes { self.new.bytes ≡ self.old.bytes }
     {
@@ -161,8 +164,8 @@ impl Kernel {
         requires spare { 0 < self.old.spare }
         requires moment { moment ≤ 9000000000000 }
         requires length { length_at (process_of owner self.old.processes) ≤ self.old.bytes }
-        ensures processes { self.new.processes ≡ change owner (λ p. (run_due moment p).process) self.old.processes }
-        ensures effect { result ≡ effect_of (run_due moment) (process_of owner self.old.processes) }
+        ensures processes { self.new.processes ≡ after_step owner (run_due moment) self.old.processes }
+        ensures effect { result ≡ effect_at owner (run_due moment) self.old.processes }
         ensures spare { self.new.spare + 1 ≡ self.old.spare }
         ensures bytes { self.new.bytes ≡ self.old.bytes }
     {
@@ -185,7 +188,8 @@ impl Kernel {
     )
         requires stands { process_of owner self.old.processes ≡ None }
         requires spare { 0 < self.old.spare }
-        ensures processes { self.new.processes ≡ self.old.processes ++ begun owner (spawn script moment stdin room) ∷ [] }
+        ensures processes { self.new.processes
+            ≡ self.old.processes ++ begun owner (spawn script moment stdin room) ∷ [] }
         ensures spare { self.new.spare + 1 ≡ self.old.spare }
         ensures bytes { self.new.bytes ≡ self.old.bytes }
     {
@@ -233,6 +237,38 @@ impl Kernel {
         match place_of(self.slots.as_slice(), owner) {
             None => 0,
             Some(i) => self.slots[i].record_length(),
+        }
+    }
+
+    /// The code with which that signal would end the process at any moment, if it would.
+    pub fn signal_code(&self, owner: Owner, sent: Signal, thaws: bool) -> Option<u8>
+        requires { sent.number < 32 }
+        ensures { (t : ℕ) → result
+            ≡ code_at (signal sent.number thaws t) (process_of owner self.now.processes) }
+    {
+        match place_of(self.slots.as_slice(), owner) {
+            None => None,
+            Some(i) => self.slots[i].signal_code(sent.number, thaws),
+        }
+    }
+
+    /// The code with which a thaw would end the process at any moment, if it would.
+    pub fn thaw_code(&self, owner: Owner) -> Option<u8>
+        ensures { (t : ℕ) → result ≡ code_at (thaw t) (process_of owner self.now.processes) }
+    {
+        match place_of(self.slots.as_slice(), owner) {
+            None => None,
+            Some(i) => self.slots[i].thaw_code(),
+        }
+    }
+
+    /// The code with which the process's next op would end it at any moment, if it would.
+    pub fn due_code(&self, owner: Owner) -> Option<u8>
+        ensures { (t : ℕ) → result ≡ code_at (run_due t) (process_of owner self.now.processes) }
+    {
+        match place_of(self.slots.as_slice(), owner) {
+            None => None,
+            Some(i) => self.slots[i].due_code(),
         }
     }
 }

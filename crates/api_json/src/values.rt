@@ -1,0 +1,59 @@
+// Pieces of bodies as JSON values.
+ghost use Rattle.std.specs.Prelude.{◌≡◌, IfOk, string_bytes, false};
+ghost use Rattle.serde_json.specs.View.{view};
+ghost use Rattle.serde_json.specs.Written.{has_float, compact_text};
+ghost use Rattle.json_laws.specs.Pairs.{words_data};
+ghost use Rattle.engine_text.specs.Moment.{moment_text as text_of_moment, IsMoment};
+ghost use Rattle.api_json.specs.Values as spec;
+
+use engine_text::{NoMemory, Pair, Text, moment_text};
+use serde_json::{Map, Value};
+use std::alloc::{AllocError, Global};
+
+/// The name of the one image.
+pub const IMAGE_NAME: &str = "engine/tools:latest";
+
+/// The compact text of a value without a float.
+pub fn body_text(alloc: Global, value: &Value) -> Result<Text, NoMemory>
+    requires { has_float (view value.now) ≡ false }
+    ensures { IfOk result (λ text. text ≡ compact_text (view value.now)) }
+{
+    let text = value.to_string(alloc)?;
+    Ok(Text::from_string(text))
+}
+
+/// The list of these words.
+pub fn words_value(alloc: Global, words: &[Text]) -> Result<Value, AllocError>
+    ensures { IfOk result (λ v. view v ≡ words_data words.now) }
+{
+    let mut items = Vec::new(alloc);
+    'words: for word in words {
+        items.push(Value::try_from_str(alloc, word.as_str())?)?;
+    }
+    Ok(Value::Array(items))
+}
+
+/// The object of these pairs, each key with its last value.
+pub fn pairs_value(alloc: Global, pairs: &[Pair]) -> Result<Value, AllocError>
+    ensures { IfOk result (λ v. view v ≡ spec.pairs_object pairs.now) }
+{
+    let mut map = Map::new(alloc);
+    'pairs: for pair in pairs {
+        let key = String::from_str(alloc, pair.key.as_str())?;
+        let value = Value::try_from_str(alloc, pair.value.as_str())?;
+        map.insert(key, value)?;
+    }
+    Ok(Value::Object(map))
+}
+
+/// The text of a moment, or of none.
+pub fn moment_string(alloc: Global, moment: Option<u64>) -> Result<String, AllocError>
+    requires { IsMoment moment }
+    ensures { IfOk result (λ s. string_bytes s ≡ text_of_moment moment) }
+{
+    let (bytes, len) = moment_text(moment);
+    let Ok(text) = str::from_utf8(&bytes[..len]) else {
+        return Err(AllocError);
+    };
+    String::from_str(alloc, text)
+}
