@@ -12,3 +12,6 @@ pub use clock::StepClock;
 pub use door::{Arrival, Door, NoDoor, Parting, Parts};
 pub use memory::{MemSink, MemSource, NoMemory};
 pub use ports::{Clock, Failed, Got, Pause, Sink, Source};
+
+#[cfg(test)]
+mod tests;

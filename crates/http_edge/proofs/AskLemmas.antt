@@ -1,5 +1,5 @@
 -- The parts of a field's value.
-use Rattle.std.proofs.Common.{arith, ◌≡◌, ◌<◌, ◌≤◌, ◌⊎◌, inl, inr, ℕ, zero, suc, List, [], ◌∷◌, length, ◌+◌, ◌-◌, take, drop, get_or, map, sym, ap, refl, ◌∙◌, Bool, true, false, cond, add-one}
+use Rattle.std.proofs.Common.{arith, ◌≡◌, ◌<◌, ◌≤◌, ◌⊎◌, inl, inr, ℕ, zero, suc, List, [], ◌∷◌, length, ◌-◌, take, drop, get_or, map, sym, ap, refl, ◌∙◌, Bool, true, false, add-one}
 use Rattle.std.specs.Prelude.{◌==◌, ◌&&◌, ◌||◌}
 use Rattle.std.specs.List.{list_any}
 use Rattle.std.proofs.Math.Nat.{eq-or-lt_of_le}
@@ -7,7 +7,7 @@ use Rattle.std.proofs.lemmas.Bool.Decides.{nat_tests}
 use Rattle.std.proofs.lemmas.List.{take_all, take_rest, drop-drop}
 use Rattle.httparse.specs.Grammar.{trim_ows}
 use Rattle.http_edge.specs.Message.{is_same_text}
-use Rattle.http_edge.specs.Asks.{parts_of, joined_first, has_token}
+use Rattle.http_edge.specs.Asks.{parts_of, has_token}
 
 no_comma : (b : ℕ) → (b ≡ 44 → ⊥) → (b == 44) ≡ false
 no_comma b ne = grind (arith, nat_tests, ne)

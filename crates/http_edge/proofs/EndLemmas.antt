@@ -1,9 +1,10 @@
 -- What is refused or unfinished begins with no request.
-use Rattle.std.proofs.Common.{arith, ◌≡◌, ℕ, List, [], length, ◌+◌, ◌-◌, ◌++◌, take, sym, ap, subst, ◌∙◌, length-append}
-use Rattle.std.proofs.lemmas.List.{append-nil}
+use Rattle.std.proofs.Common.{arith, ◌≡◌, ◌<◌, ◌≤◌, ◌⊎◌, inl, inr, append_assoc, ℕ, List, [], length, ◌+◌, ◌-◌, ◌++◌, take, sym, ap, subst, ◌∙◌, length-append}
+use Rattle.std.proofs.lemmas.List.{append-nil, take-append-le, take_all}
+use Rattle.std.proofs.lemmas.Bool.{cases_lt}
 use Rattle.std.proofs.Math.Seq.{take-append-add}
-use Rattle.httparse.proofs.GrammarLemmas.{request_unique}
-use Rattle.httparse.specs.Grammar.{RequestHead, print_request, ReadsRequest}
+use Rattle.httparse.proofs.GrammarLemmas.{request_unique, ReadsRequest-append}
+use Rattle.httparse.specs.Grammar.{RequestHead, print_request, ReadsRequest, NeverHasRequest, MayBecomeRequest}
 use Rattle.http_edge.specs.Message.{Request}
 use Rattle.http_edge.specs.Spelling.{head_framing, SpellsBody, Begins, HasNoRequest}
 use Rattle.http_edge.specs.Refusal.{window, RefusesBody, CutsBody, IsRefused, never, too_long, by_framing, IsUnfinished, in_head, in_body}
@@ -58,3 +59,27 @@ unfinished_none bytes (in_body h rest begins cuts) r behind b =
 -- what has no head begins with no request
 pub headless_none : (bytes : List ℕ) → Rattle.httparse.specs.Grammar.HasNoRequest bytes → HasNoRequest bytes
 headless_none bytes lacks r behind b = lacks b.1.head (b.1.coded ++ behind) (begins_head bytes behind r b)
+
+-- the window of more bytes begins with that of these
+window_longer : (bytes more : List ℕ) → (rest : List ℕ) × (window (bytes ++ more) ≡ window bytes ++ rest)
+window_longer bytes more = go (cases_lt 16384 (length bytes))
+  where
+    go : (16384 < length bytes) ⊎ (length bytes ≤ 16384) → (rest : List ℕ) × (window (bytes ++ more) ≡ window bytes ++ rest)
+    go (inl long) = ([], take-append-le 16384 bytes more (omega arith) ∙ sym (append-nil (window bytes)))
+    go (inr short) = (take (16384 - length bytes) more, ap (λ n. take n (bytes ++ more)) (let n : 16384 ≡ length bytes + (16384 - length bytes) = omega arith in n) ∙ take-append-add bytes more (16384 - length bytes) ∙ ap (λ l. l ++ take (16384 - length bytes) more) (sym (take_all 16384 bytes short)))
+
+longer_refuses : (f : Framing) (behind more : List ℕ) (status : ℕ) → RefusesBody f behind status → RefusesBody f (behind ++ more) status
+longer_refuses (Length n) behind more status u = u
+longer_refuses Chunked behind more status u = u
+longer_refuses (Refused s) behind more status u = u
+
+-- what is refused stays refused
+pub refused_stays : (bytes more : List ℕ) (status : ℕ) → IsRefused bytes status → IsRefused (bytes ++ more) status
+refused_stays bytes more status (never is lacks) =
+    let w = window_longer bytes more in
+    never is (subst NeverHasRequest (sym w.1) (λ later h rest reads. lacks (w.0 ++ later) h rest (subst (λ l. ReadsRequest l h rest) (append_assoc (window bytes) w.0 later) reads)))
+refused_stays bytes more status (too_long is long lacks may) =
+    let same : window (bytes ++ more) ≡ window bytes = take-append-le 16384 bytes more long in
+    too_long is (omega (arith, long, length-append bytes more)) (subst Rattle.httparse.specs.Grammar.HasNoRequest (sym same) lacks) (subst MayBecomeRequest (sym same) may)
+refused_stays bytes more status (by_framing h behind begins refuses) =
+    by_framing h (behind ++ more) (ReadsRequest-append bytes h behind more begins.0, begins.1) (longer_refuses (head_framing h) behind more status refuses)

@@ -7,3 +7,7 @@ pub mod EndLemmas
 pub mod RequestLemmas
 pub mod LineLemmas
 pub mod AskLemmas
+pub mod HexLemmas
+pub mod DecideLemmas
+pub mod ReadingLemmas
+mod StandardFacts

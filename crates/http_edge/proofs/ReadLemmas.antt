@@ -1,12 +1,13 @@
 -- What reads into a buffer give goes on.
-use Rattle.std.proofs.Common.{arith, ◌≡◌, ◌≤◌, ℕ, List, [], length, ◌+◌, ◌++◌, take, sym, ap, ◌∙◌, length-append, append_assoc, append-nil}
-use Rattle.std.proofs.lemmas.List.{take-append-le, take_at, length-take-le}
+use Rattle.std.proofs.Common.{arith, ◌≡◌, ◌<◌, ◌≤◌, ◌⊎◌, inl, inr, ℕ, List, [], length, ◌+◌, ◌++◌, take, drop, sym, ap, ◌∙◌, length-append, append_assoc, append-nil}
+use Rattle.std.proofs.lemmas.List.{take-append-le, take_at, length-take-le, take-append-drop, drop-drop}
 use Rattle.std.proofs.Math.Seq.{take-append-add}
+use Rattle.std.proofs.Math.Nat.{eq-or-lt_of_le}
 use Rattle.engine_ports.specs.Source.{SourceView, SourceGave, ReadSays}
 use Rattle.engine_ports.specs.declared.ports.Got.{Got}
 use Rattle.engine_ports.specs.declared.ports.Got.TheVariants.{Bytes, End, Failed}
-use Rattle.engine_ports.proofs.PortLemmas.{source_on}
-use Rattle.http_edge.specs.Reading.{Fills, ReadsBehind}
+use Rattle.engine_ports.proofs.PortLemmas.{source_none, source_on}
+use Rattle.http_edge.specs.Reading.{Fills, Reached, IsBehind, ReadsBehind}
 
 -- the front of a buffer after a write behind the first len
 front_after : (old mid post : List ℕ) (len n : ℕ) → len ≤ length old → n ≤ length mid
@@ -44,3 +45,20 @@ fills_on a b c s t u f g = record {
   gave = source_on s t u f.read g.read f.gave g.gave;
   grows = g.grows ∙ ap (λ l. l ++ g.read) f.grows ∙ append_assoc a f.read g.read;
 }
+
+-- what was read ahead is given up, from its front on
+pub given_ahead : (ahead bytes front : List ℕ) (used count : ℕ) (s : SourceView) → drop used bytes ≡ ahead → front ≡ take count (drop used bytes)
+    → Reached ahead s s (λ all. all ≡ front ++ drop (used + count) bytes)
+given_ahead ahead bytes front used count s is copied = record {
+  read = [];
+  gave = source_none s;
+  holds = append-nil ahead ∙ sym is ∙ sym (rw (copied, ← drop-drop count used bytes) (take-append-drop count (drop used bytes)));
+}
+
+-- something is taken where something stands there and has room
+pub some_taken : (bytes : List ℕ) (used count size : ℕ) → IsBehind bytes used count size → used < length bytes → 0 < size → 0 < count
+some_taken bytes used count size b some room = go (eq-or-lt_of_le b.le)
+  where
+    go : (count ≡ size) ⊎ (count < size) → 0 < count
+    go (inl same) = omega (arith, same, room)
+    go (inr less) = omega (arith, b.whole less, some)

@@ -7,12 +7,12 @@ use Rattle.std.proofs.lemmas.List.{append-nil}
 use Rattle.httparse.proofs.GrammarLemmas.{print_request-append}
 use Rattle.httparse.specs.Spans.{RequestExceeds}
 
-end_takes : (e : LineEnd) → 1 ≤ length (print_end e)
+pub end_takes : (e : LineEnd) → 1 ≤ length (print_end e)
 end_takes crlf = omega arith
 end_takes lf = omega arith
 
 -- a field line has three bytes at least
-field_takes : (f : Field) → IsField f → 3 ≤ length (print_field f)
+pub field_takes : (f : Field) → IsField f → 3 ≤ length (print_field f)
 field_takes f is = omega (arith, end_takes f.end, is.name.0, length-append (f.name ++ 58 ∷ f.raw) (print_end f.end), length-append f.name (58 ∷ f.raw))
 
 fields_take : (fs : List Field) → All IsField fs → 3 * length fs ≤ length (flat_map print_field fs)
@@ -23,7 +23,7 @@ fields_take (f ∷ fs) all =
     omega (arith, here, later, length-append (print_field f) (flat_map print_field fs))
 
 -- a head is longer than its fields
-head_takes : (h : RequestHead) → IsRequestHead h → 3 * length h.fields + 13 ≤ length (print_request h)
+pub head_takes : (h : RequestHead) → IsRequestHead h → 3 * length h.fields + 13 ≤ length (print_request h)
 head_takes h is =
     let e = ap length (print_request-append h []) in
     let fields = fields_take h.fields is.fields in

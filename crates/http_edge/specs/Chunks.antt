@@ -1,5 +1,5 @@
 -- The bytes of a body by chunks (RFC 9112, section 7.1).
-use Rattle.std.specs.Prelude.{ℕ, ◌≡◌, ◌<◌, ◌+◌, nat_lt, if◌then◌else◌, List, [], ◌∷◌, ◌++◌, length, map, codes}
+use Rattle.std.specs.Prelude.{ℕ, ◌≡◌, ◌<◌, ◌+◌, nat_lt, if◌then◌else◌, List, ◌++◌, length, map, codes}
 use Rattle.std.specs.List.{flat_map, All}
 use Rattle.std.specs.Int.Digits.{digits_of}
 

@@ -1,5 +1,6 @@
 pub mod Limits
 pub mod Message
+pub mod Given
 pub mod Framing
 pub mod Spelling
 pub mod Refusal
@@ -14,3 +15,4 @@ pub mod Asks
 pub mod Room
 pub mod Response
 pub mod Chunks
+pub mod Laws

@@ -1,7 +1,9 @@
 -- What a reader of requests is, and what a call of `next` does to it.
-use Rattle.std.specs.Prelude.{◌≡◌, ◌⊎◌, ◌+◌, min, ℕ, [], take, None, Some}
+use Rattle.std.specs.Prelude.{◌≡◌, ◌<◌, ◌≤◌, ◌⊎◌, ◌+◌, ◌++◌, min, ℕ, List, [], length, take, None, Some}
 use Rattle.engine_ports.specs.Rose.{Rose, greatest_count}
-use Rattle.engine_ports.specs.Source.{SourceView, SourceEnded}
+use Rattle.engine_ports.specs.Source.{SourceView, SourceGave, SourceEnded}
+use Rattle.engine_ports.specs.declared.ports.Got.{Got}
+use Rattle.engine_ports.specs.declared.ports.Got.TheVariants as got
 use Rattle.http_edge.specs.Message.{Request}
 use Rattle.http_edge.specs.Spelling.{HasNoRequest}
 use Rattle.http_edge.specs.Refusal.{IsRefused, IsUnfinished}
@@ -52,3 +54,11 @@ NextSays old new next.CutShort s s' =
     Stops old new stop.CutShort s s' (Reached old.ahead s s' IsUnfinished × SourceEnded s s')
 NextSays old new next.ReadFault s s' =
     Stops old new stop.ReadFault s s' (Reached old.ahead s s' HasNoRequest × Rose s.faults s'.faults)
+
+-- what the bytes behind a takeover say: first those ahead, and then the source's
+abbrev pub RestSays : Got → List ℕ → Reading → Reading → SourceView → SourceView → Type 0
+RestSays (got.Bytes n) into old new s s' =
+    (0 < n) × (n ≤ length into) × (new.taken ≡ old.taken) × (new.stopped ≡ old.stopped)
+    × Reached old.ahead s s' (λ bytes. bytes ≡ take n into ++ new.ahead)
+RestSays got.End into old new s s' = (new ≡ old) × (old.ahead ≡ []) × SourceGave s [] s' × SourceEnded s s'
+RestSays got.Failed into old new s s' = (new ≡ old) × (old.ahead ≡ []) × SourceGave s [] s' × Rose s.faults s'.faults

@@ -1,5 +1,5 @@
 -- What is true of a request that stands in the reader's buffers (own: how it is kept).
-use Rattle.std.specs.Prelude.{◌≤◌, ℕ, List, length, take, IsUtf8}
+use Rattle.std.specs.Prelude.{◌≤◌, ℕ, List, length, IsUtf8}
 use Rattle.httparse.specs.Spans.{span_bytes, IsRequestWithin}
 use Rattle.httparse.specs.declared.spans.HeaderSpan.{HeaderSpan}
 use Rattle.httparse.specs.declared.spans.RequestSpans.{RequestSpans}

@@ -1,13 +1,13 @@
 // A reader of requests with buffers of its own.
-ghost use Rattle.std.specs.Prelude.{◌≡◌, ◌≤◌, List, ℕ, [], None, length, take, drop, IfOk};
+ghost use Rattle.std.specs.Prelude.{◌≡◌, ◌<◌, ◌≤◌, List, ℕ, [], None, length, take, drop, IfOk};
 ghost use Rattle.std.specs.Borrow.{sem};
 ghost use Rattle.http_edge.specs.Limits.{head_limit, field_places, body_limit};
 ghost use Rattle.http_edge.specs.Outcome.{Facts};
 
 use crate::limits::{BODY_LIMIT, FIELD_PLACES, HEAD_LIMIT};
-use crate::request::{Outcome, read_request, shift};
+use crate::request::{Outcome, copy_behind, read_request, shift};
 use crate::view::{Buffers, RequestView};
-use engine_ports::{NoMemory, Source};
+use engine_ports::{Got, NoMemory, Source};
 use httparse::spans::EMPTY_HEADER_SPAN;
 use std::alloc::Global;
 use std::marker::Model;
@@ -96,6 +96,7 @@ fn read_ahead<S: Source>(
 
 impl RequestReader {
     ghost use Rattle.http_edge.specs.Lending.{RestsAfter};
+    ghost use Rattle.http_edge.specs.Reader.{RestSays};
 
     /// Takes all memory that reading needs: 16,384 bytes and 5,462 field places for a head, and
     /// 1,048,576 bytes for a body.
@@ -157,5 +158,19 @@ impl RequestReader {
                 Next::ReadFault
             }
         }
+    }
+
+    /// Reads on behind a request that takes the connection over, into a place that isn't empty:
+    /// first what was read ahead, and then from the source. It takes no memory.
+    pub fn take_rest<S: Source>(&mut self, source: &mut S, into: &mut [u8]) -> Got
+        requires { 0 < length into.old }
+        ensures { RestSays result into.new self.old self.new (S.gives source.old) (S.gives source.new) }
+    {
+        if self.used == self.len {
+            return source.read(into);
+        }
+        let count = copy_behind(&self.buffers.head[..self.len], self.used, into);
+        self.used += count;
+        Got::Bytes(count)
     }
 }

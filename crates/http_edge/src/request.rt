@@ -32,7 +32,7 @@ pub(crate) fn shift(buffer: &mut [u8], used: usize, len: usize) -> usize
 }
 
 /// Copies the bytes behind the head, as many as the body has, and answers how many they are.
-fn copy_behind(bytes: &[u8], place: usize, body: &mut [u8]) -> usize
+pub(crate) fn copy_behind(bytes: &[u8], place: usize, body: &mut [u8]) -> usize
     requires { place ≤ length bytes.now }
     ensures behind { IsBehind bytes.now place result (length body.new) }
     ensures copied { take result body.new ≡ take result (drop place bytes.now) }

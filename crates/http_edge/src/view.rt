@@ -3,6 +3,7 @@ ghost use Rattle.std.specs.Prelude.{◌≡◌, ◌≤◌, length, take, IsUtf8};
 ghost use Rattle.http_edge.specs.Shown.{IsShown};
 
 use crate::asks::{Want, has_field};
+use crate::shown_fields::Fields;
 use httparse::spans::{HeaderSpan, RequestSpans};
 use std::str;
 
@@ -44,6 +45,13 @@ impl<'r> RequestView<'r> {
         text(self.found.path.of(self.head()))
     }
 
+    /// The fields, in order.
+    pub fn fields(&self) -> Fields<'r>
+        ensures { result ≡ (request_of self.now).fields }
+    {
+        Fields::new(self.head(), self.spans())
+    }
+
     /// The body.
     pub fn body(&self) -> &'r [u8]
         ensures { result.now ≡ (request_of self.now).body }
@@ -62,7 +70,13 @@ impl<'r> RequestView<'r> {
     pub fn closes(&self) -> bool
         ensures { result ≡ closes (request_of self.now) }
     {
-        has_field(self.head(), self.spans(), b"connection", Want::Token, b"close")
+        has_field(
+            self.head(),
+            self.spans(),
+            b"connection",
+            Want::Token,
+            b"close",
+        )
     }
 
     /// Whether the request asks to upgrade the connection.

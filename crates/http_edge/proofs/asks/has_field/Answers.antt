@@ -1,4 +1,4 @@
-use Rattle.std.proofs.Common.{arith, ◌≡◌, ◌∙◌, ap, sym}
+use Rattle.std.proofs.Common.{◌∙◌, ap, sym}
 use Rattle.http_edge.specs.Message.{is_same_text}
 use Rattle.http_edge.specs.Asks.{fits}
 use Rattle.http_edge.proofs.AskLemmas.{any_at, both_true}

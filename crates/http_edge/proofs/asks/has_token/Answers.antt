@@ -1,5 +1,4 @@
-use Rattle.std.proofs.Common.{arith, ◌≡◌, ◌<◌, ◌∙◌, ap, sym, true, false, length, take}
-use Rattle.httparse.specs.Grammar.{trim_ows}
+use Rattle.std.proofs.Common.{arith, ◌<◌, ◌∙◌, ap, sym, length}
 use Rattle.http_edge.specs.Message.{is_same_text}
 use Rattle.http_edge.specs.Asks.{has_token}
 use Rattle.http_edge.proofs.AskLemmas.{IsCut, token_found, token_missed, token_later, cut_twice}
