@@ -11,4 +11,3 @@ no-letter (c ∷ rest) h = by (c == letter_v) refl
     by : (v : Bool) → (c == letter_v) ≡ v → cond v (version_in rest (before_first (λ b. b == dot) rest) (after_first (λ b. b == dot) rest)) None ≡ None
     by true e = let q : c ≡ letter_v = grind (arith, nat_tests) in absurd (h rest (ap (λ x. x ∷ rest) q))
     by false e = refl
-

@@ -7,6 +7,7 @@ use Rattle.engine_text.specs.declared.call.AttachAsk.{AttachAsk}
 use Rattle.engine_text.specs.declared.filter.FilterKey.{FilterKey}
 use Rattle.engine_text.specs.declared.filter.FilterKey.TheVariants as key
 use Rattle.engine_text.specs.declared.filter.FilterRow.{FilterRow}
+use Rattle.api_json.specs.Create.{create_of}
 use Rattle.api_json.specs.ExecCreate.{exec_of, exec_start_of}
 use Rattle.api_json.specs.VolumeCreate.{volume_of}
 use Rattle.api_json.specs.Filters.{filter_of}
@@ -15,7 +16,7 @@ use Rattle.api_routes.specs.Fault.{and_then}
 use Rattle.api_routes.specs.Query.{value_or_empty}
 use Rattle.api_routes.specs.Keys.{flag, create_name, new_name, signal_in, kill_signal, seconds_in, limit_in, tail_in, condition_in, time_in}
 use Rattle.api_routes.specs.declared.fault.Fault.{Fault}
-use Rattle.api_routes.specs.declared.fault.Fault.TheVariants.{Body, NoStream, LinksLeftOut, NotBuilt}
+use Rattle.api_routes.specs.declared.fault.Fault.TheVariants.{Body, NoStream, LinksLeftOut}
 
 -- what a body says, or its fault
 abbrev pub of_body : {A : Type 0} → Result A BodyFault → Result A Fault
@@ -31,7 +32,9 @@ filters_in keys query = of_body (filter_of keys (value_or_empty (codes "filters"
 -- the body's faults come before those of the name
 abbrev pub create_call : List ℕ → List ℕ → Result Call Fault
 create_call query body =
-    and_then (create_name query) (λ name. Err NotBuilt)
+    and_then (of_body (create_of None body)) (λ spec.
+    and_then (create_name query) (λ name.
+    Ok (call.Create (record spec { name = name }))))
 
 abbrev pub list_keys : List FilterKey
 list_keys = key.Id ∷ key.Name ∷ key.State ∷ key.Exited ∷ key.Ancestor ∷ key.Label ∷ key.Volume ∷ []
@@ -94,9 +97,9 @@ abbrev pub log_ask : List ℕ → Result LogAsk Fault
 log_ask query =
     if flag (codes "stdout") query || flag (codes "stderr") query
     then and_then (time_in (codes "since") query) (λ since.
-        and_then (time_in (codes "until") query) (λ until.
-        and_then (tail_in query) (λ tail.
-        Ok (asked_logs query since until tail))))
+    and_then (time_in (codes "until") query) (λ until.
+    and_then (tail_in query) (λ tail.
+    Ok (asked_logs query since until tail))))
     else Err NoStream
 
 abbrev pub logs_call : List ℕ → List ℕ → Result Call Fault

@@ -2,7 +2,8 @@
 use Rattle.std.specs.Prelude.{ℕ, List, Bool, Option, Some, None, codes, Result, Ok, Err, if◌then◌else◌}
 use Rattle.engine_text.specs.Texts.{same_bytes}
 use Rattle.route_laws.specs.Segments.{segments}
-use Rattle.api_routes.specs.Request.{Request, asks_upgrade}
+use Rattle.http_edge.specs.Message.{Request}
+use Rattle.http_edge.specs.Asks.{asks_upgrade}
 use Rattle.api_routes.specs.Routes.{method_of, route_for}
 use Rattle.api_routes.specs.Fault.{and_then, status_of, message_of}
 use Rattle.api_routes.specs.Path.{path_of, query_of, parameter_of}

@@ -1,4 +1,3 @@
-pub mod Request
 pub mod Routes
 pub mod Fault
 pub mod Reading
@@ -11,3 +10,4 @@ pub mod Built
 pub mod Calls
 pub mod RouteClass
 pub mod Class
+pub mod Laws

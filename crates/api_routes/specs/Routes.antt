@@ -1,7 +1,7 @@
 -- The table of routes by method (Docker Engine API v1.43, the operations of containers, exec, volumes and system; own: engine/journal).
-use Rattle.std.specs.Prelude.{ℕ, List, [], ◌∷◌, Option, Some, None, codes, if◌then◌else◌}
+use Rattle.std.specs.Prelude.{◌≡◌, ℕ, List, [], ◌∷◌, Option, Some, None, codes, if◌then◌else◌}
 use Rattle.engine_text.specs.Texts.{same_bytes}
-use Rattle.route_laws.specs.Segments.{Segment, row_for}
+use Rattle.route_laws.specs.Segments.{Segment, Fits, HasRow, Answers, row_for}
 use Rattle.route_laws.specs.Segments.Segment.{text, parameter}
 use Rattle.api_routes.specs.declared.route.Route.{Route}
 use Rattle.api_routes.specs.declared.route.Route.TheVariants as to
@@ -72,3 +72,8 @@ method_of name =
 abbrev pub route_for : Option Method → List (List ℕ) → Option Route
 route_for None segments = None
 route_for (Some method) segments = row_for (table_of method) segments
+
+-- the route that a method's segments fit is given, none is given only where none fits, and no other fits
+abbrev pub OneRouteFits : Type 0
+OneRouteFits = (m : Method) (ss : List (List ℕ)) → Answers (table_of m) ss (row_for (table_of m) ss)
+    × ((r : List Segment) (to : Route) → HasRow r to (table_of m) → Fits r ss → row_for (table_of m) ss ≡ Some to)

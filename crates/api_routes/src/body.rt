@@ -1,4 +1,6 @@
 // The bodies and filters of requests, with their faults.
+ghost use Rattle.std.specs.Prelude.{None};
+ghost use Rattle.api_json.specs.Create.{create_of};
 ghost use Rattle.api_json.specs.ExecCreate.{exec_of, exec_start_of};
 ghost use Rattle.api_json.specs.VolumeCreate.{volume_of};
 ghost use Rattle.api_routes.specs.Calls.{of_body, filters_in};
@@ -8,11 +10,22 @@ use crate::Fault;
 use crate::query::value_or_empty;
 use crate::refused::Refused;
 use api_json::{
-    BodyFault, ExecSpec, Refused as BodyRefused, VolumeSpec, read_exec,
+    BodyFault, ExecSpec, Refused as BodyRefused, VolumeSpec, read_create, read_exec,
     read_exec_start, read_filter, read_volume,
 };
-use engine_text::{Filter, FilterKey};
+use engine_text::{CreateSpec, Filter, FilterKey};
 use std::alloc::Global;
+
+/// What the body of a create asks for, without a name.
+pub(crate) fn create_body(alloc: Global, body: &[u8]) -> Result<CreateSpec, Refused>
+    ensures { Reads result (of_body (create_of None body.now)) }
+{
+    match read_create(alloc, None, body) {
+        Ok(spec) => Ok(spec),
+        Err(BodyRefused::BadBody(fault)) => Err(Refused::Fault(Fault::Body(fault))),
+        Err(BodyRefused::NoMemory) => Err(Refused::NoMemory),
+    }
+}
 
 /// What the body of an exec create asks for.
 pub(crate) fn exec_body(alloc: Global, body: &[u8]) -> Result<ExecSpec, Refused>

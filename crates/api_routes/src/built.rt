@@ -42,5 +42,9 @@ pub(crate) fn if_built(class: Class) -> Result<Class, Refused>
         Class::Direct(_) => true,
         Class::Ask(call) | Class::Stream(call, _) => is_built(call),
     };
-    if built { Ok(class) } else { Err(Refused::Fault(Fault::NotBuilt)) }
+    if built {
+        Ok(class)
+    } else {
+        Err(Refused::Fault(Fault::NotBuilt))
+    }
 }

@@ -3,7 +3,7 @@ ghost use Rattle.api_routes.specs.Calls as spec;
 ghost use Rattle.api_routes.specs.Reading.{Reads};
 
 use crate::Fault;
-use crate::body::filters_in;
+use crate::body::{create_body, filters_in};
 use crate::keys::{condition_in, flag, limit_in, seconds_in};
 use crate::names::{create_name, new_name, signal_in};
 use crate::refused::Refused;
@@ -17,8 +17,9 @@ const KILL: Signal = Signal { number: 9 };
 pub(crate) fn create_call(alloc: Global, query: &str, body: &[u8]) -> Result<Call, Refused>
     ensures { Reads result (spec.create_call query.now body.now) }
 {
-    let _ = (create_name(alloc, query)?, body);
-    Err(Refused::Fault(Fault::NotBuilt))
+    let mut spec = create_body(alloc, body)?;
+    spec.name = create_name(alloc, query)?;
+    Ok(Call::Create(spec))
 }
 
 /// The list that a request asks for.

@@ -8,6 +8,7 @@ mod containers;
 mod execs;
 mod fault;
 mod keys;
+mod laws;
 mod logs;
 mod method;
 mod names;
@@ -24,6 +25,11 @@ mod version;
 
 pub use class::{Class, DirectAnswer, DirectKind, Takeover};
 pub use fault::Fault;
+pub use laws::{law_creates, law_served_calls};
 pub use method::Method;
 pub use route::Route;
 pub use routes::Routes;
+pub use table::law_one_route_fits;
+
+#[cfg(test)]
+mod tests;

@@ -17,7 +17,11 @@ pub(crate) fn create_name(alloc: Global, query: &str) -> Result<Option<Text>, Re
     if name.len() == 0 {
         return Ok(None);
     }
-    if is_name(name.as_str()) { Ok(Some(name)) } else { Err(Refused::Fault(Fault::InvalidName(name))) }
+    if is_name(name.as_str()) {
+        Ok(Some(name))
+    } else {
+        Err(Refused::Fault(Fault::InvalidName(name)))
+    }
 }
 
 /// The new name that a rename asks for.
@@ -25,7 +29,11 @@ pub(crate) fn new_name(alloc: Global, query: &str) -> Result<Text, Refused>
     ensures { Reads result (spec.new_name query.now) }
 {
     let name = value_or_empty(alloc, query, "name")?;
-    if is_name(name.as_str()) { Ok(name) } else { Err(Refused::Fault(Fault::InvalidName(name))) }
+    if is_name(name.as_str()) {
+        Ok(name)
+    } else {
+        Err(Refused::Fault(Fault::InvalidName(name)))
+    }
 }
 
 /// The signal that is asked for.

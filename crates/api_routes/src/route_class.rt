@@ -15,7 +15,8 @@ use engine_text::{Call, NoMemory, Text};
 use std::alloc::Global;
 
 /// The body of the version.
-const VERSION_BODY: &str = "{\"ApiVersion\":\"1.43\",\"Arch\":\"amd64\",\"MinAPIVersion\":\"1.24\",\"Os\":\"linux\",\"Version\":\"1.0.0\"}";
+const VERSION_BODY: &str =
+    "{\"ApiVersion\":\"1.43\",\"Arch\":\"amd64\",\"MinAPIVersion\":\"1.24\",\"Os\":\"linux\",\"Version\":\"1.0.0\"}";
 
 // A fixed answer.
 fn fixed(alloc: Global, text: &str, kind: DirectKind) -> Result<Class, NoMemory>
@@ -32,7 +33,11 @@ fn fixed(alloc: Global, text: &str, kind: DirectKind) -> Result<Class, NoMemory>
 fn takeover(upgrade: bool) -> Takeover
     ensures { result ≡ spec.takeover upgrade }
 {
-    if upgrade { Takeover::Upgrade } else { Takeover::Plain }
+    if upgrade {
+        Takeover::Upgrade
+    } else {
+        Takeover::Plain
+    }
 }
 
 // The class of an exec start; a detached exec is only answered.
@@ -40,7 +45,11 @@ fn exec_start_class(id: Text, upgrade: bool, detach: bool) -> Class
     ensures { result ≡ spec.exec_start_class id upgrade detach }
 {
     let call = Call::ExecStart { id, detach };
-    if detach { Class::Ask(call) } else { Class::Stream(call, takeover(upgrade)) }
+    if detach {
+        Class::Ask(call)
+    } else {
+        Class::Stream(call, takeover(upgrade))
+    }
 }
 
 /// The class of a route's request: `name` is the text of the path's parameter.

@@ -1,5 +1,6 @@
 // The class of a request.
 ghost use Rattle.std.specs.Prelude.{◌≡◌, IfOk};
+ghost use Rattle.http_edge.specs.Reader.{request_of};
 ghost use Rattle.route_laws.specs.Segments.{segments};
 ghost use Rattle.api_routes.specs.Class as spec;
 ghost use Rattle.api_routes.specs.Routes.{method_of, route_for};
@@ -13,6 +14,7 @@ use crate::table::Table;
 use crate::version::behind_version;
 use crate::{Class, DirectAnswer, DirectKind, Fault, Method, Route};
 use engine_text::NoMemory;
+use http_edge::RequestView;
 use std::alloc::Global;
 
 /// The table of routes.
@@ -25,7 +27,11 @@ pub struct Routes {
 fn message_kind(method: &str) -> DirectKind
     ensures { result ≡ spec.message_kind method.now }
 {
-    if method == "HEAD" { DirectKind::MessageHead } else { DirectKind::Message }
+    if method == "HEAD" {
+        DirectKind::MessageHead
+    } else {
+        DirectKind::Message
+    }
 }
 
 // The answer that tells a fault.
@@ -97,5 +103,14 @@ impl Routes {
             Err(Refused::Fault(fault)) => refusal(alloc, method, &fault),
             Err(Refused::NoMemory) => Err(NoMemory),
         }
+    }
+
+    /// The class of a request: by its version, method, path, query and body.
+    #[tactic(auto, unfolding(crate::specs::Class::class_of))]
+    pub fn classify(&self, alloc: Global, request: &RequestView<'_>) -> Result<Class, NoMemory>
+        ensures { IfOk result (λ c. c ≡ spec.class_of (request_of request.now)) }
+    {
+        let (method, target, body) = (request.method(), request.target(), request.body());
+        self.class_of(alloc, method, target, body, request.asks_upgrade())
     }
 }

@@ -100,3 +100,8 @@ impl Table {
         }
     }
 }
+
+/// No request fits two routes, and the route that is given is the one that it fits.
+pub fn law_one_route_fits()
+    ensures { spec.OneRouteFits }
+{}

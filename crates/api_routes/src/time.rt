@@ -41,7 +41,11 @@ fn read_decimals(text: &str) -> Option<u64>
     ensures bound { IfSome result (λ n. n ≤ 999) }
 {
     let bytes = text.as_bytes();
-    if bytes.len() <= 9 && all_digits(bytes) { Some(thousandths(bytes)) } else { None }
+    if bytes.len() <= 9 && all_digits(bytes) {
+        Some(thousandths(bytes))
+    } else {
+        None
+    }
 }
 
 // Seconds with decimals, counted down to milliseconds.

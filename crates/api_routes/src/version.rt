@@ -13,6 +13,7 @@ use std::alloc::Global;
 
 /// The lowest and the highest minor number that are served, both of version 1.
 const LOWEST_MINOR: u64 = 24;
+
 const HIGHEST_MINOR: u64 = 43;
 
 /// A numeral of a version has at most so many digits.
@@ -38,7 +39,10 @@ fn after_v(segment: &str) -> Option<&str>
 fn version_in<'p>(text: &'p str, before: &str, behind: &str) -> Option<Version<'p>>
     ensures { option_map spec.seen result ≡ spec.version_in text.now before.now behind.now }
 {
-    match (number_of(before, NUMERAL_DIGITS), number_of(behind, NUMERAL_DIGITS)) {
+    match (
+        number_of(before, NUMERAL_DIGITS),
+        number_of(behind, NUMERAL_DIGITS),
+    ) {
         (Some(major), Some(minor)) => Some(Version { text, major, minor }),
         _ => None,
     }

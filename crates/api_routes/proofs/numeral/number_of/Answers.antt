@@ -9,7 +9,7 @@ pub returns : goal.returns
 returns c =
     let good = sym c.is_numeral.ensures ∙ c.if-not-is_numeral.false in
     let value : c.ok.result ≡ number_of c.args.most c.args.text.now =
-        c.ok.ensures.value ∙ ap result_ok (parsed c.args.most c.args.text.now _ c.requires c.parse.ensures.value.0 good)
-        ∙ sym (ap (λ b. if b then Some (digits_value 10 c.args.text.now) else None) good)
+    c.ok.ensures.value ∙ ap result_ok (parsed c.args.most c.args.text.now _ c.requires c.parse.ensures.value.0 good)
+    ∙ sym (ap (λ b. if b then Some (digits_value 10 c.args.text.now) else None) good)
     in
     record { value = value; bound = number-small c.args.most c.args.text.now _ value }
