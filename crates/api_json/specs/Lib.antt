@@ -15,3 +15,4 @@ pub mod Filters
 pub mod MountForms
 pub mod HostConfig
 pub mod Create
+pub mod Views

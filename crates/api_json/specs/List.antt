@@ -1,6 +1,6 @@
 -- The text of a list of containers (Docker Engine API v1.43, ContainerList, definition ContainerSummary).
 use Rattle.std.specs.Prelude.{ℕ, ◌/◌, List, [], ◌∷◌, ◌++◌, codes}
-use Rattle.std.specs.List.{join_with_byte}
+use Rattle.std.specs.List.{join_by}
 use Rattle.serde_json.specs.Data.{Data, object, no_members, member}
 use Rattle.serde_json.specs.Written.{compact_text}
 use Rattle.json_laws.specs.Pairs.{words_data}
@@ -12,7 +12,7 @@ use Rattle.api_json.specs.Status.{status_word, status_text}
 -- the words joined by blanks; `Created` in seconds
 abbrev pub listed_data : Listed → Data
 listed_data c = object (
-    member (codes "Command") (text (join_with_byte 32 c.words)) (
+    member (codes "Command") (text (join_by (λ w. w) (codes " ") c.words)) (
     member (codes "Created") (natural (c.created / 1000)) (
     member (codes "Id") (text c.id) (
     member (codes "Image") (text image_name) (

@@ -1,20 +1,31 @@
 //! Bodies of requests and answers, and event lines, both ways.
 #![tactic(auto)]
 
+mod container;
 mod create;
+mod exec;
 mod exec_create;
 mod fault;
 mod fields;
 mod filters;
 mod host_config;
+mod list;
 mod lists;
+mod mount;
 mod mount_forms;
+mod status;
 mod values;
+mod volume;
 mod volume_create;
 
+pub use container::{ContainerView, container_body};
 pub use create::read_create;
+pub use exec::{ExecView, exec_body};
 pub use exec_create::{ExecSpec, read_exec, read_exec_start};
 pub use fault::{BodyFault, BodyKey, Refused};
 pub use filters::{filter_word, read_filter};
-pub use values::{IMAGE_NAME, body_text, words_value, pairs_value, moment_string};
+pub use list::list_body;
+pub use status::{status_text, status_word};
+pub use values::IMAGE_NAME;
+pub use volume::{VolumeView, volume_body, volumes_body};
 pub use volume_create::{VolumeSpec, read_volume};

@@ -1,5 +1,5 @@
 // Pieces of bodies as JSON values.
-ghost use Rattle.std.specs.Prelude.{◌≡◌, IfOk, string_bytes, false};
+ghost use Rattle.std.specs.Prelude.{◌≡◌, ◌++◌, IfOk, string_bytes, false, drop, codes};
 ghost use Rattle.serde_json.specs.View.{view};
 ghost use Rattle.serde_json.specs.Written.{has_float, compact_text};
 ghost use Rattle.json_laws.specs.Pairs.{words_data};
@@ -56,4 +56,31 @@ pub fn moment_string(alloc: Global, moment: Option<u64>) -> Result<String, Alloc
         return Err(AllocError);
     };
     String::from_str(alloc, text)
+}
+
+/// The first word, or the empty text.
+pub fn first_word(words: &[Text]) -> &str
+    ensures { result.now ≡ spec.first_word words.now }
+{
+    match words {
+        [] => "",
+        [first, ..] => first.as_str(),
+    }
+}
+
+/// The words after the first.
+pub fn later_words(words: &[Text]) -> &[Text]
+    ensures { result.now ≡ drop 1 words.now }
+{
+    match words {
+        [] => words,
+        [_, later @ ..] => later,
+    }
+}
+
+/// A name with a slash before it.
+pub fn slash_name(alloc: Global, name: &str) -> Result<String, AllocError>
+    ensures { IfOk result (λ s. string_bytes s ≡ codes "/" ++ name.now) }
+{
+    format!(in alloc; "/{name}")
 }

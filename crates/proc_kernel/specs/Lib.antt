@@ -4,3 +4,4 @@ pub mod Slots
 pub mod Catalogue
 pub mod Foretelling
 pub mod KernelInside
+pub mod Times

@@ -50,6 +50,11 @@ abbrev pub due_at : Option Process → Option ℕ
 due_at None = None
 due_at (Some p) = next_due p
 
+-- When the next op of an entry's process is due.
+abbrev pub due_in : Option Entry → Option ℕ
+due_in None = None
+due_in (Some e) = next_due e.process
+
 -- How long the record of the process's next op is.
 abbrev pub length_at : Option Process → ℕ
 length_at None = 0

@@ -1,9 +1,9 @@
-ghost use Rattle.std.specs.Prelude.{◌≡◌, ℕ, Some, None, ◌<◌, ◌+◌, ◌≤◌, [], ◌∷◌, ◌++◌, position, All, IfOk, OnOk, OnErr, map};
+ghost use Rattle.std.specs.Prelude.{◌≡◌, ℕ, Some, None, ◌<◌, ◌+◌, ◌≤◌, [], ◌∷◌, ◌++◌, position, All, IfOk, OnOk, OnErr, map, length, option_map, slice_get};
 ghost use Rattle.std.specs.VecDeque.{deque_len, deque_capacity};
 ghost use Rattle.engine_text.specs.Owner.{same_owner};
 ghost use Rattle.proc_kernel.specs.Processes.{run_due, spawn, feed, feed_end, freeze, thaw, signal, CanThaw};
 ghost use Rattle.proc_kernel.specs.Foretelling.{code_at};
-ghost use Rattle.proc_kernel.specs.Tables.{Table, change, process_of, after_step, effect_at, without, due_at, length_at, room_at, begun, OfProcess};
+ghost use Rattle.proc_kernel.specs.Tables.{Table, change, process_of, after_step, effect_at, without, due_at, due_in, length_at, room_at, begun, OfProcess};
 
 use super::rooms::{buffers_of, trays_of, widen};
 use super::slot::Slot;
@@ -207,6 +207,33 @@ impl Kernel {
     {
         if let Some(i) = place_of(self.slots.as_slice(), owner) {
             self.slots.remove(i);
+        }
+    }
+
+    /// How many processes there are.
+    pub fn len(&self) -> usize
+        ensures { result ≡ length self.now.processes }
+    {
+        self.slots.len()
+    }
+
+    /// Whose the process at that place is.
+    pub fn owner_at(&self, place: usize) -> Option<Owner>
+        ensures { result ≡ option_map (λ e. e.owner) (slice_get self.now.processes place) }
+    {
+        match self.slots.as_slice().get(place) {
+            None => None,
+            Some(slot) => Some(slot.owner),
+        }
+    }
+
+    /// When the next op of the process at that place is due.
+    pub fn due_of(&self, place: usize) -> Option<u64>
+        ensures { result ≡ due_in (slice_get self.now.processes place) }
+    {
+        match self.slots.as_slice().get(place) {
+            None => None,
+            Some(slot) => slot.next_due(),
         }
     }
 

@@ -1,0 +1,64 @@
+// Mounts as JSON values (Docker Engine API v1.43, definition MountPoint).
+ghost use Rattle.std.specs.Prelude.{◌≡◌, IfOk, string_bytes, not, codes, []};
+ghost use Rattle.serde_json.specs.View.{view};
+ghost use Rattle.api_json.specs.Mount as spec;
+ghost use Rattle.api_json.specs.Values.{list_of};
+
+use engine_text::Mount;
+use serde_json::{Value, json};
+use std::alloc::{AllocError, Global};
+
+/// Where a volume's data lie.
+pub fn source_of(alloc: Global, volume: &str) -> Result<String, AllocError>
+    ensures { IfOk result (λ s. string_bytes s ≡ spec.source_of volume.now) }
+{
+    format!(in alloc; "/var/lib/engine/volumes/{volume}/_data")
+}
+
+// The object of a mount's parts.
+fn mount_object(
+    alloc: Global,
+    target: &str,
+    volume: &str,
+    writes: bool,
+    source: &str,
+) -> Result<Value, AllocError>
+    ensures { IfOk result
+        (λ v. view v ≡ spec.mount_object target.now volume.now writes source.now) }
+{
+    json!(in alloc; {
+        "Destination": target,
+        "Driver": "local",
+        "Mode": "",
+        "Name": volume,
+        "RW": writes,
+        "Source": source,
+        "Type": "volume",
+    })
+}
+
+// A mount.
+fn mount_value(alloc: Global, mount: &Mount) -> Result<Value, AllocError>
+    ensures { IfOk result (λ v. view v ≡ spec.mount_data mount.now) }
+{
+    let volume = mount.volume.as_str();
+    let source = source_of(alloc, volume)?;
+    mount_object(
+        alloc,
+        mount.target.as_str(),
+        volume,
+        !mount.read_only,
+        source.as_str(),
+    )
+}
+
+/// The list of these mounts.
+pub fn mounts_value(alloc: Global, mounts: &[Mount]) -> Result<Value, AllocError>
+    ensures { IfOk result (λ v. view v ≡ list_of spec.mount_data mounts.now) }
+{
+    let mut items = Vec::new(alloc);
+    'mounts: for mount in mounts {
+        items.push(mount_value(alloc, mount)?)?;
+    }
+    Ok(Value::Array(items))
+}

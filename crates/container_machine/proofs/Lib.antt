@@ -1,0 +1,10 @@
+pub mod Lists
+pub mod TextLemmas
+pub mod FindLemmas
+pub mod NameLemmas
+pub mod CreateLemmas
+pub mod Moments
+pub mod Committed
+pub mod KeptSame
+pub mod KeptAdded
+pub mod Ready

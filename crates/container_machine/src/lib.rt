@@ -1,0 +1,19 @@
+//! The machine of containers: what each call and each due action does to its state.
+#![tactic(auto)]
+
+mod answers;
+mod built;
+mod calls;
+mod events;
+mod find;
+mod machine;
+mod names;
+mod prepared;
+mod refusals;
+#[cfg(test)]
+mod tests;
+mod texts;
+
+pub use built::is_built;
+pub use machine::Machine;
+pub use prepared::{Change, Prepared};
