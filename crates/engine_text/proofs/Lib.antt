@@ -4,5 +4,6 @@ pub mod YearLemmas
 pub mod CalendarLemmas
 pub mod MomentLemmas
 pub mod MomentFacts
+pub mod StandardFacts
 pub mod QueryLemmas
 pub mod SignalLemmas

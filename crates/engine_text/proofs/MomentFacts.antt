@@ -1,4 +1,4 @@
--- Texts that are known.
+-- Texts of moments that are known.
 use Rattle.std.proofs.Common.{◌≡◌, refl}
 use Rattle.std.specs.Prelude.{codes}
 use Rattle.engine_text.specs.Moment.{place_of, year_of, month_of, day_text, clock_text, date_time_text}

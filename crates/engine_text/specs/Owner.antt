@@ -1,5 +1,5 @@
 -- When two owners of processes are one (own).
-use Rattle.std.specs.Prelude.{ℕ, ◌==◌, Bool, false}
+use Rattle.std.specs.Prelude.{◌==◌, Bool, false}
 use Rattle.engine_text.specs.declared.owner.Owner.{Owner}
 use Rattle.engine_text.specs.declared.owner.Owner.TheVariants.{Container, Exec}
 

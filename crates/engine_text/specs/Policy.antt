@@ -1,5 +1,5 @@
 -- Restart policies by their names (Docker Engine API v1.43, definition RestartPolicy).
-use Rattle.std.specs.Prelude.{ℕ, ℤ, pos, negsuc, ◌==◌, nat_le, List, codes, Bool, false, Result, Ok, Err, if◌then◌else◌, ◌||◌}
+use Rattle.std.specs.Prelude.{ℕ, ℤ, pos, negsuc, ◌==◌, nat_le, List, codes, Result, Ok, Err, if◌then◌else◌, ◌||◌}
 use Rattle.engine_text.specs.declared.policy.Policy.{Policy}
 use Rattle.engine_text.specs.declared.policy.Policy.TheVariants.{No, Always, UnlessStopped, OnFailure}
 use Rattle.engine_text.specs.declared.policy.Bad.{Bad}

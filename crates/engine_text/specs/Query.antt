@@ -1,5 +1,5 @@
 -- Truth values of a query (Docker Engine API v1.43, the boolean parameters; own: which texts are false).
-use Rattle.std.specs.Prelude.{ℕ, ◌==◌, List, [], ◌∷◌, ◌++◌, codes, Bool, ◌||◌, not, if◌then◌else◌}
+use Rattle.std.specs.Prelude.{ℕ, ◌==◌, List, [], ◌∷◌, codes, Bool, ◌||◌, not, if◌then◌else◌}
 use Rattle.std.specs.List.{list_all}
 use Rattle.engine_text.specs.Texts.{same_letters}
 

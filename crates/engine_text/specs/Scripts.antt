@@ -10,6 +10,7 @@ pub record Program : Type 0 where
   pub ops : List Op
   pub manner : Manner
 
+-- The script of those ops and that manner.
 abbrev pub script_of : List Op → Manner → Program
 script_of ops manner = record { ops = ops; manner = manner }
 
@@ -50,7 +51,7 @@ IsShort (Again n) = n ≤ longest
 IsShort (Exit c) = ⊤
 IsShort WaitForever = ⊤
 
--- How many bytes the first of these ops writes.
+-- How many bytes an op writes of its own.
 abbrev pub written_by : Op → ℕ
 written_by (Write s b) = length b
 written_by Copy = 0
@@ -60,6 +61,7 @@ written_by (Again n) = 0
 written_by (Exit c) = 0
 written_by WaitForever = 0
 
+-- How many bytes the first of these ops writes of its own.
 abbrev pub first_length : List Op → ℕ
 first_length [] = 0
 first_length (op ∷ ops) = written_by op

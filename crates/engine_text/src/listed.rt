@@ -1,4 +1,4 @@
-// Items of the lists of containers and volumes (Docker Engine API v1.43, ContainerList, VolumeList).
+// Items of the lists (Docker Engine API v1.43, ContainerList, VolumeList).
 use super::{Mounts, Pairs, Status, Text, Words};
 
 /// A container as the list shows it; `code` is its last exit code, `created` a moment in

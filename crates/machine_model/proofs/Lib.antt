@@ -14,3 +14,4 @@ pub mod CreateLemmas
 pub mod InspectLemmas
 pub mod SoundFacts
 pub mod JournalFacts
+pub mod StreamFacts

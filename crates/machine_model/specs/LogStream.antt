@@ -7,15 +7,14 @@ use Rattle.machine_model.specs.State.{State, container_numbered, is_live}
 use Rattle.machine_model.specs.Effects.Settle.{is_at_rest}
 use Rattle.machine_model.specs.Calls.Logs.{is_selected}
 use Rattle.machine_model.specs.Streams.{RunState, Coming, Live, Over, run_state}
-use Rattle.machine_model.specs.Frames.{Piece, framed}
+use Rattle.stream_frame.specs.Frames.{Part}
+use Rattle.machine_model.specs.Frames.{framed}
 use Rattle.engine_text.specs.declared.owner.Owner.{Owner}
 use Rattle.engine_text.specs.declared.owner.Owner.TheVariants.{Container as OfContainer, Exec as OfExec}
 use Rattle.engine_text.specs.declared.container.Container.{Container}
 use Rattle.engine_text.specs.declared.log.LogRecord.{LogRecord}
 use Rattle.engine_text.specs.declared.log.OwnedLog.{OwnedLog}
 use Rattle.engine_text.specs.declared.container.Removed.{Removed}
-use Rattle.engine_text.specs.declared.script.Stream.{Stream}
-use Rattle.engine_text.specs.declared.script.Stream.TheVariants.{Stdin, Stdout, Stderr}
 use Rattle.engine_text.specs.declared.reply.LogSpec.{LogSpec}
 use Rattle.engine_text.specs.declared.reply.StopRule.{StopRule}
 use Rattle.engine_text.specs.declared.reply.StopRule.TheVariants as Stop
@@ -89,20 +88,14 @@ first_kept_removal s = length s.removed - length s.kept
 
 -- ---- which records
 
--- A stream's number in frames.
-abbrev pub stream_number : Stream → ℕ
-stream_number Stdin = 0
-stream_number Stdout = 1
-stream_number Stderr = 2
-
 -- A record's payload; with timestamps its moment's text and a blank stand before it.
 abbrev pub stamped : Bool → LogRecord → List ℕ
 stamped true r = moment_text (Some r.moment) ++ codes " " ++ r.payload
 stamped false r = r.payload
 
 -- What a stream gives of a record.
-abbrev pub piece_of : LogSpec → LogRecord → Piece
-piece_of spec r = record { stream = stream_number r.stream; payload = stamped spec.stamps r }
+abbrev pub part_of : LogSpec → LogRecord → Part
+part_of spec r = (r.stream, stamped spec.stamps r)
 
 -- Whether a record is of the asked streams and moments.
 abbrev pub is_asked_by : LogSpec → LogRecord → Bool
@@ -114,7 +107,7 @@ log_records s spec from to = filter (is_asked_by spec) (drop from (take to (log_
 
 -- Their frames.
 abbrev pub log_bytes : State → LogSpec → ℕ → ℕ → List ℕ
-log_bytes s spec from to = framed (map (piece_of spec) (log_records s spec from to))
+log_bytes s spec from to = framed (map (part_of spec) (log_records s spec from to))
 
 -- ---- where it ends
 

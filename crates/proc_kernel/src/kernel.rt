@@ -12,7 +12,8 @@ use std::alloc::Global;
 use std::collections::VecDeque;
 use std::marker::Model;
 
-/// The processes, and the room that was made for their next steps.
+/// Processes by their owners, and the room that was made for their next steps. Moments are
+/// milliseconds; an owner without a process is passed over by each call but `spawn`.
 #[derive(Drop)]
 pub struct Kernel {
     slots: Vec<Slot>,
@@ -42,7 +43,7 @@ fn place_of(slots: &[Slot], owner: Owner) -> Option<usize>
 }
 
 impl Kernel {
-    /// A kernel without processes; takes no memory.
+    /// A kernel without processes; it takes no memory.
     pub fn new(alloc: Global) -> Kernel
         ensures processes { result.processes ≡ [] }
         ensures spare { result.spare ≡ 0 }
@@ -57,7 +58,8 @@ impl Kernel {
         }
     }
 
-    /// Makes room for so many records of at most so many bytes each.
+    /// Makes room for so many records of at most so many bytes each: what the next steps need. Room
+    /// that was made before may be given back.
     pub fn reserve(&mut self, alloc: Global, records: usize, bytes: usize) -> Result<(), NoMemory>
         ensures processes { self.new.processes ≡ self.old.processes }
         ensures spare { OnOk result (records ≤ self.new.spare) }
@@ -92,7 +94,7 @@ impl Kernel {
         self.buffers.pop().unwrap()
     }
 
-    /// The input of that process ends.
+    /// Ends the input of that process.
     pub fn feed_end(&mut self, owner: Owner, moment: u64)
         ensures processes { self.new.processes ≡ change owner (feed_end moment) self.old.processes }
         ensures spare { self.new.spare ≡ self.old.spare }
@@ -103,7 +105,7 @@ impl Kernel {
         }
     }
 
-    /// That process is frozen.
+    /// Freezes that process: nothing of it is due until a thaw, and its time left is kept.
     pub fn freeze(&mut self, owner: Owner, moment: u64)
         ensures processes { self.new.processes ≡ change owner (freeze moment) self.old.processes }
         ensures spare { self.new.spare ≡ self.old.spare }
@@ -114,7 +116,8 @@ impl Kernel {
         }
     }
 
-    /// That process is thawed, and meets the signals that waited.
+    /// Thaws that process: its time left counts from the moment, and the signals that waited are met
+    /// unless it is uninterruptible.
     pub fn thaw(&mut self, owner: Owner, moment: u64) -> Effect
         requires moment { OfProcess (CanThaw moment) (process_of owner self.old.processes) }
         ensures processes { self.new.processes ≡ after_step owner (thaw moment) self.old.processes }
@@ -128,13 +131,15 @@ impl Kernel {
         }
     }
 
-    /// A signal comes to that process; where `thaws`, a frozen one is thawed.
+    /// Sends a signal, which waits in a frozen or uninterruptible process and else is met. With
+    /// `thaws` a frozen process is thawed once the signal has joined those that wait.
     pub fn signal(&mut self, owner: Owner, sent: Signal, thaws: bool, moment: u64) -> Effect
         requires signal { sent.number < 32 }
         requires moment { OfProcess (CanThaw moment) (process_of owner self.old.processes) }
         ensures processes { self.new.processes
             ≡ after_step owner (signal sent.number thaws moment) self.old.processes }
-        ensures effect { result ≡ effect_at owner (signal sent.number thaws moment) self.old.processes }
+        ensures effect { result
+            ≡ effect_at owner (signal sent.number thaws moment) self.old.processes }
         ensures spare { self.new.spare ≡ self.old.spare }
         ensures bytes { self.new.bytes ≡ self.old.bytes }
     {
@@ -144,7 +149,7 @@ impl Kernel {
         }
     }
 
-    /// A piece of input comes to that process.
+    /// Gives that process a piece of input; `input_room` tells how many bytes it may have.
     pub fn feed(&mut self, owner: Owner, piece: Bytes, moment: u64)
         requires { 0 < self.old.spare }
         ensures processes { self.new.processes
@@ -158,13 +163,14 @@ impl Kernel {
         }
     }
 
-    /// That process's op, which is due at that moment, takes effect.
+    /// Lets that process's next op take effect at its due moment.
     pub fn run_due(&mut self, owner: Owner, moment: u64) -> Effect
         requires due { due_at (process_of owner self.old.processes) ≡ Some moment }
         requires spare { 0 < self.old.spare }
         requires moment { moment ≤ 9000000000000 }
         requires length { length_at (process_of owner self.old.processes) ≤ self.old.bytes }
-        ensures processes { self.new.processes ≡ after_step owner (run_due moment) self.old.processes }
+        ensures processes { self.new.processes
+            ≡ after_step owner (run_due moment) self.old.processes }
         ensures effect { result ≡ effect_at owner (run_due moment) self.old.processes }
         ensures spare { self.new.spare + 1 ≡ self.old.spare }
         ensures bytes { self.new.bytes ≡ self.old.bytes }
@@ -176,7 +182,8 @@ impl Kernel {
         }
     }
 
-    /// A process is begun.
+    /// Begins a process, its first op due at the moment. Without `stdin` its input has ended; it
+    /// may write `room` bytes in all. The stop signal is passed over.
     pub fn spawn(
         &mut self,
         owner: Owner,
@@ -186,7 +193,7 @@ impl Kernel {
         _stop: Signal,
         room: u64,
     )
-        requires stands { process_of owner self.old.processes ≡ None }
+        requires free { process_of owner self.old.processes ≡ None }
         requires spare { 0 < self.old.spare }
         ensures processes { self.new.processes
             ≡ self.old.processes ++ begun owner (spawn script moment stdin room) ∷ [] }
@@ -199,7 +206,7 @@ impl Kernel {
         self.slots.push_reserved(slot);
     }
 
-    /// That process is gone.
+    /// Takes that process away.
     pub fn remove(&mut self, owner: Owner)
         ensures processes { self.new.processes ≡ without owner self.old.processes }
         ensures spare { self.new.spare ≡ self.old.spare }
@@ -237,7 +244,7 @@ impl Kernel {
         }
     }
 
-    /// When that process's next op is due.
+    /// When that process's next op is due, if it is.
     pub fn next_due(&self, owner: Owner) -> Option<u64>
         ensures { result ≡ due_at (process_of owner self.now.processes) }
     {
@@ -247,7 +254,7 @@ impl Kernel {
         }
     }
 
-    /// How many bytes that process's waiting input can still take.
+    /// How many bytes that process's waiting input can still take, 0 without a process.
     pub fn input_room(&self, owner: Owner) -> u64
         ensures { result ≡ room_at (process_of owner self.now.processes) }
     {

@@ -1,4 +1,4 @@
-use Rattle.std.proofs.Common.{sym, ◌∙◌}
+use Rattle.std.proofs.Common.{◌∙◌}
 use Rattle.engine_text.proofs.CalendarLemmas.{shown, pinned}
 use Rattle.engine_text.proofs.moment.law_one_text.Goals as goal
 

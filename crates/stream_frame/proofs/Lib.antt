@@ -1,0 +1,3 @@
+pub mod ChunkLemmas
+pub mod AddLemmas
+pub mod LawLemmas
