@@ -1,10 +1,9 @@
 -- The data of bodies have no float.
-use Rattle.std.proofs.Common.{◌≡◌, ◌||◌, ℤ, pos, negsuc, List, [], ◌∷◌, map, Bool, false, Option, Some, None, drop, refl, ap, ◌∙◌, ℕ}
+use Rattle.std.proofs.Common.{◌≡◌, ◌||◌, ℤ, pos, negsuc, List, [], ◌∷◌, Bool, false, Option, Some, None, drop, refl, ap, ℕ}
 use Rattle.serde_json.specs.Data.{Data, number}
 use Rattle.serde_json.specs.Find.{of_integer}
-use Rattle.serde_json.specs.View.{items_of}
-use Rattle.serde_json.specs.Written.{has_float, items_have_float}
-use Rattle.json_laws.specs.Pairs.{words_items, words_data}
+use Rattle.serde_json.specs.Written.{has_float}
+use Rattle.json_laws.specs.Pairs.{words_data}
 use Rattle.json_laws.proofs.NoFloat.{no_float-pairs_data}
 use Rattle.engine_text.specs.declared.listed.ListedVolume.{ListedVolume}
 use Rattle.engine_text.specs.declared.mounts.Mount.{Mount}

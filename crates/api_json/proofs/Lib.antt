@@ -1,3 +1,7 @@
 mod ListLemmas
 mod ValueLemmas
 mod FloatLemmas
+mod DecimalLemmas
+mod EventLemmas
+pub mod CreateLemmas
+mod StandardFacts

@@ -1,10 +1,9 @@
 -- The body of a create (Docker Engine API v1.43, ContainerCreate).
-use Rattle.std.specs.Prelude.{ℕ, ℤ, pos, negsuc, List, [], ◌∷◌, ◌++◌, Bool, nat_le, if◌then◌else◌, Option, Some, None, Result, Ok, Err}
+use Rattle.std.specs.Prelude.{ℕ, ◌==◌, ℤ, pos, negsuc, List, [], ◌∷◌, ◌++◌, Bool, nat_le, if◌then◌else◌, Option, Some, None, Result, Ok, Err}
 use Rattle.serde_json.specs.Data.{Data, Members, no_members, member}
 use Rattle.serde_json.specs.Find.{as_object}
 use Rattle.engine_text.specs.Signal.{read_signal}
 use Rattle.engine_text.specs.declared.call.CreateSpec.{CreateSpec}
-use Rattle.engine_text.specs.declared.pairs.Pair.{Pair}
 use Rattle.engine_text.specs.declared.signal.Signal.{Signal}
 use Rattle.api_json.specs.Fault.{and_then, or_fault}
 use Rattle.api_json.specs.Fields.{body_of, field, needed_text, text_field, flag, whole_field, unset_flag}
@@ -44,7 +43,7 @@ signal_in (Some (c ∷ cs)) = read_signal (c ∷ cs)
 abbrev pub seconds_in : Option ℤ → Option ℤ
 seconds_in None = Some (pos 10)
 seconds_in (Some (pos n)) = if nat_le n 2147483 then Some (pos n) else None
-seconds_in (Some (negsuc n)) = if nat_le n 0 then Some (negsuc n) else None
+seconds_in (Some (negsuc n)) = if n == 0 then Some (negsuc n) else None
 
 -- how the container is stopped
 abbrev pub stop_of : Data → Result Stop BodyFault

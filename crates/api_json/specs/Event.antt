@@ -1,35 +1,17 @@
--- The lines of events (Docker Engine API v1.43, SystemEvents, definition EventMessage; own: which attributes an event has).
-use Rattle.std.specs.Prelude.{ℕ, ◌/◌, ◌*◌, List, codes}
+-- The lines of events (Docker Engine API v1.43, SystemEvents, definition EventMessage).
+use Rattle.std.specs.Prelude.{◌≡◌, ◌≢◌, ℕ, ◌/◌, ◌*◌, ◌≤◌, List, codes, Option, true, option_map, option_and_then, IsUtf8, ⊤}
 use Rattle.serde_json.specs.Data.{Data, object, no_members, member, Members}
+use Rattle.serde_json.specs.Find.{get, as_str, as_object, as_number, as_u64}
 use Rattle.json_laws.specs.Sound.{line_text}
+use Rattle.engine_text.specs.Pairs.{ArePairsUtf8}
 use Rattle.engine_text.specs.declared.event.Event.{Event}
-use Rattle.engine_text.specs.declared.event.EventKind.{EventKind}
-use Rattle.engine_text.specs.declared.event.EventKind.TheVariants as Kind
-use Rattle.engine_text.specs.declared.event.Action.{Action}
-use Rattle.engine_text.specs.declared.event.Action.TheVariants.{Create, Start, Kill, Die, Stop, Restart, Pause, Unpause, Rename, Destroy, Attach, ExecCreate, ExecStart, ExecDie, Mount, Unmount}
+pub use Rattle.api_json.specs.EventRules.{kind_word, action_word}
+use Rattle.api_json.specs.EventRules.{kind_of, action_of, attributes_fit}
+use Rattle.api_json.specs.Lists.{pairs_of_members}
 use Rattle.api_json.specs.Values.{text, natural, pairs_object}
-
-abbrev pub kind_word : EventKind → List ℕ
-kind_word Kind.Container = codes "container"
-kind_word Kind.Volume = codes "volume"
-
-abbrev pub action_word : Action → List ℕ
-action_word Create = codes "create"
-action_word Start = codes "start"
-action_word Kill = codes "kill"
-action_word Die = codes "die"
-action_word Stop = codes "stop"
-action_word Restart = codes "restart"
-action_word Pause = codes "pause"
-action_word Unpause = codes "unpause"
-action_word Rename = codes "rename"
-action_word Destroy = codes "destroy"
-action_word Attach = codes "attach"
-action_word ExecCreate = codes "exec_create"
-action_word ExecStart = codes "exec_start"
-action_word ExecDie = codes "exec_die"
-action_word Mount = codes "mount"
-action_word Unmount = codes "unmount"
+use Rattle.api_json.specs.declared.fault.Refused.{Refused}
+use Rattle.api_json.specs.declared.fault.Refused.TheVariants.{BadBody, NoMemory}
+use Rattle.api_json.specs.declared.fault.BodyFault.TheVariants.{BadEventLine}
 
 abbrev pub actor_members : Event → Members
 actor_members e =
@@ -52,3 +34,30 @@ event_data e = object (event_members e)
 -- the compact text and a line end
 abbrev pub event_line_text : Event → List ℕ
 event_line_text e = line_text (event_data e)
+
+-- an event that has a line: a moment in range, the attributes of its kind and action, and texts that are UTF-8
+abbrev pub IsLine : Event → Type 0
+IsLine e =
+    (e.moment ≤ 9_000_000_000_000) × (attributes_fit e.kind e.action e.attributes ≡ true)
+    × IsUtf8 e.id × ArePairsUtf8 e.attributes
+
+-- it is told that the line is no event's, and no event has it; or there was no memory
+abbrev pub IsLineRefusal : List ℕ → Refused → Type 0
+IsLineRefusal line (BadBody fault) = (fault ≡ BadEventLine) × ((e : Event) → IsLine e → event_line_text e ≢ line)
+IsLineRefusal line NoMemory = ⊤
+
+-- the event of data
+abbrev pub event_of : Data → Option Event
+event_of d =
+    option_and_then (λ action.
+    option_and_then (λ actor.
+    option_and_then (λ attributes.
+    option_and_then (λ id.
+    option_and_then (λ kind.
+    option_map (λ nanos. record { kind = kind; action = action; id = id; attributes = attributes; moment = nanos / 1_000_000 })
+    (option_and_then as_u64 (option_and_then as_number (get (codes "timeNano") d))))
+    (option_and_then kind_of (option_and_then as_str (get (codes "Type") d))))
+    (option_and_then as_str (get (codes "ID") actor)))
+    (option_and_then pairs_of_members (option_and_then as_object (get (codes "Attributes") actor))))
+    (get (codes "Actor") d))
+    (option_and_then action_of (option_and_then as_str (get (codes "Action") d)))

@@ -1,5 +1,5 @@
 -- Filters in a query (Docker Engine API v1.43, the parameter `filters` of ContainerList, VolumeList and SystemEvents).
-use Rattle.std.specs.Prelude.{ℕ, List, [], ◌∷◌, codes, Bool, if◌then◌else◌, Option, Some, None, Result, Ok, option_map, option_and_then, find}
+use Rattle.std.specs.Prelude.{ℕ, List, [], ◌∷◌, codes, if◌then◌else◌, Option, Some, None, Result, Ok, option_map, option_and_then, find}
 use Rattle.serde_json.specs.Data.{Data, Items, Members, no_members, member}
 use Rattle.serde_json.specs.Find.{as_array, as_object, as_bool}
 use Rattle.json_laws.specs.Pairs.{words_of}

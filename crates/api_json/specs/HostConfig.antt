@@ -1,12 +1,12 @@
 -- What a create asks of the host (Docker Engine API v1.43, definitions HostConfig and RestartPolicy).
-use Rattle.std.specs.Prelude.{ℕ, ℤ, pos, List, [], Option, Some, None, Result, Ok, Err, unwrap_or}
+use Rattle.std.specs.Prelude.{pos, [], Option, Some, None, Result, Ok, Err, unwrap_or}
 use Rattle.serde_json.specs.Data.{Data}
 use Rattle.engine_text.specs.Policy.{read_policy}
 use Rattle.engine_text.specs.declared.policy.Policy.{Policy}
 use Rattle.engine_text.specs.declared.policy.Policy.TheVariants.{No}
 use Rattle.engine_text.specs.declared.policy.Bad.{Bad}
 use Rattle.api_json.specs.Fault.{and_then}
-use Rattle.api_json.specs.Fields.{field, text_field, object_field, whole_field, unset_flag}
+use Rattle.api_json.specs.Fields.{text_field, object_field, whole_field, unset_flag}
 use Rattle.api_json.specs.MountForms.{mounts_of}
 use Rattle.api_json.specs.declared.host_config.Host.{Host}
 use Rattle.api_json.specs.declared.fault.BodyKey.TheVariants as Key

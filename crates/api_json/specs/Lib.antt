@@ -5,6 +5,7 @@ pub mod Container
 pub mod List
 pub mod Exec
 pub mod Volume
+pub mod EventRules
 pub mod Event
 pub mod Fault
 pub mod Fields
@@ -16,3 +17,4 @@ pub mod MountForms
 pub mod HostConfig
 pub mod Create
 pub mod Views
+pub mod CreateLaws

@@ -7,7 +7,7 @@ use Rattle.engine_text.specs.Name.{is_volume_name}
 use Rattle.engine_text.specs.Texts.{same_bytes}
 use Rattle.engine_text.specs.declared.mounts.Mount.{Mount}
 use Rattle.api_json.specs.Fault.{and_then, or_fault}
-use Rattle.api_json.specs.Fields.{field, text_field, flag, read_if_present}
+use Rattle.api_json.specs.Fields.{field, text_field, flag}
 use Rattle.api_json.specs.Lists.{texts_field}
 use Rattle.api_json.specs.declared.fault.BodyKey.TheVariants as Key
 use Rattle.api_json.specs.declared.fault.BodyFault.{BodyFault}

@@ -1,5 +1,5 @@
 -- The texts of volumes (Docker Engine API v1.43, VolumeInspect, VolumeList, definition Volume).
-use Rattle.std.specs.Prelude.{ℕ, ◌≤◌, List, Some, codes}
+use Rattle.std.specs.Prelude.{ℕ, List, Some, codes}
 use Rattle.serde_json.specs.Data.{Data, object, no_members, member}
 use Rattle.serde_json.specs.Written.{compact_text}
 use Rattle.engine_text.specs.Moment.{moment_text}

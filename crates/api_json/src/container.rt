@@ -7,8 +7,10 @@ ghost use Rattle.api_json.specs.Views.{container_shown};
 
 use super::mount::mounts_value;
 use super::status::{is_dead, is_paused, is_restarting, status_word};
-use super::values::{IMAGE_NAME, body_text, first_word, later_words, moment_string};
-use super::values::{pairs_value, slash_name, words_value};
+use super::values::{
+    IMAGE_NAME, body_text, first_word, later_words, moment_string, pairs_value, slash_name,
+    words_value,
+};
 use engine_text::{Mounts, NoMemory, Pairs, Policy, Signal, Status, Text, Words, signal_name};
 use serde_json::{Value, json};
 use std::alloc::{AllocError, Global};

@@ -77,13 +77,7 @@ fn whole_number(value: &Value) -> Option<i64>
 {
     match value.as_i64() {
         Some(number) => Some(number),
-        None => {
-            if value.is_u64() {
-                Some(i64::MAX)
-            } else {
-                None
-            }
-        }
+        None => { if value.is_u64() { Some(i64::MAX) } else { None } }
     }
 }
 

@@ -34,9 +34,7 @@ pub fn filter_word(key: FilterKey) -> &'static str
 fn key_among(keys: &[FilterKey], name: &str) -> Option<FilterKey>
     ensures { result ≡ spec.key_among keys.now name.now }
 {
-    keys.iter()
-        .copied()
-        .find(|key| filter_word(*key) == name)
+    keys.iter().copied().find(|key| filter_word(*key) == name)
 }
 
 // The keys whose value is true, or none where a value is no truth value.

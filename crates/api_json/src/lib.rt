@@ -3,6 +3,8 @@
 
 mod container;
 mod create;
+mod event;
+mod event_rules;
 mod exec;
 mod exec_create;
 mod fault;
@@ -19,7 +21,9 @@ mod volume;
 mod volume_create;
 
 pub use container::{ContainerView, container_body};
-pub use create::read_create;
+pub use create::{law_creates_keep_to_limits, read_create};
+pub use event::{event_line, law_event_line_reads_back, read_event_line};
+pub use event_rules::{action_word, attributes_fit, kind_word, read_action, read_kind};
 pub use exec::{ExecView, exec_body};
 pub use exec_create::{ExecSpec, read_exec, read_exec_start};
 pub use fault::{BodyFault, BodyKey, Refused};
@@ -29,3 +33,6 @@ pub use status::{status_text, status_word};
 pub use values::IMAGE_NAME;
 pub use volume::{VolumeView, volume_body, volumes_body};
 pub use volume_create::{VolumeSpec, read_volume};
+
+#[cfg(test)]
+mod tests;

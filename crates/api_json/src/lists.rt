@@ -73,8 +73,8 @@ pub fn texts_field(alloc: Global, body: &Value, key: BodyKey) -> Result<Words, R
     }
 }
 
-// The pairs of an object's members, or none where a value is no text.
-fn read_pairs(alloc: Global, map: &Map<String, Value>) -> Result<Option<Pairs>, NoMemory>
+/// The pairs of an object's members, or none where a value is no text.
+pub fn read_pairs(alloc: Global, map: &Map<String, Value>) -> Result<Option<Pairs>, NoMemory>
     ensures { IfOk result (λ found. found ≡ spec.pairs_of_members (members_view map.now.entries)) }
 {
     let mut pairs = Pairs::new(alloc);

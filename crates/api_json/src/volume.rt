@@ -49,7 +49,13 @@ fn volume_value(alloc: Global, volume: &VolumeView<'_>) -> Result<Value, AllocEr
     let created = moment_string(alloc, Some(volume.created))?;
     let labels = pairs_value(alloc, volume.labels.as_slice())?;
     let source = source_of(alloc, volume.name)?;
-    volume_object(alloc, created.as_str(), labels, source.as_str(), volume.name)
+    volume_object(
+        alloc,
+        created.as_str(),
+        labels,
+        source.as_str(),
+        volume.name,
+    )
 }
 
 /// The text of a volume; its moment is at most 9,000,000,000,000.

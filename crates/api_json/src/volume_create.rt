@@ -26,7 +26,11 @@ fn volume_name(body: &Value) -> Result<&str, BodyFault>
         (λ fault. and_then (needed_text BodyKey.Name (view body.now)) spec.volume_named ≡ Err fault) }
 {
     let name = needed_text(body, BodyKey::Name)?;
-    if is_volume_name(name) { Ok(name) } else { Err(BodyFault::BadVolumeName) }
+    if is_volume_name(name) {
+        Ok(name)
+    } else {
+        Err(BodyFault::BadVolumeName)
+    }
 }
 
 // The driver is the one that there is.

@@ -15,3 +15,4 @@ pub mod InspectLemmas
 pub mod SoundFacts
 pub mod JournalFacts
 pub mod StreamFacts
+pub mod NameLemmas

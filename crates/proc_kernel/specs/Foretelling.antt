@@ -81,6 +81,7 @@ op_code (WaitForever ∷ ops) p = None
 abbrev pub traps_next : Process → Bool
 traps_next p = not p.trapped && (is_trapped p.manner 15 && slice_index_or p.waiting 15 false)
 
+-- The code of the next op, unless the trap puts other ops in its place.
 abbrev pub trap_or_op_code : Process → Option ℕ
 trap_or_op_code p = if traps_next p then None else op_code p.left p
 

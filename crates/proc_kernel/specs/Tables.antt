@@ -33,10 +33,11 @@ abbrev pub effect_of : (Process → ProcessStep) → Option Process → Effect
 effect_of f None = Lives
 effect_of f (Some p) = (f p).effect
 
--- The processes after a step of that owner's, and what the step gives.
+-- The processes after a step of that owner's.
 abbrev pub after_step : Owner → (Process → ProcessStep) → List Entry → List Entry
 after_step o f es = change o (λ p. (f p).process) es
 
+-- What the step of that owner gives.
 abbrev pub effect_at : Owner → (Process → ProcessStep) → List Entry → Effect
 effect_at o f es = effect_of f (process_of o es)
 

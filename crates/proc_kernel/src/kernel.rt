@@ -116,8 +116,8 @@ impl Kernel {
         }
     }
 
-    /// Thaws that process: its time left counts from the moment, and the signals that waited are met
-    /// unless it is uninterruptible.
+    /// Thaws that process: its time left counts from the moment, and the signals that waited are
+    /// met unless it is uninterruptible.
     pub fn thaw(&mut self, owner: Owner, moment: u64) -> Effect
         requires moment { OfProcess (CanThaw moment) (process_of owner self.old.processes) }
         ensures processes { self.new.processes ≡ after_step owner (thaw moment) self.old.processes }

@@ -1,4 +1,4 @@
-use Rattle.std.proofs.Common.{◌≡◌, ◌++◌, Some, List, Option, option_map, ap, sym, ◌∙◌, string_bytes}
+use Rattle.std.proofs.Common.{◌++◌, List, option_map, ap, sym, ◌∙◌, string_bytes}
 use Rattle.serde_json.specs.View.{view, members_view}
 use Rattle.engine_text.specs.declared.filter.FilterRow.{FilterRow}
 use Rattle.api_json.specs.Filters.{row_of, rows_in}

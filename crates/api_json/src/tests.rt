@@ -1,0 +1,4 @@
+mod bodies;
+mod events;
+mod refusals;
+mod texts;

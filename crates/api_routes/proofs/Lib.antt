@@ -1,0 +1,10 @@
+pub mod CutLemmas
+pub mod TextLemmas
+pub mod NumeralLemmas
+pub mod VersionLemmas
+pub mod ClassLemmas
+pub mod CreateLemmas
+pub mod StandardFacts
+pub mod KeyLemmas
+pub mod SoundLemmas
+pub mod StatusLemmas

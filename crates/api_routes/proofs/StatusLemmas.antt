@@ -1,0 +1,128 @@
+-- A direct answer has a status.
+use Rattle.std.proofs.Common.{◌≡◌, ◌<◌, ◌≤◌, ℕ, List, Bool, true, false, cond, Result, Ok, Err, refl, sym, ap, subst, ◌∙◌, arith}
+use Rattle.engine_text.specs.declared.call.Call.{Call}
+use Rattle.http_edge.specs.Message.{Request}
+use Rattle.http_edge.specs.Asks.{asks_upgrade}
+use Rattle.api_json.specs.ExecCreate.{exec_start_of}
+use Rattle.api_routes.specs.Fault.{status_of}
+use Rattle.api_routes.specs.Calls.{of_body}
+use Rattle.api_routes.specs.RouteClass.{Asked, route_class, ask, in_chunks, exec_start_class}
+use Rattle.api_routes.specs.Built.{is_built, if_built}
+use Rattle.api_routes.specs.Class.{class_of, read_class, or_refusal}
+use Rattle.api_routes.specs.Laws.{IsStatus}
+use Rattle.api_routes.specs.declared.class.Class.{Class}
+use Rattle.api_routes.specs.declared.class.Class.TheVariants.{Direct, Ask, Stream}
+use Rattle.api_routes.specs.declared.class.DirectAnswer.{DirectAnswer}
+use Rattle.api_routes.specs.declared.class.Takeover.{Takeover}
+use Rattle.api_routes.specs.declared.class.Takeover.TheVariants as takes
+use Rattle.api_routes.specs.declared.fault.Fault.{Fault}
+use Rattle.api_routes.specs.declared.fault.Fault.TheVariants as fault
+use Rattle.api_routes.specs.declared.route.Route.{Route}
+use Rattle.api_routes.specs.declared.route.Route.TheVariants as to
+use Rattle.api_routes.proofs.ClassLemmas.{went-on, read-last}
+
+abbrev pub read_well : Class → Result Class Fault
+read_well class = Ok class
+
+same-class : (x y : Class) → read_well x ≡ read_well y → x ≡ y
+same-class x y h = cc
+
+same-answer : (a b : DirectAnswer) → Direct a ≡ Direct b → a ≡ b
+same-answer a b h = cc
+
+asks : (c : Call) (a : DirectAnswer) → Ask c ≡ Direct a → ⊥
+asks c a h = cc
+
+streams : (c : Call) (t : Takeover) (a : DirectAnswer) → Stream c t ≡ Direct a → ⊥
+streams c t a h = cc
+
+never-asks : (c : Call) (a : DirectAnswer) → read_well (Ask c) ≡ read_well (Direct a) → ⊥
+never-asks c a h = asks c a (same-class (Ask c) (Direct a) h)
+
+never-streams : (c : Call) (t : Takeover) (a : DirectAnswer) → read_well (Stream c t) ≡ read_well (Direct a) → ⊥
+never-streams c t a h = streams c t a (same-class (Stream c t) (Direct a) h)
+
+asked : (e : Result Call Fault) (a : DirectAnswer) → ask e ≡ Ok (Direct a) → ⊥
+asked e a h = let w = went-on e (λ c. Ok (Ask c)) (Direct a) h in never-asks w.0 a w.2
+
+chunks : (e : Result Call Fault) (a : DirectAnswer) → in_chunks e ≡ Ok (Direct a) → ⊥
+chunks e a h = let w = went-on e (λ c. Ok (Stream c takes.None)) (Direct a) h in never-streams w.0 takes.None a w.2
+
+-- only fixed answers are read
+fixed-status : (b a : DirectAnswer) → b.status ≡ 200 → read_well (Direct b) ≡ read_well (Direct a) → IsStatus a.status
+fixed-status b a e h = subst IsStatus (sym e ∙ ap (λ x. x.status) (same-answer b a (same-class (Direct b) (Direct a) h))) (omega arith, omega arith)
+
+direct-status : (route : Route) (asked-for : Asked) (a : DirectAnswer) → route_class route asked-for ≡ Ok (Direct a) → IsStatus a.status
+direct-status to.Ping r a h = fixed-status _ a refl h
+direct-status to.PingHead r a h = fixed-status _ a refl h
+direct-status to.Version r a h = fixed-status _ a refl h
+direct-status to.Create r a h = absurd (asked _ a h)
+direct-status to.List r a h = absurd (asked _ a h)
+direct-status to.Inspect r a h = absurd (never-asks _ a h)
+direct-status to.Start r a h = absurd (never-asks _ a h)
+direct-status to.Stop r a h = absurd (asked _ a h)
+direct-status to.Restart r a h = absurd (asked _ a h)
+direct-status to.Kill r a h = absurd (asked _ a h)
+direct-status to.Pause r a h = absurd (never-asks _ a h)
+direct-status to.Unpause r a h = absurd (never-asks _ a h)
+direct-status to.Rename r a h = absurd (asked _ a h)
+direct-status to.Wait r a h = absurd (asked _ a h)
+direct-status to.Remove r a h = absurd (asked _ a h)
+direct-status to.Logs r a h = absurd (chunks _ a h)
+direct-status to.Attach r a h = absurd (never-streams _ _ a h)
+direct-status to.ExecCreate r a h = absurd (asked _ a h)
+direct-status to.ExecStart r a h =
+    let w = went-on (of_body (exec_start_of r.body)) (λ detach. Ok (exec_start_class r.name r.upgrade detach)) (Direct a) h in
+    absurd (by w.0 (same-class (exec_start_class r.name r.upgrade w.0) (Direct a) w.2))
+  where
+    by : (detach : Bool) → exec_start_class r.name r.upgrade detach ≡ Direct a → ⊥
+    by true e = asks _ a e
+    by false e = streams _ _ a e
+direct-status to.ExecInspect r a h = absurd (never-asks _ a h)
+direct-status to.VolumeList r a h = absurd (asked _ a h)
+direct-status to.VolumeCreate r a h = absurd (asked _ a h)
+direct-status to.VolumeInspect r a h = absurd (never-asks _ a h)
+direct-status to.VolumeRemove r a h = absurd (never-asks _ a h)
+direct-status to.Events r a h = absurd (chunks _ a h)
+direct-status to.Journal r a h = absurd (never-streams _ _ a h)
+
+-- a fault's status
+fault-status : (f : Fault) → IsStatus (status_of f)
+fault-status fault.PageNotFound = (omega arith, omega arith)
+fault-status fault.NotBuilt = (omega arith, omega arith)
+fault-status (fault.VersionTooOld v) = (omega arith, omega arith)
+fault-status (fault.VersionTooNew v) = (omega arith, omega arith)
+fault-status fault.BadPath = (omega arith, omega arith)
+fault-status (fault.InvalidName v) = (omega arith, omega arith)
+fault-status (fault.InvalidSignal v) = (omega arith, omega arith)
+fault-status fault.BadSeconds = (omega arith, omega arith)
+fault-status fault.BadLimit = (omega arith, omega arith)
+fault-status fault.BadTail = (omega arith, omega arith)
+fault-status fault.BadCondition = (omega arith, omega arith)
+fault-status fault.BadTime = (omega arith, omega arith)
+fault-status fault.NoStream = (omega arith, omega arith)
+fault-status fault.LinksLeftOut = (omega arith, omega arith)
+fault-status (fault.Body b) = (omega arith, omega arith)
+
+built-direct : (class : Class) (a : DirectAnswer) → if_built class ≡ Ok (Direct a) → class ≡ Direct a
+built-direct (Direct b) a h = same-class (Direct b) (Direct a) h
+built-direct (Ask c) a h = by (is_built c) h
+  where
+    by : (b : Bool) → cond b (Ok (Ask c)) (Err fault.NotBuilt) ≡ Ok (Direct a) → Ask c ≡ Direct a
+    by true e = absurd (never-asks c a e)
+    by false e = let no : ⊥ = cc in absurd no
+built-direct (Stream c t) a h = by (is_built c) h
+  where
+    by : (b : Bool) → cond b (Ok (Stream c t)) (Err fault.NotBuilt) ≡ Ok (Direct a) → Stream c t ≡ Direct a
+    by true e = absurd (never-streams c t a e)
+    by false e = let no : ⊥ = cc in absurd no
+
+of-result : (m t b : List ℕ) (u : Bool) (read : Result Class Fault) (a : DirectAnswer) → read_class m t b u ≡ read → or_refusal m read ≡ Direct a → IsStatus a.status
+of-result m t b u (Ok class) a e h =
+    let last = read-last m t b u (Direct a) (e ∙ ap Ok h) in
+    direct-status last.0 _ a (last.3 ∙ ap Ok (built-direct last.2 a last.4))
+of-result m t b u (Err f) a e h = subst (λ x. IsStatus x.status) (same-answer _ a h) (fault-status f)
+
+pub class-status : (r : Request) (a : DirectAnswer) → class_of r ≡ Direct a → IsStatus a.status
+unfolding class_of
+class-status r a h = of-result r.method r.target r.body (asks_upgrade r) _ a refl h

@@ -1,0 +1,14 @@
+pub mod Routes
+pub mod Fault
+pub mod Reading
+pub mod Path
+pub mod Numeral
+pub mod Version
+pub mod Query
+pub mod Keys
+pub mod Built
+pub mod Calls
+pub mod RouteClass
+pub mod Class
+pub mod Sound
+pub mod Laws

@@ -1,0 +1,50 @@
+// Which calls are served.
+ghost use Rattle.std.specs.Prelude.{◌≡◌};
+ghost use Rattle.api_routes.specs.Built as built;
+ghost use Rattle.api_routes.specs.Reading.{Reads};
+
+use crate::refused::Refused;
+use crate::{Class, Fault};
+use engine_text::{Call, CreateSpec, Policy};
+
+// Whether it is the policy that never restarts.
+fn is_no_policy(policy: &Policy) -> bool
+    ensures { result ≡ built.is_no_policy policy.now }
+{
+    match policy {
+        Policy::No => true,
+        Policy::Always | Policy::UnlessStopped | Policy::OnFailure(_) => false,
+    }
+}
+
+// Whether a create is served.
+fn is_built_create(spec: &CreateSpec) -> bool
+    ensures { result ≡ built.is_built_create spec.now }
+{
+    spec.mounts.as_slice().is_empty() && is_no_policy(&spec.policy) && !spec.open_stdin
+}
+
+// Whether a call is served.
+fn is_built(call: &Call) -> bool
+    ensures { result ≡ built.is_built call.now }
+{
+    match call {
+        Call::Create(create) => is_built_create(create),
+        _ => false,
+    }
+}
+
+/// A class whose call is served.
+pub(crate) fn if_built(class: Class) -> Result<Class, Refused>
+    ensures { Reads result (built.if_built class) }
+{
+    let built = match &class {
+        Class::Direct(_) => true,
+        Class::Ask(call) | Class::Stream(call, _) => is_built(call),
+    };
+    if built {
+        Ok(class)
+    } else {
+        Err(Refused::Fault(Fault::NotBuilt))
+    }
+}

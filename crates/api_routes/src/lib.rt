@@ -1,0 +1,35 @@
+//! What answers a request: the class by its method, path, query and body.
+#![tactic(auto)]
+
+mod body;
+mod built;
+mod class;
+mod containers;
+mod execs;
+mod fault;
+mod keys;
+mod laws;
+mod logs;
+mod method;
+mod names;
+mod numeral;
+mod path;
+mod query;
+mod refused;
+mod route;
+mod route_class;
+mod routes;
+mod table;
+mod time;
+mod version;
+
+pub use class::{Class, DirectAnswer, DirectKind, Takeover};
+pub use fault::Fault;
+pub use laws::{law_creates, law_direct_statuses, law_served_calls};
+pub use method::Method;
+pub use route::Route;
+pub use routes::Routes;
+pub use table::law_one_route_fits;
+
+#[cfg(test)]
+mod tests;

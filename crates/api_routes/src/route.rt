@@ -1,0 +1,31 @@
+// The routes by the names of their operations (Docker Engine API v1.43; own: Journal).
+/// A row of the table of routes.
+#[derive(Clone, Copy, PartialEq, Eq, Debug, Drop)]
+pub enum Route {
+    Ping,
+    PingHead,
+    Version,
+    Create,
+    List,
+    Inspect,
+    Start,
+    Stop,
+    Restart,
+    Kill,
+    Pause,
+    Unpause,
+    Rename,
+    Wait,
+    Remove,
+    Logs,
+    Attach,
+    ExecCreate,
+    ExecStart,
+    ExecInspect,
+    VolumeList,
+    VolumeCreate,
+    VolumeInspect,
+    VolumeRemove,
+    Events,
+    Journal,
+}

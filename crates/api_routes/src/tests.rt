@@ -1,0 +1,210 @@
+// What no clause says: the printed texts, and requests written out.
+use crate::{Class, DirectAnswer, DirectKind, Routes};
+use engine_ports::MemSource;
+use engine_text::{Call, NoMemory};
+use http_edge::{Next, RequestReader};
+use std::alloc::Global;
+use std::test::Fail;
+
+// Requests and their direct answers: the method, the target, the body, the status, the kind and the text.
+const FIXED: &str = "\
+GET /_ping  200 plain OK
+HEAD /_ping?a=b  200 plain-head OK
+GET /v1.24/_ping  200 plain OK
+HEAD /v1.43/_ping  200 plain-head OK
+GET /v01.043/_ping  200 plain OK
+GET /version  200 json {\"ApiVersion\":\"1.43\",\"Arch\":\"amd64\",\"MinAPIVersion\":\"1.24\",\"Os\":\"linux\",\"Version\":\"1.0.0\"}
+HEAD /version  404 message-head page not found
+HEAD /v1.44/_ping  400 message-head client version 1.44 is too new. Maximum supported API version is 1.43";
+
+const PATHS: &str = "\
+GET /v1.23/_ping  400 message client version 1.23 is too old. Minimum supported API version is 1.24
+GET /v1.44/_ping  400 message client version 1.44 is too new. Maximum supported API version is 1.43
+GET /v1.23/nothing  400 message client version 1.23 is too old. Minimum supported API version is 1.24
+GET /v1.43.1/_ping  404 message page not found
+GET /v12345.1/_ping  404 message page not found
+GET /v1./_ping  404 message page not found
+GET /v1.43  404 message page not found
+GET /nothing  404 message page not found
+GET _ping  404 message page not found
+GET /%5Fping  404 message page not found
+PUT /_ping  404 message page not found
+GET /containers//json  404 message page not found
+GET /containers/a/b/json  404 message page not found
+GET /containers/%2/json  400 message bad path
+GET /containers/%ff/json  400 message bad path
+GET /nothing/%ff  404 message page not found
+DELETE /containers/create  501 message not built";
+
+const QUERIES: &str = "\
+POST /containers/a/stop?t=-2  400 message bad t
+POST /containers/a/stop?t=2147484  400 message bad t
+POST /containers/a/stop?t=2147483&signal=2  501 message not built
+POST /containers/a/restart?signal=32  400 message Invalid signal: 32
+POST /containers/a/kill?signal=NOPE  400 message Invalid signal: NOPE
+POST /containers/a/rename  400 message Invalid container name ()
+POST /containers/a/rename?name=%2Fb  400 message Invalid container name (/b)
+POST /containers/a/wait?condition=x  400 message bad condition
+GET /containers/json?limit=1234567890  400 message bad limit
+GET /containers/json?limit=  400 message bad limit
+GET /containers/json?filters=null  400 message invalid filter
+GET /containers/a/logs  400 message you must choose at least one stream
+GET /containers/a/logs?stdout=1&tail=x  400 message bad tail
+GET /containers/a/logs?stdout=1&since=1.1234567890  400 message bad time
+GET /containers/a/logs?stderr=1&until=12345678901  400 message bad time
+GET /containers/a/logs?stdout=1&since=5.&tail=all  501 message not built
+GET /events?since=  400 message bad time
+GET /volumes?filters=[]  400 message invalid filter
+DELETE /containers/a?link=1  400 message links are left out
+DELETE /containers/a?link=No  501 message not built";
+
+const ORDERS: &str = "\
+POST /containers/create?name=a { 400 message bad JSON
+POST /containers/create?name=a {} 400 message bad field Image
+POST /containers/create?name=a {\"Image\":\"engine/tools:latest\"} 400 message Invalid container name (a)
+POST /containers/create?name=a&name=ab {\"Image\":\"x\"} 400 message Invalid container name (a)
+POST /containers/a/stop?signal=NOPE&t=x  400 message bad t
+GET /containers/json?filters=x&limit=x  400 message bad limit
+GET /containers/a/logs?tail=x&until=x  400 message you must choose at least one stream
+GET /containers/a/logs?tail=x&until=x&stderr=1  400 message bad time
+POST /containers/%/stop?t=x  400 message bad path";
+
+// The word of a kind in these tables.
+fn kind_word(kind: DirectKind) -> &'static str {
+    match kind {
+        DirectKind::Message => "message",
+        DirectKind::MessageHead => "message-head",
+        DirectKind::Json => "json",
+        DirectKind::Plain => "plain",
+        DirectKind::PlainHead => "plain-head",
+    }
+}
+
+// Whether an answer is the one that a table's line ends with.
+fn is_answer(answer: &DirectAnswer, line: &str) -> bool {
+    let Some((status, rest)) = line.split_once(' ') else {
+        return false;
+    };
+    let Some((kind, text)) = rest.split_once(' ') else {
+        return false;
+    };
+    status.parse::<u16>() == Ok(answer.status)
+        && kind == kind_word(answer.kind)
+        && text == answer.text.as_str()
+}
+
+// Whether a class is the direct answer of a table's line.
+fn is_direct(class: &Class, line: &str) -> bool {
+    match class {
+        Class::Direct(answer) => is_answer(answer, line),
+        _ => false,
+    }
+}
+
+// Whether the request of a table's line gets its answer.
+fn holds(routes: &Routes, alloc: Global, line: &str) -> Result<bool, NoMemory> {
+    let Some((method, rest)) = line.split_once(' ') else {
+        return Ok(false);
+    };
+    let Some((target, rest)) = rest.split_once(' ') else {
+        return Ok(false);
+    };
+    let Some((body, answer)) = rest.split_once(' ') else {
+        return Ok(false);
+    };
+    let class = routes.class_of(alloc, method, target, body.as_bytes(), false)?;
+    Ok(is_direct(&class, answer))
+}
+
+// The first line of a table whose request gets another answer.
+fn first_wrong(alloc: Global, table: &'static str) -> Result<Option<&'static str>, NoMemory> {
+    let routes = Routes::new(alloc)?;
+    for line in table.lines() {
+        if !holds(&routes, alloc, line)? {
+            return Ok(Some(line));
+        }
+    }
+    Ok(None)
+}
+
+#[test]
+fn ping_and_version_are_fixed(rt: HostRuntime) -> Result<(), Fail> {
+    assert_eq!(rt; first_wrong(rt.alloc(), FIXED)?, None);
+    Ok(())
+}
+
+#[test]
+fn versions_and_paths_are_read_by_segments(rt: HostRuntime) -> Result<(), Fail> {
+    assert_eq!(rt; first_wrong(rt.alloc(), PATHS)?, None);
+    Ok(())
+}
+
+#[test]
+fn each_fault_of_a_query_has_its_text(rt: HostRuntime) -> Result<(), Fail> {
+    assert_eq!(rt; first_wrong(rt.alloc(), QUERIES)?, None);
+    Ok(())
+}
+
+#[test]
+fn the_first_of_several_faults_is_told(rt: HostRuntime) -> Result<(), Fail> {
+    assert_eq!(rt; first_wrong(rt.alloc(), ORDERS)?, None);
+    Ok(())
+}
+
+// Whether a class is a create of this name and of the one image.
+fn is_create(class: &Class, name: &str) -> bool {
+    match class {
+        Class::Ask(Call::Create(spec)) => {
+            let given = match &spec.name {
+                Some(given) => given.as_str(),
+                None => "",
+            };
+            given == name && spec.image.as_str() == "engine/tools:latest"
+        }
+        _ => false,
+    }
+}
+
+// Whether a target asks for a create of this name; an empty one stands for none.
+fn creates(alloc: Global, target: &str, name: &str) -> Result<bool, NoMemory> {
+    let routes = Routes::new(alloc)?;
+    let body = b"{\"Image\":\"engine/tools:latest\"}";
+    let class = routes.class_of(alloc, "POST", target, body, false)?;
+    Ok(is_create(&class, name))
+}
+
+#[test]
+fn a_create_has_the_name_of_its_query(rt: HostRuntime) -> Result<(), Fail> {
+    let alloc = rt.alloc();
+    assert!(rt; creates(alloc, "/v1.43/containers/create?name=%2Fab&name=c", "/ab")?);
+    assert!(rt; creates(alloc, "/containers/create?other=1", "")?);
+    assert!(rt; creates(alloc, "/containers/create?name=", "")?);
+    Ok(())
+}
+
+const REQUEST: &str =
+    "POST /v1.43/containers/create?name=web HTTP/1.1\r\nHost: x\r\nContent-Length: 31\r\n\r\n{\"Image\":\"engine/tools:latest\"}";
+
+// Whether the first request of these bytes asks for a create of this name.
+fn read_creates(alloc: Global, bytes: &[u8], name: &str) -> Result<bool, NoMemory> {
+    let routes = Routes::new(alloc)?;
+    let Ok(mut source) = MemSource::new(alloc, bytes, 7, &[]) else {
+        return Err(NoMemory);
+    };
+    let Ok(mut reader) = RequestReader::new(alloc) else {
+        return Err(NoMemory);
+    };
+    match reader.next(&mut source) {
+        Next::Request(request) => {
+            let class = routes.classify(alloc, &request)?;
+            Ok(is_create(&class, name))
+        }
+        _ => Ok(false),
+    }
+}
+
+#[test]
+fn a_request_is_classified_as_it_was_read(rt: HostRuntime) -> Result<(), Fail> {
+    assert!(rt; read_creates(rt.alloc(), REQUEST.as_bytes(), "web")?);
+    Ok(())
+}

@@ -1,0 +1,81 @@
+-- What a door tells of its connections. own: the daemon's view of where connections come from.
+use Rattle.std.specs.Prelude.{ℕ, ◌≡◌, ◌≤◌, List, [], ◌∷◌, ◌++◌, Option, Some, None, Result, Ok, Err}
+use Rattle.engine_ports.specs.Rose.{Rose}
+use Rattle.engine_ports.specs.Source.{SourceView}
+use Rattle.engine_ports.specs.Sink.{SinkView}
+use Rattle.engine_ports.specs.Clock.{ClockView}
+use Rattle.engine_ports.specs.declared.ports.Failed.{Failed}
+use Rattle.engine_ports.specs.declared.door.Arrival.{Arrival}
+use Rattle.engine_ports.specs.declared.door.Arrival.TheVariants as arrival
+
+-- what the three parts of a connection tell
+pub record Outside : Type 0 where
+  pub source : SourceView
+  pub sink : SinkView
+  pub clock : ClockView
+
+abbrev pub outside : SourceView → SinkView → ClockView → Outside
+outside s u v = record { source = s; sink = u; clock = v }
+
+-- the connections to come and those that ended with their numbers, where they are told, and how
+-- often a call failed
+pub record DoorView : Type 0 where
+  pub coming : Option (List Outside)
+  pub past : Option (List (ℕ × Outside))
+  pub faults : ℕ
+
+-- a sink that tells its bytes has taken none
+abbrev pub IsFresh : Option (List ℕ) → Type 0
+IsFresh None = Unit {0}
+IsFresh (Some wrote) = wrote ≡ []
+
+-- a connection begins with no count and with nothing written
+pub record IsNew (o : Outside) : Type 0 where
+  pub faults : o.source.faults ≡ 0
+  pub ends : o.source.ends ≡ 0
+  pub sink_faults : o.sink.faults ≡ 0
+  pub stops : o.clock.stops ≡ 0
+  pub fresh : IsFresh o.sink.wrote
+
+-- the connection that came was the first of those to come
+abbrev pub Came : Option (List Outside) → Outside → Option (List Outside) → Type 0
+Came (Some before) o (Some now) = before ≡ o ∷ now
+Came None o None = Unit {0}
+Came (Some before) o None = ⊥
+Came None o (Some now) = ⊥
+
+-- the connection that ended is the last of the past
+abbrev pub Left : Option (List (ℕ × Outside)) → ℕ → Outside → Option (List (ℕ × Outside)) → Type 0
+Left (Some before) number o (Some now) = now ≡ before ++ (number, o) ∷ []
+Left None number o None = Unit {0}
+Left (Some before) number o None = ⊥
+Left None number o (Some now) = ⊥
+
+-- no connection is to come, where they are told
+abbrev pub IsEmpty : Option (List Outside) → Type 0
+IsEmpty None = Unit {0}
+IsEmpty (Some coming) = coming ≡ []
+
+-- what a door is that only may have failed
+pub record SameDoor (v v' : DoorView) : Type 0 where
+  pub coming : v'.coming ≡ v.coming
+  pub past : v'.past ≡ v.past
+  pub faults : v.faults ≤ v'.faults
+
+-- what binding says: a fault at most
+abbrev pub BindSays : Result (Unit {0}) Failed → DoorView → DoorView → Type 0
+BindSays (Ok x) v v' = SameDoor v v'
+BindSays (Err x) v v' = SameDoor v v' × Rose v.faults v'.faults
+
+-- what accepting says: the first connection to come, none, or a fault
+abbrev pub AcceptSays : {S K C : Type 0} → (S → K → C → Outside) → Arrival S K C → DoorView → DoorView → Type 0
+AcceptSays tells (arrival.Conn s k c) v v' =
+    Came v.coming (tells s k c) v'.coming × IsNew (tells s k c) × (v'.past ≡ v.past) × (v.faults ≤ v'.faults)
+AcceptSays tells arrival.Shut v v' = SameDoor v v' × IsEmpty v.coming
+AcceptSays tells arrival.Failed v v' = SameDoor v v' × Rose v.faults v'.faults
+
+-- what leaving says: the connection is the last of the past
+pub record LeaveSays (number : ℕ) (o : Outside) (v v' : DoorView) : Type 0 where
+  pub past : Left v.past number o v'.past
+  pub coming : v'.coming ≡ v.coming
+  pub faults : v'.faults ≡ v.faults

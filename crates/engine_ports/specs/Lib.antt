@@ -1,0 +1,6 @@
+pub mod Rose
+pub mod Source
+pub mod Sink
+pub mod Clock
+pub mod Door
+pub mod Memory

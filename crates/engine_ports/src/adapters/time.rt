@@ -1,0 +1,55 @@
+// The clock of the system.
+use crate::{Clock, Pause};
+use std::thread;
+use std::time::{self, Duration, SystemTime, UNIX_EPOCH};
+
+/// The system's clock, in milliseconds since 1970. It tells no moments and never stops.
+#[derive(Drop)]
+pub struct SystemClock<C> {
+    clock: C,
+    last: u64,
+    stops: u64,
+}
+
+impl<C: time::Clock + Copy + Send> SystemClock<C> {
+    pub fn new(clock: C) -> SystemClock<C> {
+        SystemClock {
+            clock,
+            last: 0,
+            stops: 0,
+        }
+    }
+}
+
+impl<C: time::Clock + Copy + Send> Clock for SystemClock<C> {
+    ghost use Rattle.std.specs.Prelude.{None};
+
+    ghost times = { λ s. record { moments = None; stops = s.stops } };
+
+    // Where the system has no answer, the moment before.
+    fn now(&mut self) -> u64 {
+        if let Ok(now) = SystemTime::now(&self.clock)
+            && let Ok(since) = now.duration_since(UNIX_EPOCH)
+        {
+            self.last = u64::try_from(since.as_millis()).unwrap_or(u64::MAX);
+        }
+        self.last
+    }
+
+    fn pause(&mut self, ms: u64) -> Pause {
+        thread::sleep(&self.clock, Duration::from_millis(ms));
+        Pause::Go
+    }
+
+    fn twin(&self) -> Self {
+        SystemClock {
+            clock: self.clock,
+            last: self.last,
+            stops: self.stops,
+        }
+    }
+
+    fn rejoin(&mut self, other: Self) {
+        self.stops = self.stops.max(other.stops);
+    }
+}

@@ -1,0 +1,31 @@
+//! The edge of HTTP/1.1: requests are read and answers are written.
+#![tactic(auto)]
+
+mod answer;
+mod asks;
+mod chunk;
+mod fields;
+mod fill;
+mod framing;
+mod head;
+mod laws;
+mod limits;
+mod line;
+mod reader;
+mod request;
+mod shown_fields;
+mod view;
+
+pub use answer::{write_answer, write_refusal};
+pub use asks::Want;
+pub use chunk::{write_chunk, write_last};
+pub use framing::Framing;
+pub use head::{Form, Head, write_head};
+pub use laws::{law_begins_with_none, law_of_requests, law_one_reading, law_refused_stays};
+pub use limits::{BODY_LIMIT, FIELD_LIMIT, HEAD_LIMIT};
+pub use reader::{Next, RequestReader, Stopped};
+pub use shown_fields::Fields;
+pub use view::{Buffers, RequestView};
+
+#[cfg(test)]
+mod tests;

@@ -1,0 +1,113 @@
+// A request, as it stands in the reader's buffers.
+ghost use Rattle.std.specs.Prelude.{◌≡◌, ◌≤◌, length, take, IsUtf8};
+ghost use Rattle.http_edge.specs.Shown.{IsShown};
+
+use crate::asks::{Want, has_field};
+use crate::shown_fields::Fields;
+use httparse::spans::{HeaderSpan, RequestSpans};
+use std::str;
+
+/// What reading a request fills.
+#[derive(Drop)]
+pub struct Buffers {
+    pub(crate) head: Vec<u8>,
+    pub(crate) spans: Vec<HeaderSpan>,
+    pub(crate) body: Vec<u8>,
+}
+
+/// A request, as it stands in the reader's buffers.
+#[derive(Clone, Copy)]
+pub struct RequestView<'r> {
+    pub(crate) buffers: &'r Buffers,
+    pub(crate) len: usize,
+    pub(crate) size: usize,
+    pub(crate) found: RequestSpans,
+    ghost len_fits: { len ≤ length buffers.now.head.items },
+    ghost shown: { ∥ IsShown (take len buffers.now.head.items) buffers.now.spans.items found buffers.now.body.items size ∥₁ },
+}
+
+impl<'r> RequestView<'r> {
+    ghost use Rattle.std.specs.Prelude.{◌≡◌, map};
+    ghost use Rattle.http_edge.specs.Asks.{is_head, closes, asks_upgrade};
+    ghost use Rattle.http_edge.specs.Reader.{request_of};
+
+    /// The method, as GET.
+    pub fn method(&self) -> &'r str
+        ensures { result.now ≡ (request_of self.now).method }
+    {
+        text(self.found.method.of(self.head()))
+    }
+
+    /// The target: the path and the query, as they were sent.
+    pub fn target(&self) -> &'r str
+        ensures { result.now ≡ (request_of self.now).target }
+    {
+        text(self.found.path.of(self.head()))
+    }
+
+    /// The fields, in order.
+    pub fn fields(&self) -> Fields<'r>
+        ensures { result ≡ (request_of self.now).fields }
+    {
+        Fields::new(self.head(), self.spans())
+    }
+
+    /// The body.
+    pub fn body(&self) -> &'r [u8]
+        ensures { result.now ≡ (request_of self.now).body }
+    {
+        &self.buffers.body[..self.size]
+    }
+
+    /// Whether the method is HEAD.
+    pub fn is_head(&self) -> bool
+        ensures { result ≡ is_head (request_of self.now) }
+    {
+        self.method() == "HEAD"
+    }
+
+    /// Whether the request asks to close the connection.
+    pub fn closes(&self) -> bool
+        ensures { result ≡ closes (request_of self.now) }
+    {
+        has_field(
+            self.head(),
+            self.spans(),
+            b"connection",
+            Want::Token,
+            b"close",
+        )
+    }
+
+    /// Whether the request asks to upgrade the connection.
+    pub fn asks_upgrade(&self) -> bool
+        ensures { result ≡ asks_upgrade (request_of self.now) }
+    {
+        let (head, spans) = (self.head(), self.spans());
+        has_field(head, spans, b"upgrade", Want::Value, b"tcp")
+            && has_field(head, spans, b"connection", Want::Token, b"upgrade")
+    }
+
+    fn head(&self) -> &'r [u8]
+        ensures { result.now ≡ take self.now.len self.now.buffers.now.head.items }
+    {
+        &self.buffers.head[..self.len]
+    }
+
+    fn spans(&self) -> &'r [HeaderSpan]
+        ensures { result.now ≡ take self.now.found.headers self.now.buffers.now.spans.items }
+    {
+        &self.buffers.spans[..self.found.headers]
+    }
+}
+
+/// Bytes that are text.
+fn text(bytes: &[u8]) -> &str
+    requires { IsUtf8 bytes.now }
+    ensures { result.now ≡ bytes.now }
+{
+    match str::from_utf8(bytes) {
+        Ok(text) => text,
+        Err(_) => unreachable!(),
+    }
+}
