@@ -1,0 +1,17 @@
+//! Serving connections: turns on the one daemon, sessions, and the program's top call.
+#![tactic(auto)]
+
+pub mod daemon;
+
+mod answer;
+mod command_line;
+mod exchange;
+mod message;
+mod program;
+mod session;
+mod terms;
+mod went;
+
+pub use program::run_engined;
+pub use session::serve;
+pub use session_model::{Ending, Worst};
