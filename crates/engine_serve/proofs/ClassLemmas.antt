@@ -116,27 +116,27 @@ wells c = Ok c
 same_read : (x c : Call) → wells x ≡ wells c → x ≡ c
 same_read x c h = cc
 
-one_unserved : {A : Type 0} (e : Result A Fault) (f : A → Call) (c : Call) → ((x : A) → api.is_served (f x) ≡ false)
-    → and_then e (λ x. Ok (f x)) ≡ Ok c → api.is_served c ≡ false
-one_unserved e f c none h = let w = went-on e (λ x. Ok (f x)) c h in ap api.is_served (sym (same_read (f w.0) c w.2)) ∙ none w.0
+one_unserved : {A : Type 0} (e : Result A Fault) (f : A → Call) (c : Call) → ((x : A) → api.is_built (f x) ≡ false)
+    → and_then e (λ x. Ok (f x)) ≡ Ok c → api.is_built c ≡ false
+one_unserved e f c none h = let w = went-on e (λ x. Ok (f x)) c h in ap api.is_built (sym (same_read (f w.0) c w.2)) ∙ none w.0
 
 chunks_by : (e : Result Call Fault) (c : Call) (t : Takeover) → in_chunks e ≡ Ok (Stream c t) → e ≡ Ok c
 chunks_by e c t h =
     let w = went-on e (λ x. Ok (Stream x takes.None)) (Stream c t) h in w.1 ∙ ap Ok (same_call w.0 c takes.None t w.2)
 
-events_unserved : (query : List ℕ) (c : Call) → events_call query ≡ Ok c → api.is_served c ≡ false
+events_unserved : (query : List ℕ) (c : Call) → events_call query ≡ Ok c → api.is_built c ≡ false
 events_unserved query c h =
     let w = went-on (time_in (codes "since") query) _ c h in
     let v = went-on (time_in (codes "until") query) _ c w.2 in
     one_unserved (filters_in event_keys query) (λ filter. call.Events w.0 v.0 filter) c (λ x. refl) v.2
 
 started : (name : List ℕ) (upgrade detach : Bool) (c : Call) (t : Takeover) → well (exec_start_class name upgrade detach) ≡ well (Stream c t)
-    → api.is_served c ≡ false
+    → api.is_built c ≡ false
 started name upgrade true c t h = absurd (asks_not (call.ExecStart name true) c t h)
-started name upgrade false c t h = ap api.is_served (sym (same_call (call.ExecStart name false) c (takeover upgrade) t h))
+started name upgrade false c t h = ap api.is_built (sym (same_call (call.ExecStart name false) c (takeover upgrade) t h))
 
 -- no route reads a stream of a call that is served
-unserved : (route : Route) (a : Asked) (c : Call) (t : Takeover) → route_class route a ≡ Ok (Stream c t) → api.is_served c ≡ false
+unserved : (route : Route) (a : Asked) (c : Call) (t : Takeover) → route_class route a ≡ Ok (Stream c t) → api.is_built c ≡ false
 unserved to.Ping a c t h = let n : ⊥ = cc in absurd n
 unserved to.PingHead a c t h = let n : ⊥ = cc in absurd n
 unserved to.Version a c t h = let n : ⊥ = cc in absurd n
@@ -153,7 +153,7 @@ unserved to.Rename a c t h = absurd (ask_never _ c t h)
 unserved to.Wait a c t h = absurd (ask_never _ c t h)
 unserved to.Remove a c t h = absurd (ask_never _ c t h)
 unserved to.Logs a c t h = one_unserved (log_ask a.query) (λ x. call.Logs a.name x) c (λ x. refl) (chunks_by (logs_call a.name a.query) c t h)
-unserved to.Attach a c t h = ap api.is_served (sym (same_call (call.Attach a.name (attach_ask a.query)) c (takeover a.upgrade) t h))
+unserved to.Attach a c t h = ap api.is_built (sym (same_call (call.Attach a.name (attach_ask a.query)) c (takeover a.upgrade) t h))
 unserved to.ExecCreate a c t h = absurd (ask_never _ c t h)
 unserved to.ExecStart a c t h =
     let w = went-on (of_body (exec_start_of a.body)) (λ detach. Ok (exec_start_class a.name a.upgrade detach)) (Stream c t) h in
@@ -164,7 +164,7 @@ unserved to.VolumeCreate a c t h = absurd (ask_never _ c t h)
 unserved to.VolumeInspect a c t h = absurd (asks_not _ c t h)
 unserved to.VolumeRemove a c t h = absurd (asks_not _ c t h)
 unserved to.Events a c t h = events_unserved a.query c (chunks_by (events_call a.query) c t h)
-unserved to.Journal a c t h = ap api.is_served (sym (same_call call.JournalRead c takes.None t h))
+unserved to.Journal a c t h = ap api.is_built (sym (same_call call.JournalRead c takes.None t h))
 
 stream_read : (m : List ℕ) (r : Result Class Fault) (c : Call) (t : Takeover) → or_refusal m r ≡ Stream c t → r ≡ Ok (Stream c t)
 stream_read m (Ok class) c t h = ap Ok h
@@ -172,12 +172,12 @@ stream_read m (Err fault) c t h = let n : ⊥ = cc in absurd n
 
 stream_built : (class : Class) (c : Call) (t : Takeover) → if_built class ≡ Ok (Stream c t) → class ≡ Stream c t
 stream_built (Direct answer) c t h = let n : ⊥ = cc in absurd n
-stream_built (Ask d) c t h = by (api.is_served d) h
+stream_built (Ask d) c t h = by (api.is_built d) h
   where
     by : (b : Bool) → cond b (Ok (Ask d)) (Err NotBuilt) ≡ Ok (Stream c t) → Ask d ≡ Stream c t
     by true h = let n : ⊥ = cc in absurd n
     by false h = let n : ⊥ = cc in absurd n
-stream_built (Stream d u) c t h = by (api.is_served d) h
+stream_built (Stream d u) c t h = by (api.is_built d) h
   where
     by : (b : Bool) → cond b (Ok (Stream d u)) (Err NotBuilt) ≡ Ok (Stream c t) → Stream d u ≡ Stream c t
     by true h = same_class (Stream d u) (Stream c t) h

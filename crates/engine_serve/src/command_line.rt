@@ -31,13 +31,20 @@ fn all_digits(bytes: &[u8]) -> bool
     }
 }
 
+/// Whether a word is from one to 13 decimal digits.
+fn is_numeral(word: &str) -> bool
+    ensures { result ≡ is_numeral 13 word.now }
+{
+    let bytes = word.as_bytes();
+    let fits = 1 <= bytes.len() && bytes.len() <= 13;
+    fits && all_digits(bytes)
+}
+
 /// The number that one to 13 decimal digits write.
 fn number_of(word: &str) -> Option<u64>
     ensures { result ≡ number_of 13 word.now }
 {
-    let bytes = word.as_bytes();
-    let fits = 1 <= bytes.len() && bytes.len() <= 13;
-    if !(fits && all_digits(bytes)) {
+    if !is_numeral(word) {
         return None;
     }
     word.parse::<u64>().ok()
