@@ -1,5 +1,5 @@
 -- What a due step tells: the fold of its events is the new summary, and their moment is the step's.
-use Rattle.std.proofs.Common.{◌≡◌, ℕ, ◌+◌, ◌<◌, ◌≤◌, ◌^◌, ◌==◌, Bool, true, false, List, [], ◌∷◌, map, refl, ap, sym, ◌∙◌, subst, arith, Option, Some, None, find}
+use Rattle.std.proofs.Common.{◌≡◌, ℕ, ◌<◌, ◌^◌, ◌==◌, false, List, refl, ap, sym, ◌∙◌, subst, arith}
 use Rattle.std.proofs.lemmas.Fmt.{decimal_is_IsNumeral}
 use Rattle.std.specs.List.{AllByRecursion}
 use Rattle.engine_text.specs.Id.{id_of, IdsDiffer}
@@ -12,13 +12,13 @@ use Rattle.engine_text.specs.declared.script.Effect.{Effect as ProcessEffect}
 use Rattle.engine_text.specs.declared.script.Effect.TheVariants.{Lives, Wrote, Ended}
 use Rattle.engine_text.specs.declared.step.DueAction.{DueAction}
 use Rattle.container_table.specs.Lists.{update_first}
-use Rattle.machine_model.specs.State.{State, container_numbered}
+use Rattle.machine_model.specs.State.{State}
 use Rattle.machine_model.specs.EventTexts.{die_event}
 use Rattle.machine_model.specs.Effects.Meet.{logged}
 use Rattle.machine_model.specs.Step.{finished}
 use Rattle.machine_model.specs.Summary.{fold_on, inspect_summary, summary_row, exit_code}
 use Rattle.container_machine.specs.Kept.{IsKept, IsKeptContainer}
-use Rattle.container_machine.specs.Launched.{with_life, over}
+use Rattle.container_machine.specs.Launched.{over}
 use Rattle.container_machine.specs.Ran.{ran_by, ran_state}
 use Rattle.container_machine.proofs.Updates.{map_updated}
 use Rattle.container_machine.proofs.Normal.{renewed}

@@ -1,5 +1,5 @@
 -- What a machine keeps along a legal history of what is built.
-use Rattle.std.proofs.Common.{◌≡◌, ℕ, ◌+◌, ◌<◌, ◌≤◌, ◌^◌, Bool, true, false, List, [], ◌∷◌, ◌++◌, length, map, refl, ap, sym, ◌∙◌, subst, arith, Option, Some, None, IsTrue, lit<}
+use Rattle.std.proofs.Common.{◌≡◌, ℕ, ◌≤◌, true, List, [], ◌∷◌, ◌++◌, map, refl, ap, sym, subst, arith, Option, Some, None, IsTrue}
 use Rattle.std.proofs.lemmas.Bool.Decides.{nat_tests}
 use Rattle.std.specs.List.{AllByRecursion}
 use Rattle.engine_text.specs.Id.{IdsDiffer}
@@ -9,25 +9,24 @@ use Rattle.engine_text.specs.declared.owner.Owner.TheVariants.{Container as OfCo
 use Rattle.engine_text.specs.declared.script.Effect.{Effect as ProcessEffect}
 use Rattle.engine_text.specs.declared.step.DueAction.{DueAction}
 use Rattle.engine_text.specs.declared.step.Step.{Step}
-use Rattle.proc_kernel.specs.Processes.{Process, run_due, next_due}
+use Rattle.proc_kernel.specs.Processes.{run_due, next_due}
 use Rattle.proc_kernel.specs.Tables.{process_of, effect_of}
 use Rattle.machine_model.specs.State.{State, initial_state}
 use Rattle.machine_model.specs.Chain.{Effect}
 use Rattle.machine_model.specs.Due.{least_due}
-use Rattle.machine_model.specs.History.{Charter, IsLawful, AreLawful, IsLegal, after_step, state_from, events_from, state_after, events_of, opening_state, is_by, latest, has_steps, greatest_moment}
+use Rattle.machine_model.specs.History.{IsLawful, AreLawful, after_step, state_from, events_from, state_after, opening_state, is_by, latest, has_steps, greatest_moment}
 use Rattle.machine_model.specs.Laws.{NeverFall}
-use Rattle.machine_model.specs.Consistency.{IsConsistent}
-use Rattle.machine_model.specs.Step.{finished, due_step, or_still, step_effect}
+use Rattle.machine_model.specs.Step.{finished, or_still, step_effect}
 use Rattle.container_machine.specs.Built.{is_built}
 use Rattle.container_machine.specs.Kept.{IsKept, IsUndue}
-use Rattle.container_machine.specs.Laws.{is_built_step, IsBuilt, BuiltStatesLaw}
+use Rattle.container_machine.specs.Laws.{is_built_step, BuiltStatesLaw}
 use Rattle.container_machine.specs.Ran.{ran_by, ran_state}
 use Rattle.container_machine.proofs.Consistent.{consistent}
 use Rattle.container_machine.proofs.DueKept.{Working, working, due_next_is, due_is, kept_due, of_process}
 use Rattle.container_machine.proofs.DueTold.{IsTimed, timed_due}
 use Rattle.container_machine.proofs.Lists.{All-imp}
 use Rattle.container_machine.proofs.Ready.{kept_call}
-use Rattle.container_machine.proofs.Told.{Tells, told_call}
+use Rattle.container_machine.proofs.Told.{told_call}
 
 -- ---- one step
 

@@ -1,8 +1,8 @@
 -- What each built call tells: the fold of its events is the new summary, and their moment is the call's.
-use Rattle.std.proofs.Common.{◌≡◌, ◌≢◌, ℕ, ◌+◌, ◌<◌, ◌≤◌, ◌^◌, ◌==◌, not, Bool, true, false, List, [], ◌∷◌, ◌++◌, map, refl, ap, sym, ◌∙◌, subst, arith, Option, Some, None, IsTrue, find}
+use Rattle.std.proofs.Common.{◌≡◌, ◌≢◌, ℕ, ◌+◌, ◌≤◌, ◌==◌, not, Bool, true, false, List, [], ◌∷◌, refl, ap, sym, ◌∙◌, subst, arith, Option, Some, None, IsTrue}
 use Rattle.std.proofs.lemmas.List.{map-append}
 use Rattle.std.specs.List.{AllByRecursion}
-use Rattle.engine_text.specs.Id.{id_of, IdsDiffer}
+use Rattle.engine_text.specs.Id.{IdsDiffer}
 use Rattle.engine_text.specs.Scripts.{Program}
 use Rattle.engine_text.specs.Texts.{same_bytes}
 use Rattle.proc_kernel.specs.Catalogue.{program_of}
@@ -16,7 +16,7 @@ use Rattle.machine_model.specs.Names.{holder, chosen_name}
 use Rattle.machine_model.specs.Filters.{is_image}
 use Rattle.machine_model.specs.EventTexts.{plain_event}
 use Rattle.machine_model.specs.Views.{container_body}
-use Rattle.machine_model.specs.Effects.Launch.{afresh, launched, container_room}
+use Rattle.machine_model.specs.Effects.Launch.{afresh, launched}
 use Rattle.machine_model.specs.Summary.{fold_on, inspect_summary, summary_row}
 use Rattle.machine_model.specs.Calls.Create as create
 use Rattle.machine_model.specs.Calls.Start as start
@@ -29,12 +29,10 @@ use Rattle.engine_text.specs.declared.container.Found.{Found}
 use Rattle.engine_text.specs.declared.container.Life.{Life}
 use Rattle.engine_text.specs.declared.event.Event.{Event}
 use Rattle.engine_text.specs.declared.event.FoldRow.{FoldRow}
-use Rattle.engine_text.specs.declared.event.Action.TheVariants.{Create, Start}
+use Rattle.engine_text.specs.declared.event.Action.TheVariants.{Create}
 use Rattle.engine_text.specs.declared.status.Status.{Status}
 use Rattle.container_machine.specs.Built.{is_built, is_built_create}
 use Rattle.container_machine.specs.Kept.{IsKept, IsKeptContainer, is_idle}
-use Rattle.container_machine.specs.Launched.{launched_in}
-use Rattle.container_machine.specs.Prepared.{with_bare}
 use Rattle.container_machine.proofs.CreateLemmas.{added, no_mounts}
 use Rattle.container_machine.proofs.Consistent.{live_pid}
 use Rattle.container_machine.proofs.Normal.{launch_is, run_refuses, run_launches, renewed}

@@ -1,7 +1,7 @@
 //! The laws of every legal history of what is built, as contracts of functions that do nothing.
-use engine_text::law_ids_differ;
-
 ghost use Rattle.container_machine.specs.Laws.{BuiltStatesLaw};
+
+use engine_text::law_ids_differ;
 
 /// Every state is consistent, and the moments of events never fall.
 pub fn law_states()
