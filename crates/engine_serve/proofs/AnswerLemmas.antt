@@ -123,7 +123,7 @@ full k handed r c result p q u u' t t' pair class clock turn sends =
     let none = dues_none k _ _ turn.turns.own turn.says.1.0 in
     tries_whole k r _ result _ p q u u' t t' refl sends
     (λ behind. JournalIsFull c class (turn_quiet k p q turn.turns pair none)
-      (λ room. turn.says.1.1 (subst (λ s. HasRoom p.charter s c) (sym (state_seen k p q turn.turns)) room)) refl refl)
+    (λ room. turn.says.1.1 (subst (λ s. HasRoom p.charter s c) (sym (state_seen k p q turn.turns)) room)) refl refl)
     (turn_rests k handed p q turn.turns t t' pair none (dues_clock _ _ turn.turns.own turn.says.1.0) clock)
 
 pub no_memory : (k handed : ℕ) (r : Request) (c : Call) (result : Went) (p q : PassView) (u u' : SinkView) (t t' : ClockView)

@@ -129,7 +129,7 @@ says_made ch s k handed t c r built none room at is =
     says_by ch s k handed c (Step.Call k t c ∷ []) r
     (subst IsAnswer (sym is) (built_answers c built s k t))
     (subst (λ u. Makes ch s k handed c (Step.Call k u c ∷ []) r) at
-      (made_at ch s k handed c r built none room (is ∙ ap (λ u. reply_of s k u c) (sym at))))
+    (made_at ch s k handed c r built none room (is ∙ ap (λ u. reply_of s k u c) (sym at))))
 
 -- ---- a daemon, by what it keeps
 
@@ -189,7 +189,7 @@ pub full : (ch : Charter) (s : State) (h : List Step) (k handed : ℕ) (c : Call
 full ch s h k handed c st built idle none =
     rests ch h k handed (Some c) T.JournalFull st.legal
     (subst (λ x. TurnSays ch x k handed (Some c) T.JournalFull []) st.is
-      (built_drop c built, (acts_none s (moment_used s handed) idle, λ yes. false≢true (sym none ∙ yes))))
+    (built_drop c built, (acts_none s (moment_used s handed) idle, λ yes. false≢true (sym none ∙ yes))))
 
 -- there was no memory
 pub short : (ch : Charter) (s : State) (h h' : List Step) (k handed : ℕ) (c : Call) → Stands ch s h → IsTrue (is_served c)
@@ -207,4 +207,4 @@ made ch s s' h h' k handed t c r st may m =
     (legal_on ch h h' (Step.Call k t c) s st.legal st.is m.steps_are (lawful_by ch s h k handed t c st may))
     m.steps_are
     (subst (λ x. TurnSays ch x k handed (Some c) (turned_by r) (Step.Call k t c ∷ [])) st.is
-      (says_made ch s k handed t c r may.built may.idle may.room may.at m.reply))
+    (says_made ch s k handed t c r may.built may.idle may.room may.at m.reply))

@@ -55,7 +55,11 @@ fn moment_in(word: &str) -> Option<u64>
     ensures { result ≡ spec.moment_in word.now }
 {
     match number_of(word) {
-        Some(moment) => if moment <= GREATEST_MOMENT { Some(moment) } else { None },
+        Some(moment) => if moment <= GREATEST_MOMENT {
+            Some(moment)
+        } else {
+            None
+        },
         None => None,
     }
 }
@@ -99,7 +103,11 @@ pub(crate) fn line_of(words: &[Text]) -> Option<Line>
     ensures { result ≡ spec.line_of words.now }
 {
     match words {
-        [stdio] => if stdio.is("--stdio") { Some(Line { clock: None }) } else { None },
+        [stdio] => if stdio.is("--stdio") {
+            Some(Line { clock: None })
+        } else {
+            None
+        },
         [stdio, clock, word] => if stdio.is("--stdio") && clock.is("--clock") {
             clocked(stepping_in(word.as_str()))
         } else {

@@ -7,7 +7,6 @@ mod stored;
 mod turning;
 mod value;
 
-
 pub use alone::Alone;
 pub(crate) use moment::GREATEST_MOMENT;
 pub use turning::Turns;

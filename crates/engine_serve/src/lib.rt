@@ -1,10 +1,9 @@
 //! Serving connections: turns on the one daemon, sessions, and the program's top call.
 #![tactic(auto)]
 
-pub mod daemon;
-
 mod answer;
 mod command_line;
+pub mod daemon;
 mod exchange;
 mod message;
 mod program;
@@ -15,3 +14,6 @@ mod went;
 pub use program::run_engined;
 pub use session::serve;
 pub use session_model::{Ending, Worst};
+
+#[cfg(test)]
+mod tests;

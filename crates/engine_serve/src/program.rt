@@ -17,7 +17,8 @@ use std::sync::Wait;
 const DEFAULT_ENTRIES: u64 = 4_194_304;
 
 /// What is written where the words aren't a line.
-const USAGE: &str = "usage: engined --stdio | --listen ADDR | --drill N [--seed HEX] [--clock START:STEP] [--connections N] [--journal N]\n";
+const USAGE: &str =
+    "usage: engined --stdio | --listen ADDR | --drill N [--seed HEX] [--clock START:STEP] [--connections N] [--journal N]\n";
 
 /// The status of an ending.
 fn status_of(ending: Ending) -> u8

@@ -30,7 +30,7 @@ invariant_of-self-2 c =
       at = sym (c.moment_used-moment.ensures ∙ ap (λ x. moment_of x c.args.handed) c.now.ensures.clock);
     } in
     let on = stands_on c.make.result ch s c.make.new.self.machine.state d.stored.steps.items c.make.new.self.steps.items
-        c.args.conn c.args.handed c.moment_used-moment.result c.args.call.now st may c.make.ensures.made c.make.ensures.state c.make.ensures.steps in
+    c.args.conn c.args.handed c.moment_used-moment.result c.args.call.now st may c.make.ensures.made c.make.ensures.state c.make.ensures.steps in
     record { state = as_stored c.make.new.self _ on.is; legal = on.legal; in_time = on.in_time; idle = on.idle }
 
 pub returns-in-Ok : goal.returns-in-Ok
@@ -47,7 +47,7 @@ returns-in-Ok c =
       at = sym (c.moment_used-moment.ensures ∙ ap (λ x. moment_of x c.args.handed) c.now.ensures.clock);
     } in
     rw c.turned.ensures (made ch s c.make.new.self.machine.state d.stored.steps.items c.make.new.self.steps.items
-      c.args.conn c.args.handed c.moment_used-moment.result c.args.call.now c.in-Ok.reply st may c.in-Ok.ensures.made)
+    c.args.conn c.args.handed c.moment_used-moment.result c.args.call.now c.in-Ok.reply st may c.in-Ok.ensures.made)
 
 pub returns-in-Err : goal.returns-in-Err
 returns-in-Err c =
