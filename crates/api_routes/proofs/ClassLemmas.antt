@@ -8,7 +8,7 @@ use Rattle.api_routes.specs.Fault.{and_then}
 use Rattle.api_routes.specs.Routes.{method_of, route_for}
 use Rattle.api_routes.specs.Path.{path_of, query_of, parameter_of}
 use Rattle.api_routes.specs.Version.{behind_version}
-use Rattle.api_routes.specs.RouteClass.{Asked, route_class}
+use Rattle.api_routes.specs.RouteClass.{route_class}
 use Rattle.api_routes.specs.Built.{is_built, if_built}
 use Rattle.api_routes.specs.Class.{class_of, read_class, or_not_found, or_refusal}
 use Rattle.api_routes.specs.declared.class.Class.{Class}

@@ -1,5 +1,5 @@
 -- A call that is asked and served is a create, with what its body and its query say.
-use Rattle.std.proofs.Common.{◌≡◌, ℕ, List, [], ◌∷◌, Bool, true, false, cond, not, true≢false, codes, unwrap_or, Result, Ok, Err, Option, Some, None, refl, sym, ap, subst, ◌∙◌, ◌&&◌}
+use Rattle.std.proofs.Common.{◌≡◌, ℕ, List, [], ◌∷◌, Bool, true, false, cond, not, true≢false, codes, unwrap_or, Result, Ok, Err, Option, Some, None, refl, sym, ap, ◌∙◌, ◌&&◌}
 use Rattle.engine_text.specs.Name.{is_name}
 use Rattle.engine_text.specs.declared.call.Call.{Call}
 use Rattle.engine_text.specs.declared.call.Call.TheVariants as call
@@ -11,9 +11,8 @@ use Rattle.engine_text.specs.declared.policy.Policy.TheVariants.{No, Always, Unl
 use Rattle.api_json.specs.declared.fault.BodyFault.{BodyFault}
 use Rattle.api_json.specs.Create.{create_of}
 use Rattle.http_edge.specs.Message.{Request}
-use Rattle.http_edge.specs.Asks.{asks_upgrade}
 use Rattle.api_routes.specs.Fault.{and_then}
-use Rattle.api_routes.specs.Keys.{flag, create_name, optional_name, new_name, signal_in, kill_signal, seconds_in, limit_in, condition_in, time_in}
+use Rattle.api_routes.specs.Keys.{flag, create_name, optional_name, new_name, signal_in, kill_signal, seconds_in, limit_in, condition_in}
 use Rattle.api_routes.specs.Calls.{of_body, filters_in, create_call, logs_call, attach_ask, events_call, list_keys}
 use Rattle.api_json.specs.ExecCreate.{exec_of, exec_start_of}
 use Rattle.api_json.specs.VolumeCreate.{volume_of}
@@ -24,16 +23,16 @@ use Rattle.api_routes.specs.Built.{is_built, is_built_create, is_no_policy, has_
 use Rattle.api_routes.specs.Class.{class_of}
 use Rattle.api_routes.specs.Sound.{IsWithin}
 use Rattle.api_routes.specs.Laws.{IsAsked, IsNamed}
-use Rattle.api_routes.proofs.SoundLemmas.{create-within}
+use Rattle.api_json.proofs.CreateLemmas.{create_signal, create_seconds, create_labels_rise}
 use Rattle.api_routes.specs.declared.class.Class.{Class}
-use Rattle.api_routes.specs.declared.class.Class.TheVariants.{Direct, Ask, Stream}
+use Rattle.api_routes.specs.declared.class.Class.TheVariants.{Ask, Stream}
 use Rattle.api_routes.specs.declared.class.Takeover.{Takeover}
 use Rattle.api_routes.specs.declared.class.Takeover.TheVariants as takes
 use Rattle.api_routes.specs.declared.fault.Fault.{Fault}
-use Rattle.api_routes.specs.declared.fault.Fault.TheVariants.{Body, InvalidName, LinksLeftOut}
+use Rattle.api_routes.specs.declared.fault.Fault.TheVariants.{InvalidName, LinksLeftOut}
 use Rattle.api_routes.specs.declared.route.Route.{Route}
 use Rattle.api_routes.specs.declared.route.Route.TheVariants as to
-use Rattle.api_routes.proofs.ClassLemmas.{went-on, asked-by, class_built}
+use Rattle.api_routes.proofs.ClassLemmas.{went-on, asked-by}
 
 -- a call of these parts isn't served
 one-more : {A : Type 0} (e : Result A Fault) (f : A → Call) (c : Call) → ((x : A) → is_built (f x) ≡ false) → and_then e (λ x. Ok (f x)) ≡ Ok c → is_built c ≡ false
@@ -149,6 +148,13 @@ named : (query : List ℕ) (name : Option (List ℕ)) → create_name query ≡ 
 named query None h = tt
 named query (Some name) h = name-read query name h
 
+create-within : (body : List ℕ) (spec : CreateSpec) → create_of None body ≡ Ok spec → IsWithin spec
+create-within body spec h = record {
+  signal = create_signal None body spec h;
+  seconds = create_seconds None body spec h;
+  labels = create_labels_rise None body spec h;
+}
+
 -- a name isn't among the bounds
 renamed : (spec : CreateSpec) (name : Option (List ℕ)) → IsWithin spec → IsWithin (record spec { name = name })
 renamed spec name w = record { signal = w.signal; seconds = w.seconds; labels = w.labels }
@@ -174,7 +180,7 @@ asked-create r c h =
         mounts = no-mounts spec.mounts q.0;
         policy = no-policy spec.policy q.1;
         open_stdin = is-not spec.open_stdin p.1;
-        within = renamed b.0 n.0 (create-within None r.body b.0 (of-read _ b.0 b.1));
+        within = renamed b.0 n.0 (create-within r.body b.0 (of-read _ b.0 b.1));
         named = named (query_of r.target) n.0 n.1;
       },
     )

@@ -5,6 +5,4 @@ pub mod VersionLemmas
 pub mod ClassLemmas
 pub mod CreateLemmas
 pub mod StandardFacts
-pub mod KeyLemmas
-pub mod SoundLemmas
 pub mod StatusLemmas

@@ -1,5 +1,5 @@
 -- What `parse` gives of a numeral.
-use Rattle.std.proofs.Common.{◌≡◌, ◌≤◌, ◌<◌, ℕ, List, Bool, true, false, Result, Ok, Err, Option, Some, None, IfSome, refl, sym, subst, cond, ◌&&◌, ◌^◌, leb, length, arith}
+use Rattle.std.proofs.Common.{◌≡◌, ◌≤◌, ◌<◌, ℕ, List, Bool, true, false, Result, Ok, Option, Some, None, IfSome, refl, sym, subst, cond, ◌&&◌, ◌^◌, leb, length, arith}
 use Rattle.std.specs.Str.{all_ascii_digits}
 use Rattle.std.specs.Str.Parse.{digits_value, ParsesUnsigned}
 use Rattle.std.proofs.lemmas.Bool.Decides.{nat_tests}

@@ -1,8 +1,8 @@
 -- Sentences of the API's versioning and of this project's rules, as facts about the definitions.
-use Rattle.std.proofs.Common.{◌≡◌, ℕ, List, [], ◌∷◌, Option, Some, None, Result, Ok, Err, codes, pos, negsuc, refl}
+use Rattle.std.proofs.Common.{◌≡◌, [], ◌∷◌, Some, None, Ok, Err, codes, pos, negsuc, refl}
 use Rattle.route_laws.specs.Segments.{segments, row_for}
 use Rattle.api_routes.specs.Routes.{method_of, route_for, get_table, delete_table}
-use Rattle.api_routes.specs.Version.{Version, version_of, behind_version}
+use Rattle.api_routes.specs.Version.{version_of, behind_version}
 use Rattle.api_routes.specs.Keys.{read_time, read_limit, read_seconds, read_tail}
 use Rattle.api_routes.specs.declared.fault.Fault.TheVariants.{VersionTooOld, VersionTooNew}
 use Rattle.api_routes.specs.declared.route.Route.TheVariants as to

@@ -1,5 +1,5 @@
 -- A direct answer has a status.
-use Rattle.std.proofs.Common.{◌≡◌, ◌<◌, ◌≤◌, ℕ, List, Bool, true, false, cond, Result, Ok, Err, refl, sym, ap, subst, ◌∙◌, arith}
+use Rattle.std.proofs.Common.{◌≡◌, ℕ, List, Bool, true, false, cond, Result, Ok, Err, refl, sym, ap, subst, ◌∙◌, arith}
 use Rattle.engine_text.specs.declared.call.Call.{Call}
 use Rattle.http_edge.specs.Message.{Request}
 use Rattle.http_edge.specs.Asks.{asks_upgrade}

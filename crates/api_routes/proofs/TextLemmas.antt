@@ -1,9 +1,8 @@
 -- What a segment's text is.
-use Rattle.std.proofs.Common.{◌≡◌, ℕ, List, Bool, true, false, Result, Ok, Err, refl, ◌&&◌, cond}
+use Rattle.std.proofs.Common.{◌≡◌, ℕ, List, Bool, true, false, Ok, Err, refl, ◌&&◌, cond}
 use Rattle.std.specs.Str.{IsUtf8, is_utf8}
 use Rattle.std.proofs.lemmas.Str.{IsUtf8-from_is_utf8, is_utf8-from_IsUtf8}
 use Rattle.percent_encoding.specs.Percent.{percent_decode}
-use Rattle.api_routes.specs.declared.fault.Fault.{Fault}
 use Rattle.api_routes.specs.declared.fault.Fault.TheVariants.{BadPath}
 use Rattle.api_routes.specs.Path.{escapes_well, segment_text}
 

@@ -1,8 +1,8 @@
 -- The version of a segment.
-use Rattle.std.proofs.Common.{◌≡◌, ◌≢◌, ℕ, List, [], ◌∷◌, Bool, true, false, cond, Option, Some, None, refl, ◌&&◌, ap, ◌==◌, ◌∙◌, arith}
+use Rattle.std.proofs.Common.{◌≡◌, ◌≢◌, ℕ, List, [], ◌∷◌, Bool, true, false, cond, None, refl, ap, ◌==◌, arith}
 use Rattle.std.specs.List.{before_first, after_first}
 use Rattle.std.proofs.lemmas.Bool.Decides.{nat_tests}
-use Rattle.api_routes.specs.Version.{Version, version_of, version_in, letter_v, dot}
+use Rattle.api_routes.specs.Version.{version_of, version_in, letter_v, dot}
 
 pub no-letter : (s : List ℕ) → ((rest : List ℕ) → s ≢ letter_v ∷ rest) → version_of s ≡ None
 no-letter [] h = refl

@@ -1,5 +1,5 @@
 -- What the request of each route asks for (Docker Engine API v1.43, the operations of containers, exec, volumes and system; own: JournalRead).
-use Rattle.std.specs.Prelude.{ℕ, ◌==◌, ◌||◌, List, [], ◌∷◌, Bool, Option, Some, None, unwrap_or, codes, if◌then◌else◌, Result, Ok, Err}
+use Rattle.std.specs.Prelude.{ℕ, ◌==◌, ◌||◌, List, [], ◌∷◌, Option, Some, None, unwrap_or, codes, if◌then◌else◌, Result, Ok, Err}
 use Rattle.engine_text.specs.declared.call.Call.{Call}
 use Rattle.engine_text.specs.declared.call.Call.TheVariants as call
 use Rattle.engine_text.specs.declared.call.LogAsk.{LogAsk}
@@ -8,7 +8,7 @@ use Rattle.engine_text.specs.declared.filter.FilterKey.{FilterKey}
 use Rattle.engine_text.specs.declared.filter.FilterKey.TheVariants as key
 use Rattle.engine_text.specs.declared.filter.FilterRow.{FilterRow}
 use Rattle.api_json.specs.Create.{create_of}
-use Rattle.api_json.specs.ExecCreate.{exec_of, exec_start_of}
+use Rattle.api_json.specs.ExecCreate.{exec_of}
 use Rattle.api_json.specs.VolumeCreate.{volume_of}
 use Rattle.api_json.specs.Filters.{filter_of}
 use Rattle.api_json.specs.declared.fault.BodyFault.{BodyFault}

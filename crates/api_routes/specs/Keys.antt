@@ -1,7 +1,6 @@
 -- What the keys of queries may have (Docker Engine API v1.43, the query parameters of each operation; own: their bounds and messages).
-use Rattle.std.specs.Prelude.{ℕ, ℤ, pos, negsuc, ◌+◌, ◌-◌, ◌*◌, ◌==◌, ◌&&◌, ◌||◌, leb, length, Bool, List, [], ◌∷◌, Option, Some, None, unwrap_or, option_map, codes, if◌then◌else◌, Result, Ok, Err}
+use Rattle.std.specs.Prelude.{ℕ, ℤ, pos, negsuc, ◌+◌, ◌-◌, ◌*◌, ◌==◌, ◌&&◌, ◌||◌, leb, length, Bool, List, [], ◌∷◌, Option, Some, None, option_map, codes, if◌then◌else◌, Result, Ok, Err}
 use Rattle.std.specs.List.{before_first, after_first}
-use Rattle.std.specs.Option.{option_and_then}
 use Rattle.std.specs.Str.{all_ascii_digits}
 use Rattle.engine_text.specs.Texts.{same_bytes}
 use Rattle.engine_text.specs.Name.{is_name}
@@ -14,7 +13,7 @@ use Rattle.api_routes.specs.Numeral.{number_of}
 use Rattle.api_routes.specs.Version.{dot}
 use Rattle.api_routes.specs.Query.{value_of, value_or_empty}
 use Rattle.api_routes.specs.declared.fault.Fault.{Fault}
-use Rattle.api_routes.specs.declared.fault.Fault.TheVariants.{InvalidName, InvalidSignal, BadSeconds, BadLimit, BadTail, BadCondition, BadTime, NoStream, LinksLeftOut}
+use Rattle.api_routes.specs.declared.fault.Fault.TheVariants.{InvalidName, InvalidSignal, BadSeconds, BadLimit, BadTail, BadCondition, BadTime}
 
 -- what was read, or the fault
 abbrev pub or_fault : {A : Type 0} → Fault → Option A → Result A Fault

@@ -1,5 +1,5 @@
 -- The class of each route's request (Docker Engine API v1.43, the operations by route; own: JournalRead).
-use Rattle.std.specs.Prelude.{ℕ, List, Bool, true, false, codes, if◌then◌else◌, Result, Ok, Err}
+use Rattle.std.specs.Prelude.{ℕ, List, Bool, true, false, codes, if◌then◌else◌, Result, Ok}
 use Rattle.engine_text.specs.declared.call.Call.{Call}
 use Rattle.engine_text.specs.declared.call.Call.TheVariants as call
 use Rattle.api_json.specs.ExecCreate.{exec_start_of}
@@ -7,7 +7,6 @@ use Rattle.api_routes.specs.Fault.{and_then}
 use Rattle.api_routes.specs.Calls.{of_body, create_call, list_call, stop_call, restart_call, kill_call, rename_call, wait_call, remove_call, logs_call, attach_ask, exec_create_call, volume_create_call, volume_list_call, events_call}
 use Rattle.api_routes.specs.declared.class.Class.{Class}
 use Rattle.api_routes.specs.declared.class.Class.TheVariants.{Direct, Ask, Stream}
-use Rattle.api_routes.specs.declared.class.DirectAnswer.{DirectAnswer}
 use Rattle.api_routes.specs.declared.class.DirectKind.{DirectKind}
 use Rattle.api_routes.specs.declared.class.DirectKind.TheVariants.{Json, Plain, PlainHead}
 use Rattle.api_routes.specs.declared.class.Takeover.{Takeover}

@@ -23,7 +23,7 @@ use Rattle.container_machine.proofs.Least.{actions_undue}
 
 -- ---- one container and its process
 
-live_pid : (n : ℕ) → n ≢ 0 → not (n == 0) ≡ true
+pub live_pid : (n : ℕ) → n ≢ 0 → not (n == 0) ≡ true
 live_pid n h = elim (eqb_tells n 0) [ inl e ↦ absurd (h e.1) | inr e ↦ ap not e.0 ]
 
 idle_fits : (status : Status) → is_idle status ≡ true → FitsStatus status false

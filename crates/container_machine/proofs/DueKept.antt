@@ -131,7 +131,7 @@ ended_life : (s : State) (t code : ℕ) (c : Container) → t ≤ greatest_momen
 ended_life s t code c fits h = record { id = h.id; below = h.below; starts = h.starts; restarts = h.restarts; goal = refl; mounts = h.mounts; policy = h.policy; created = h.created; started = h.started; finished = fits }
 
 -- what each entry of the table keeps, that of an owner keeps
-of_process : (P : Process → Type 0) (o : Owner) (p : Process) (ps : List Entry) → AllByRecursion (λ e. P e.process) ps → process_of o ps ≡ Some p → P p
+pub of_process : (P : Process → Type 0) (o : Owner) (p : Process) (ps : List Entry) → AllByRecursion (λ e. P e.process) ps → process_of o ps ≡ Some p → P p
 of_process P o p [] h e = absurd (cc)
 of_process P o p (x ∷ ps) h e = elim (decide (same_owner x.owner o)) [
   | inl b ↦ let same : Some x.process ≡ Some p = sym (ap (λ c. if c then Some x.process else process_of o ps) b) ∙ e in subst P (some_is x.process p same) h.0

@@ -17,3 +17,7 @@ pub mod Ops
 pub mod Found
 pub mod DueKept
 pub mod DueCommitted
+pub mod Rows
+pub mod Told
+pub mod DueTold
+pub mod Histories

@@ -9,3 +9,4 @@ pub mod Prepared
 pub mod Inside
 pub mod Further
 pub mod Ran
+pub mod Laws

@@ -8,6 +8,7 @@ mod due;
 mod events;
 mod find;
 mod held;
+pub mod laws;
 mod lives;
 mod machine;
 mod names;

@@ -1,4 +1,4 @@
-use Rattle.std.proofs.Common.{◌≡◌, Some, None, ap, ◌∙◌, sym, refl, if◌then◌else◌}
+use Rattle.std.proofs.Common.{◌≡◌, Some, None, ap, ◌∙◌, sym, if◌then◌else◌}
 use Rattle.std.specs.Result.{result_ok}
 use Rattle.std.specs.Str.Parse.{digits_value}
 use Rattle.api_routes.specs.Numeral.{number_of}

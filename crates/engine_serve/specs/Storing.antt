@@ -1,0 +1,54 @@
+-- What a daemon keeps: its machine, and the steps that led to the machine's state (own).
+use Rattle.std.specs.Prelude.{ℕ, ◌≡◌, ◌+◌, min, max, List, [], ◌∷◌, ◌++◌, Bool, true, false}
+use Rattle.std.specs.List.{filter}
+use Rattle.engine_text.specs.declared.call.Call.{Call}
+use Rattle.engine_text.specs.declared.reply.Reply.{Reply}
+use Rattle.engine_text.specs.declared.reply.Reply.TheVariants as reply
+use Rattle.engine_text.specs.declared.step.Step.{Step}
+use Rattle.session_model.specs.declared.turned.Turned.{Turned}
+use Rattle.session_model.specs.declared.turned.Turned.TheVariants as turned
+use Rattle.machine_model.specs.State.{State}
+use Rattle.machine_model.specs.History.{Charter, after_step, reply_of, greatest_jump, greatest_moment}
+use Rattle.session_model.specs.Pass.{PassView, Every}
+
+-- what no step changes
+abbrev pub charter_of : List ℕ → ℕ → ℕ → Charter
+charter_of seed opening greatest = record { seed = seed; opening = opening; greatest = greatest }
+
+abbrev pub is_call : Step → Bool
+is_call Step.Due = false
+is_call (Step.Call k t c) = true
+
+-- who takes all turns has seen the whole history, and every number is its own
+abbrev pub pass_of : Charter → List Step → PassView
+pass_of ch steps = record {
+  seen = steps;
+  own_calls = filter is_call steps;
+  joined_calls = [];
+  number = Every;
+  pair = true;
+  looks = 0;
+  found_busy = 0;
+  charter = ch;
+  alone = true;
+  home = [];
+}
+
+-- a call was made in a state, and is the last of the steps
+pub record Adds (k t : ℕ) (c : Call) (r : Reply) (s s' : State) (steps steps' : List Step) : Type 0 where
+  pub state : s' ≡ after_step s (Step.Call k t c)
+  pub steps_are : steps' ≡ steps ++ Step.Call k t c ∷ []
+  pub reply : r ≡ reply_of s k t c
+
+-- for the room alone, of which the seed and the opening tell nothing
+abbrev pub charter_for : ℕ → Charter
+charter_for greatest = charter_of [] 0 greatest
+
+-- the moment that counts, by the clock alone
+abbrev pub moment_of : ℕ → ℕ → ℕ
+moment_of clock handed = max clock (min handed (min (clock + greatest_jump) greatest_moment))
+
+-- the answer of a turn by the reply to its call
+abbrev pub turned_by : Reply → Turned
+turned_by (reply.Begun n) = turned.Begun n
+turned_by r = turned.Replied r

@@ -1,0 +1,96 @@
+// The one daemon value.
+ghost use Rattle.std.specs.Prelude.{◌≡◌, ◌≤◌, length};
+ghost use Rattle.std.specs.Coded.{Coded-set};
+ghost use Rattle.machine_model.specs.Due.{due_actions};
+ghost use Rattle.machine_model.specs.History.{IsLegal, state_after, greatest_moment};
+ghost use Rattle.machine_model.proofs.Histories.{IsLegal-prop};
+ghost use Rattle.engine_serve.specs.Storing.{charter_of, turned_by};
+
+use super::moment::moment_used;
+use super::room::has_room;
+use super::stored::Stored;
+use container_machine::Machine;
+use engine_text::{Call, NoMemory, Reply};
+use session_model::Turned;
+use std::alloc::Global;
+
+/// A machine and its history so far, under what no step changes: the seed of ids, the moment of the
+/// opening in milliseconds, and the greatest number of calls.
+#[derive(Drop)]
+pub struct Daemon {
+    pub(super) stored: Stored,
+    pub(super) seed: [u8; 32],
+    pub(super) opening: u64,
+    pub(super) greatest: u64,
+    pub(super) ghost state: { stored ≡ record stored { machine = record stored.machine { state = state_after (charter_of seed opening greatest) stored.steps.items } } } by { Coded-set stored-code stored _ },
+    pub(super) ghost legal: { IsLegal (charter_of seed opening greatest) stored.steps.items } by { IsLegal-prop (charter_of seed opening greatest) stored.steps.items },
+    pub(super) ghost in_time: { stored.machine.state.clock ≤ greatest_moment },
+    pub(super) ghost idle: { length (due_actions stored.machine.state) ≤ 0 },
+}
+
+/// The answer of a turn by the reply to its call.
+fn turned(reply: Reply) -> Turned
+    ensures { result ≡ turned_by reply }
+{
+    match reply {
+        Reply::Begun { ticket } => Turned::Begun { ticket },
+        reply => Turned::Replied(reply),
+    }
+}
+
+impl Daemon {
+    ghost use Rattle.std.specs.Prelude.{ℕ, [], Some, IfOk};
+    ghost use Rattle.std.specs.Option.{option_map};
+    ghost use Rattle.session_model.specs.Turning.{MayAsk, Turn};
+    ghost use Rattle.engine_serve.specs.Built.{AreBuilt};
+    ghost use Rattle.engine_serve.specs.Storing.{charter_of, pass_of};
+    ghost use Rattle.engine_serve.specs.Passing.{charter, whole_pass};
+
+    /// A daemon without history. The moment is at most the greatest one.
+    pub fn new(
+        alloc: Global,
+        seed: [u8; 32],
+        moment: u64,
+        greatest: u64,
+    ) -> Result<Daemon, NoMemory>
+        requires { moment ≤ greatest_moment }
+        ensures { IfOk result (λ d. whole_pass d ≡ pass_of (charter_of seed moment greatest) []) }
+    {
+        Ok(Daemon {
+            stored: Stored {
+                machine: Machine::new(alloc, seed, moment),
+                steps: Vec::new(alloc),
+            },
+            seed,
+            opening: moment,
+            greatest,
+        })
+    }
+
+    /// Makes every step that is due at or before the moment that counts, and then the call.
+    pub fn turn(&mut self, alloc: Global, conn: u32, handed: u64, call: Option<&Call>) -> Turned
+        requires may { MayAsk (charter self.old) conn self.old.stored.steps.items (option_map (λ c. c.now) call) }
+        requires built { AreBuilt (option_map (λ c. c.now) call) }
+        ensures { Turn conn handed (option_map (λ c. c.now) call.entry) result (whole_pass self.old) (whole_pass self.new) }
+    {
+        match call {
+            None => Turned::Nothing,
+            Some(call) => self.make(alloc, conn, handed, call),
+        }
+    }
+
+    fn make(&mut self, alloc: Global, conn: u32, handed: u64, call: &Call) -> Turned
+        requires may { MayAsk (charter self.old) conn self.old.stored.steps.items (Some call.now) }
+        requires built { AreBuilt (Some call.now) }
+        ensures { Turn conn handed (Some call.now) result (whole_pass self.old) (whole_pass self.new) }
+    {
+        if !has_room(&self.stored.machine, self.greatest, call) {
+            return Turned::JournalFull;
+        }
+        let moment = moment_used(self.stored.machine.now(), handed);
+        match self.stored.make(alloc, conn, moment, call) {
+            Ok(reply) => turned(reply),
+            Err(NoMemory) => Turned::NoMemory,
+        }
+    }
+}

@@ -1,0 +1,48 @@
+//! The daemon `engined`: real standard input and output and the system's clock, handed to the one top
+//! call.
+#![tactic(auto)]
+
+use engine_ports::{NoDoor, ReadSource, SystemClock, WriteSink};
+use engine_serve::run_engined;
+use engine_text::Text;
+use std::env;
+use std::io::{self, ErrorKind};
+use std::process::ExitCode;
+
+/// The status where memory was refused.
+const NO_MEMORY: u8 = 6;
+
+/// The words after the program's name, or none without memory. Where a word isn't UTF-8 there are no
+/// words, which is no line of the program.
+fn words(rt: &HostRuntime) -> Option<Vec<Text>> {
+    let mut words = Vec::new(rt.alloc());
+    match env::args(rt) {
+        Ok(args) => {
+            for word in args.skip(1) {
+                words.push(Text::from_string(word)).ok()?;
+            }
+            Some(words)
+        }
+        Err(error) if error.kind() == ErrorKind::InvalidData => Some(words),
+        Err(_) => None,
+    }
+}
+
+fn main(rt: HostRuntime) -> ExitCode {
+    let Some(words) = words(&rt) else {
+        return ExitCode::from(NO_MEMORY);
+    };
+    let mut source = ReadSource::new(rt.stdin());
+    let mut sink = WriteSink::new(io::writer(&rt));
+    let mut clock = SystemClock::new(&rt);
+    let status = run_engined(
+        &rt,
+        rt.alloc(),
+        &words,
+        &mut source,
+        &mut sink,
+        &mut clock,
+        &mut NoDoor,
+    );
+    ExitCode::from(status)
+}
