@@ -47,7 +47,7 @@ both true false c f g h = absurd (false≢true g)
 both true true false f g h = absurd (false≢true h)
 
 bare_built : (spec : CreateSpec) → spec.mounts ≡ [] → spec.policy ≡ No → spec.open_stdin ≡ false → IsTrue (is_served (call.Create spec))
-bare_built spec m p o = rw (m, p, o) refl
+bare_built spec m p o = rw (m, p) refl
 
 pub asked_built : (r : Request) (c : Call) → class_of r ≡ Ask c → IsTrue (is_served c)
 asked_built r c h =
