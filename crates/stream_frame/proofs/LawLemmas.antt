@@ -13,7 +13,8 @@ use Rattle.stream_frame.specs.Frames.{Part, stream_byte, header_of, frame_of, fr
 use Rattle.stream_frame.specs.Demuxing.{Header, Payload, Faulted, IsHeaderPart, IsWrong, place_behind, EndsInHeader, EndsInPayload}
 use Rattle.stream_frame.specs.Steps.{stream_of}
 use Rattle.stream_frame.specs.Laws.{OneReading, GoesOn, FirstWrong, GivesBack}
-use Rattle.stream_frame.proofs.AddLemmas.{parts_append, begins_pad, begins_size, whole, frame_more}
+use Rattle.stream_frame.proofs.AddLemmas.{parts_append, frame_more}
+use Rattle.stream_frame.proofs.HeaderLemmas.{begins_pad, begins_size, whole}
 
 cons_same : {A : Type 0} {x y : A} {xs ys : List A} → x ∷ xs ≡ y ∷ ys → (x ≡ y) × (xs ≡ ys)
 cons_same e = (cc, cc)

@@ -1,3 +1,4 @@
 pub mod ChunkLemmas
+pub mod HeaderLemmas
 pub mod AddLemmas
 pub mod LawLemmas
