@@ -1,7 +1,9 @@
 pub mod Scenes
 pub mod StandardFacts
+pub mod RemovalFacts
 pub mod RunFacts
 pub mod CallFacts
+pub mod InputFacts
 pub mod TableFacts
 pub mod ProcessFacts
 pub mod LegalFacts
