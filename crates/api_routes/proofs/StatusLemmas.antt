@@ -1,4 +1,5 @@
--- A direct answer has a status.
+-- A direct answer has one of four statuses.
+use Rattle.std.specs.Prelude.{IsTrue}
 use Rattle.std.proofs.Common.{◌≡◌, ℕ, List, Bool, true, false, cond, Result, Ok, Err, refl, sym, ap, subst, ◌∙◌, arith}
 use Rattle.engine_text.specs.declared.call.Call.{Call}
 use Rattle.http_edge.specs.Message.{Request}
@@ -9,7 +10,7 @@ use Rattle.api_routes.specs.Calls.{of_body}
 use Rattle.api_routes.specs.RouteClass.{Asked, route_class, ask, in_chunks, exec_start_class}
 use Rattle.api_routes.specs.Built.{is_built, if_built}
 use Rattle.api_routes.specs.Class.{class_of, read_class, or_refusal}
-use Rattle.api_routes.specs.Laws.{IsStatus}
+use Rattle.api_routes.specs.Laws.{is_direct_status}
 use Rattle.api_routes.specs.declared.class.Class.{Class}
 use Rattle.api_routes.specs.declared.class.Class.TheVariants.{Direct, Ask, Stream}
 use Rattle.api_routes.specs.declared.class.DirectAnswer.{DirectAnswer}
@@ -49,10 +50,10 @@ chunks : (e : Result Call Fault) (a : DirectAnswer) → in_chunks e ≡ Ok (Dire
 chunks e a h = let w = went-on e (λ c. Ok (Stream c takes.None)) (Direct a) h in never-streams w.0 takes.None a w.2
 
 -- only fixed answers are read
-fixed-status : (b a : DirectAnswer) → b.status ≡ 200 → read_well (Direct b) ≡ read_well (Direct a) → IsStatus a.status
-fixed-status b a e h = subst IsStatus (sym e ∙ ap (λ x. x.status) (same-answer b a (same-class (Direct b) (Direct a) h))) (omega arith, omega arith)
+fixed-status : (b a : DirectAnswer) → b.status ≡ 200 → read_well (Direct b) ≡ read_well (Direct a) → IsTrue (is_direct_status a.status)
+fixed-status b a e h = subst (λ n. IsTrue (is_direct_status n)) (sym e ∙ ap (λ x. x.status) (same-answer b a (same-class (Direct b) (Direct a) h))) refl
 
-direct-status : (route : Route) (asked-for : Asked) (a : DirectAnswer) → route_class route asked-for ≡ Ok (Direct a) → IsStatus a.status
+direct-status : (route : Route) (asked-for : Asked) (a : DirectAnswer) → route_class route asked-for ≡ Ok (Direct a) → IsTrue (is_direct_status a.status)
 direct-status to.Ping r a h = fixed-status _ a refl h
 direct-status to.PingHead r a h = fixed-status _ a refl h
 direct-status to.Version r a h = fixed-status _ a refl h
@@ -87,22 +88,22 @@ direct-status to.Events r a h = absurd (chunks _ a h)
 direct-status to.Journal r a h = absurd (never-streams _ _ a h)
 
 -- a fault's status
-fault-status : (f : Fault) → IsStatus (status_of f)
-fault-status fault.PageNotFound = (omega arith, omega arith)
-fault-status fault.NotBuilt = (omega arith, omega arith)
-fault-status (fault.VersionTooOld v) = (omega arith, omega arith)
-fault-status (fault.VersionTooNew v) = (omega arith, omega arith)
-fault-status fault.BadPath = (omega arith, omega arith)
-fault-status (fault.InvalidName v) = (omega arith, omega arith)
-fault-status (fault.InvalidSignal v) = (omega arith, omega arith)
-fault-status fault.BadSeconds = (omega arith, omega arith)
-fault-status fault.BadLimit = (omega arith, omega arith)
-fault-status fault.BadTail = (omega arith, omega arith)
-fault-status fault.BadCondition = (omega arith, omega arith)
-fault-status fault.BadTime = (omega arith, omega arith)
-fault-status fault.NoStream = (omega arith, omega arith)
-fault-status fault.LinksLeftOut = (omega arith, omega arith)
-fault-status (fault.Body b) = (omega arith, omega arith)
+fault-status : (f : Fault) → IsTrue (is_direct_status (status_of f))
+fault-status fault.PageNotFound = refl
+fault-status fault.NotBuilt = refl
+fault-status (fault.VersionTooOld v) = refl
+fault-status (fault.VersionTooNew v) = refl
+fault-status fault.BadPath = refl
+fault-status (fault.InvalidName v) = refl
+fault-status (fault.InvalidSignal v) = refl
+fault-status fault.BadSeconds = refl
+fault-status fault.BadLimit = refl
+fault-status fault.BadTail = refl
+fault-status fault.BadCondition = refl
+fault-status fault.BadTime = refl
+fault-status fault.NoStream = refl
+fault-status fault.LinksLeftOut = refl
+fault-status (fault.Body b) = refl
 
 built-direct : (class : Class) (a : DirectAnswer) → if_built class ≡ Ok (Direct a) → class ≡ Direct a
 built-direct (Direct b) a h = same-class (Direct b) (Direct a) h
@@ -117,12 +118,12 @@ built-direct (Stream c t) a h = by (is_built c) h
     by true e = absurd (never-streams c t a e)
     by false e = let no : ⊥ = cc in absurd no
 
-of-result : (m t b : List ℕ) (u : Bool) (read : Result Class Fault) (a : DirectAnswer) → read_class m t b u ≡ read → or_refusal m read ≡ Direct a → IsStatus a.status
+of-result : (m t b : List ℕ) (u : Bool) (read : Result Class Fault) (a : DirectAnswer) → read_class m t b u ≡ read → or_refusal m read ≡ Direct a → IsTrue (is_direct_status a.status)
 of-result m t b u (Ok class) a e h =
     let last = read-last m t b u (Direct a) (e ∙ ap Ok h) in
     direct-status last.0 _ a (last.3 ∙ ap Ok (built-direct last.2 a last.4))
-of-result m t b u (Err f) a e h = subst (λ x. IsStatus x.status) (same-answer _ a h) (fault-status f)
+of-result m t b u (Err f) a e h = subst (λ x. IsTrue (is_direct_status x.status)) (same-answer _ a h) (fault-status f)
 
-pub class-status : (r : Request) (a : DirectAnswer) → class_of r ≡ Direct a → IsStatus a.status
+pub class-status : (r : Request) (a : DirectAnswer) → class_of r ≡ Direct a → IsTrue (is_direct_status a.status)
 unfolding class_of
 class-status r a h = of-result r.method r.target r.body (asks_upgrade r) _ a refl h

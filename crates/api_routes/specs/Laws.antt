@@ -1,5 +1,5 @@
 -- What the class of a request tells of its call (own).
-use Rattle.std.specs.Prelude.{◌≡◌, ◌≤◌, ◌<◌, ℕ, IsTrue, List, [], false, Option, Some, None, Ok}
+use Rattle.std.specs.Prelude.{◌≡◌, ◌==◌, ◌||◌, ℕ, Bool, IsTrue, List, [], false, Option, Some, None, Ok}
 use Rattle.engine_text.specs.Name.{is_name}
 use Rattle.engine_text.specs.declared.call.Call.{Call}
 use Rattle.engine_text.specs.declared.call.Call.TheVariants as call
@@ -44,10 +44,10 @@ pub record IsAsked (r : Request) (spec : CreateSpec) : Type 0 where
 abbrev pub AsksAreCreates : Type 0
 AsksAreCreates = (r : Request) (c : Call) → class_of r ≡ Ask c → (spec : CreateSpec) × (c ≡ call.Create spec) × IsAsked r spec
 
--- a status of three digits
-abbrev pub IsStatus : ℕ → Type 0
-IsStatus status = (100 ≤ status) × (status < 1000)
+-- the statuses that a request's bytes alone may have: what was asked for, a bad request, no such route, a call that isn't built
+abbrev pub is_direct_status : ℕ → Bool
+is_direct_status status = status == 200 || status == 400 || status == 404 || status == 501
 
--- each direct answer has one
+-- each direct answer has one of them, so that no other error comes without a call
 abbrev pub AnswersHaveStatus : Type 0
-AnswersHaveStatus = (r : Request) (answer : DirectAnswer) → class_of r ≡ Direct answer → IsStatus answer.status
+AnswersHaveStatus = (r : Request) (answer : DirectAnswer) → class_of r ≡ Direct answer → IsTrue (is_direct_status answer.status)

@@ -12,7 +12,7 @@ pub fn law_creates()
     ensures { AsksAreCreates }
 {}
 
-/// Each direct answer has a status of three digits.
+/// Each direct answer has the status 200, 400, 404 or 501.
 pub fn law_direct_statuses()
     ensures { AnswersHaveStatus }
 {}
