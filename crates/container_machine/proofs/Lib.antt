@@ -18,6 +18,10 @@ pub mod Found
 pub mod DueKept
 pub mod DueCommitted
 pub mod Rows
+pub mod ProgramCodes
+pub mod Codes
 pub mod Told
 pub mod DueTold
 pub mod Histories
+pub mod Folded
+pub mod FoldFacts

@@ -1,4 +1,5 @@
--- What each built call tells: the fold of its events is the new summary, and their moment is the call's.
+-- What each built call tells: the fold of its events is the new summary, their moment is the call's, and a process that it
+-- begins ends with a code of one byte.
 use Rattle.std.proofs.Common.{◌≡◌, ◌≢◌, ℕ, ◌+◌, ◌≤◌, ◌==◌, not, Bool, true, false, List, [], ◌∷◌, refl, ap, sym, ◌∙◌, subst, arith, Option, Some, None, IsTrue}
 use Rattle.std.proofs.lemmas.List.{map-append}
 use Rattle.std.specs.List.{AllByRecursion}
@@ -6,6 +7,7 @@ use Rattle.engine_text.specs.Id.{IdsDiffer}
 use Rattle.engine_text.specs.Scripts.{Program}
 use Rattle.engine_text.specs.Texts.{same_bytes}
 use Rattle.proc_kernel.specs.Catalogue.{program_of}
+use Rattle.proc_kernel.specs.Tables.{Entry}
 use Rattle.api_json.specs.Status.{is_paused}
 use Rattle.container_table.specs.Lists.{update_first}
 use Rattle.container_table.specs.Reference.{container_by}
@@ -38,17 +40,21 @@ use Rattle.container_machine.proofs.Consistent.{live_pid}
 use Rattle.container_machine.proofs.Normal.{launch_is, run_refuses, run_launches, renewed}
 use Rattle.container_machine.proofs.Ready.{facts_of, stands_of}
 use Rattle.container_machine.proofs.Rows.{row_changed}
+use Rattle.container_machine.proofs.Lists.{All-snoc}
+use Rattle.container_machine.proofs.ProgramCodes.{OfProgram, program_coded}
+use Rattle.container_machine.proofs.Codes.{IsCoded, AreCoded, coded_spawn}
 
 pub record Tells (s : State) (t : ℕ) (e : Effect) : Type 0 where
   pub folds : fold_on (inspect_summary s) e.events ≡ inspect_summary e.state
   pub moments : AllByRecursion (λ (x : Event). x.moment ≡ t) e.events
   pub clock : e.state.clock ≡ t
+  pub codes : AreCoded s.processes → AreCoded e.state.processes
 
 abbrev pub TellsBy : State → ℕ → Outcome → Type 0
 TellsBy s t o = Tells s t (finished 1 o.effect)
 
 told_same : (s : State) (t : ℕ) → Tells s t (finished 1 (still (at_moment t s)))
-told_same s t = record { folds = refl; moments = tt; clock = refl }
+told_same s t = record { folds = refl; moments = tt; clock = refl; codes = λ h. h }
 
 -- ---- create
 
@@ -58,7 +64,7 @@ told_created s t name spec built =
     let c : Container = create.new_container name spec (at_moment t s) in
     let e : Event = plain_event Create c t in
     subst (λ (f : Effect). Tells s t (finished 1 f)) (added c (at_moment t s) e (no_mounts spec built) refl)
-    (record { folds = sym (map-append summary_row s.containers (c ∷ [])); moments = (refl, tt); clock = refl })
+    (record { folds = sym (map-append summary_row s.containers (c ∷ [])); moments = (refl, tt); clock = refl; codes = λ h. h })
 
 told_by_holder : (s : State) (t : ℕ) (o : Option Container) (name : List ℕ) (spec : CreateSpec) → IsTrue (is_built_create spec)
     → TellsBy s t (create.by_holder o name spec (at_moment t s))
@@ -93,6 +99,7 @@ told_launched : (s : State) (t : ℕ) (c : Container) (program : Program) → Id
     → program_of c.life.words (c.life.starts + 1) ≡ Some program → TellsBy s t (start.run c (at_moment t s))
 told_launched s t c program differ k found idle named =
     let facts : IsKeptContainer s.seed s.next_number s.step_count c = facts_of s c k found in
+    let coded : OfProgram (Some program) = subst OfProgram named (program_coded c.life.words (c.life.starts + 1)) in
     let f : Life → Life = λ l. launched (at_moment t s) (afresh l) in
     let g : FoldRow → FoldRow = λ r. record r { live = true; code = 0 } in
     let paused : is_paused c.life.status ≡ false = idle_goes c.life.status idle in
@@ -105,6 +112,7 @@ told_launched s t c program differ k found idle named =
       folds = ap (λ (i : List ℕ). update_first (λ r. same_bytes r.id i) g (inspect_summary s)) facts.id ∙ rows;
       moments = (refl, tt);
       clock = refl;
+      codes = λ h. All-snoc (λ (x : Entry). IsCoded x.process) s.processes _ h (coded_spawn program t _ _ coded);
     }))
 
 told_run : (s : State) (t : ℕ) (c : Container) (o : Option Program) → IdsDiffer → IsKept s → container_numbered c.number s ≡ Some c → is_idle c.life.status ≡ true
