@@ -25,3 +25,4 @@ pub mod DueTold
 pub mod Histories
 pub mod Folded
 pub mod FoldFacts
+pub mod Statuses

@@ -1,5 +1,5 @@
 //! The laws of every legal history of what is built, as contracts of functions that do nothing.
-ghost use Rattle.container_machine.specs.Laws.{BuiltStatesLaw, BuiltFoldLaw};
+ghost use Rattle.container_machine.specs.Laws.{BuiltStatesLaw, BuiltFoldLaw, BuiltStatusLaw};
 
 use engine_text::law_ids_differ;
 
@@ -16,3 +16,8 @@ pub fn law_fold()
 {
     law_ids_differ();
 }
+
+/// A call that is built is answered whole, with a status that its operation has.
+pub fn law_statuses()
+    ensures { BuiltStatusLaw }
+{}
