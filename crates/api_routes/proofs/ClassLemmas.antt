@@ -1,5 +1,5 @@
 -- What the class of a request tells of its call.
-use Rattle.std.proofs.Common.{◌≡◌, ℕ, List, Bool, true, false, cond, IsTrue, Result, Ok, Err, refl, sym, ap, ◌∙◌}
+use Rattle.std.proofs.Common.{◌≡◌, ℕ, List, Bool, true, false, cond, IsTrue, Option, Some, None, Result, Ok, Err, refl, sym, ap, subst, ◌∙◌}
 use Rattle.engine_text.specs.declared.call.Call.{Call}
 use Rattle.http_edge.specs.Message.{Request}
 use Rattle.http_edge.specs.Asks.{asks_upgrade}
@@ -59,34 +59,61 @@ built-streams (Stream d u) c t h = by (is_built d) refl h
     by true e h = let same : d ≡ c = cc in (cc, sym (ap is_built same) ∙ e)
     by false e h = let no : ⊥ = cc in absurd no
 
+-- the route that the request fits, its path's parameter, and what the route reads
+pub record IsReadAs (m t b : List ℕ) (u : Bool) (read : Class) : Type 0 where
+  pub path : List (List ℕ)
+  pub route : Route
+  pub name : List ℕ
+  pub behind : behind_version (segments (path_of t)) ≡ Ok path
+  pub fits : route_for (method_of m) path ≡ Some route
+  pub named : parameter_of path ≡ Ok name
+  pub reads : route_class route (record { name = name; query = query_of t; body = b; upgrade = u }) ≡ Ok read
+
+found : (o : Option Route) (route : Route) → or_not_found o ≡ Ok route → o ≡ Some route
+found (Some x) route h = let same : x ≡ route = cc in ap Some same
+found None route h = let no : ⊥ = cc in absurd no
+
 -- what was read is what the route that the request fits reads, where its call is served
 pub read-last : (m t b : List ℕ) (u : Bool) (class : Class) → read_class m t b u ≡ Ok class
-    → (route : Route) × (name : List ℕ) × (read : Class)
-    × (route_class route (record { name = name; query = query_of t; body = b; upgrade = u }) ≡ Ok read) × (if_built read ≡ Ok class)
+    → (read : Class) × IsReadAs m t b u read × (if_built read ≡ Ok class)
 read-last m t b u class h =
     let path = went-on (behind_version (segments (path_of t))) _ class h in
     let route = went-on (or_not_found (route_for (method_of m) path.0)) _ class path.2 in
     let name = went-on (parameter_of path.0) _ class route.2 in
-    let last = went-on (route_class route.0 (record { name = name.0; query = query_of t; body = b; upgrade = u })) if_built class name.2 in
-    (route.0, name.0, last.0, last.1, last.2)
+    let last = went-on (route_class route.0 (record { name = name.0; query = query_of t; body = b; upgrade = u })) if_built class name.2 in (
+      last.0,
+      record {
+        path = path.0;
+        route = route.0;
+        name = name.0;
+        behind = path.1;
+        fits = found (route_for (method_of m) path.0) route.0 route.1;
+        named = name.1;
+        reads = last.1;
+      },
+      last.2,
+    )
 
 -- a call that is asked is what some route reads, and is served
 pub asked-by : (r : Request) (c : Call) → class_of r ≡ Ask c
-    → (route : Route) × (name : List ℕ)
-    × (route_class route (record { name = name; query = query_of r.target; body = r.body; upgrade = asks_upgrade r }) ≡ Ok (Ask c))
-    × (is_built c ≡ true)
+    → IsReadAs r.method r.target r.body (asks_upgrade r) (Ask c) × (is_built c ≡ true)
 unfolding class_of
 asked-by r c h =
     let last = read-last r.method r.target r.body (asks_upgrade r) (Ask c) (asks-read r.method _ c h) in
-    let built = built-asks last.2 c last.4 in
-    (last.0, last.1, last.3 ∙ ap Ok built.0, built.1)
+    let built = built-asks last.0 c last.2 in
+    (subst (IsReadAs r.method r.target r.body (asks_upgrade r)) built.0 last.1, built.1)
 
 pub class_built : (r : Request) (c : Call) → class_of r ≡ Ask c → IsTrue (is_built c)
-class_built r c h = (asked-by r c h).3
+class_built r c h = (asked-by r c h).1
 
 -- and so is a call whose reply is a stream
-pub class_streams : (r : Request) (c : Call) (t : Takeover) → class_of r ≡ Stream c t → IsTrue (is_built c)
+pub streamed-by : (r : Request) (c : Call) (t : Takeover) → class_of r ≡ Stream c t
+    → IsReadAs r.method r.target r.body (asks_upgrade r) (Stream c t) × (is_built c ≡ true)
 unfolding class_of
-class_streams r c t h =
+streamed-by r c t h =
     let last = read-last r.method r.target r.body (asks_upgrade r) (Stream c t) (streams-read r.method _ c t h) in
-    (built-streams last.2 c t last.4).1
+    let built = built-streams last.0 c t last.2 in
+    (subst (IsReadAs r.method r.target r.body (asks_upgrade r)) built.0 last.1, built.1)
+
+pub class_streams : (r : Request) (c : Call) (t : Takeover) → class_of r ≡ Stream c t → IsTrue (is_built c)
+class_streams r c t h = (streamed-by r c t h).1

@@ -3,6 +3,7 @@ pub mod TextLemmas
 pub mod NumeralLemmas
 pub mod VersionLemmas
 pub mod ClassLemmas
-pub mod CreateLemmas
+pub mod ParameterLemmas
+pub mod AskedLemmas
 pub mod StandardFacts
 pub mod StatusLemmas

@@ -121,7 +121,7 @@ built-direct (Stream c t) a h = by (is_built c) h
 of-result : (m t b : List ℕ) (u : Bool) (read : Result Class Fault) (a : DirectAnswer) → read_class m t b u ≡ read → or_refusal m read ≡ Direct a → IsTrue (is_direct_status a.status)
 of-result m t b u (Ok class) a e h =
     let last = read-last m t b u (Direct a) (e ∙ ap Ok h) in
-    direct-status last.0 _ a (last.3 ∙ ap Ok (built-direct last.2 a last.4))
+    direct-status last.1.route _ a (last.1.reads ∙ ap Ok (built-direct last.0 a last.2))
 of-result m t b u (Err f) a e h = subst (λ x. IsTrue (is_direct_status x.status)) (same-answer _ a h) (fault-status f)
 
 pub class-status : (r : Request) (a : DirectAnswer) → class_of r ≡ Direct a → IsTrue (is_direct_status a.status)

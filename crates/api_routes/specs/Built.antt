@@ -27,6 +27,8 @@ is_built_create spec = has_none spec.mounts && is_no_policy spec.policy && not s
 
 abbrev pub is_built : Call → Bool
 is_built (call.Create spec) = is_built_create spec
+is_built (call.Start target) = true
+is_built (call.Inspect target) = true
 is_built _ = false
 
 -- a class whose call is served

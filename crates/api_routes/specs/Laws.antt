@@ -1,5 +1,5 @@
 -- What the class of a request tells of its call (own).
-use Rattle.std.specs.Prelude.{◌≡◌, ◌==◌, ◌||◌, ℕ, Bool, IsTrue, List, [], false, Option, Some, None, Ok}
+use Rattle.std.specs.Prelude.{◌≡◌, ◌≢◌, ◌==◌, ◌||◌, ℕ, Bool, IsTrue, List, [], false, Option, Some, None, Ok}
 use Rattle.engine_text.specs.Name.{is_name}
 use Rattle.engine_text.specs.declared.call.Call.{Call}
 use Rattle.engine_text.specs.declared.call.Call.TheVariants as call
@@ -7,7 +7,10 @@ use Rattle.engine_text.specs.declared.call.CreateSpec.{CreateSpec}
 use Rattle.engine_text.specs.declared.policy.Policy.TheVariants.{No}
 use Rattle.api_json.specs.Create.{create_of}
 use Rattle.http_edge.specs.Message.{Request}
-use Rattle.api_routes.specs.Path.{query_of}
+use Rattle.route_laws.specs.Segments.{segments}
+use Rattle.api_routes.specs.Routes.{method_of, route_for}
+use Rattle.api_routes.specs.Path.{path_of, query_of, parameter_of}
+use Rattle.api_routes.specs.Version.{behind_version}
 use Rattle.api_routes.specs.Keys.{create_name}
 use Rattle.api_routes.specs.Built.{is_built}
 use Rattle.api_routes.specs.Sound.{IsWithin}
@@ -15,6 +18,8 @@ use Rattle.api_routes.specs.Class.{class_of}
 use Rattle.api_routes.specs.declared.class.Class.TheVariants.{Direct, Ask, Stream}
 use Rattle.api_routes.specs.declared.class.DirectAnswer.{DirectAnswer}
 use Rattle.api_routes.specs.declared.class.Takeover.{Takeover}
+use Rattle.api_routes.specs.declared.route.Route.{Route}
+use Rattle.api_routes.specs.declared.route.Route.TheVariants as to
 
 -- only calls that are served are asked and streamed
 abbrev pub AsksAreServed : Type 0
@@ -29,7 +34,7 @@ IsNamed None = Unit {0}
 IsNamed (Some name) = IsTrue (is_name name)
 
 -- a create that is asked is what its body says, with the name of its query, and has no part that isn't served
-pub record IsAsked (r : Request) (spec : CreateSpec) : Type 0 where
+pub record IsAskedCreate (r : Request) (spec : CreateSpec) : Type 0 where
   pub given : CreateSpec
   pub body : create_of None r.body ≡ Ok given
   pub name : create_name (query_of r.target) ≡ Ok spec.name
@@ -40,9 +45,23 @@ pub record IsAsked (r : Request) (spec : CreateSpec) : Type 0 where
   pub within : IsWithin spec
   pub named : IsNamed spec.name
 
--- the one call that is asked
-abbrev pub AsksAreCreates : Type 0
-AsksAreCreates = (r : Request) (c : Call) → class_of r ≡ Ask c → (spec : CreateSpec) × (c ≡ call.Create spec) × IsAsked r spec
+-- a request for this route, whose path's parameter reads as this text, which isn't empty
+pub record IsFor (r : Request) (route : Route) (target : List ℕ) : Type 0 where
+  pub path : List (List ℕ)
+  pub behind : behind_version (segments (path_of r.target)) ≡ Ok path
+  pub fits : route_for (method_of r.method) path ≡ Some route
+  pub read : parameter_of path ≡ Ok target
+  pub given : target ≢ []
+
+-- a call that is asked is a create, a start or an inspect, and what its request says
+abbrev pub IsAsked : Request → Call → Type 0
+IsAsked r (call.Create spec) = IsAskedCreate r spec
+IsAsked r (call.Start target) = IsFor r to.Start target
+IsAsked r (call.Inspect target) = IsFor r to.Inspect target
+IsAsked r _ = ⊥
+
+abbrev pub AsksAreKnown : Type 0
+AsksAreKnown = (r : Request) (c : Call) → class_of r ≡ Ask c → IsAsked r c
 
 -- the statuses that a request's bytes alone may have: what was asked for, a bad request, no such route, a call that isn't built
 abbrev pub is_direct_status : ℕ → Bool

@@ -1,5 +1,5 @@
 // What the class of a request tells of its call.
-ghost use Rattle.api_routes.specs.Laws.{AsksAreServed, StreamsAreServed, AsksAreCreates, AnswersHaveStatus};
+ghost use Rattle.api_routes.specs.Laws.{AsksAreServed, StreamsAreServed, AsksAreKnown, AnswersHaveStatus};
 
 /// Only calls that are served are asked and streamed.
 pub fn law_served_calls()
@@ -7,9 +7,9 @@ pub fn law_served_calls()
     ensures streams { StreamsAreServed }
 {}
 
-/// A create that is asked is what its body says, with the name of its query.
-pub fn law_creates()
-    ensures { AsksAreCreates }
+/// A call that is asked is a create, a start or an inspect, and what its request says.
+pub fn law_asked_calls()
+    ensures { AsksAreKnown }
 {}
 
 /// Each direct answer has the status 200, 400, 404 or 501.

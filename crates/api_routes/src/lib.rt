@@ -25,7 +25,7 @@ mod version;
 
 pub use class::{Class, DirectAnswer, DirectKind, Takeover};
 pub use fault::Fault;
-pub use laws::{law_creates, law_direct_statuses, law_served_calls};
+pub use laws::{law_asked_calls, law_direct_statuses, law_served_calls};
 pub use method::Method;
 pub use route::Route;
 pub use routes::Routes;

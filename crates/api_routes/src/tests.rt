@@ -34,6 +34,10 @@ GET /containers/a/b/json  404 message page not found
 GET /containers/%2/json  400 message bad path
 GET /containers/%ff/json  400 message bad path
 GET /nothing/%ff  404 message page not found
+POST /containers//start  404 message page not found
+POST /containers/%ff/start  400 message bad path
+GET /containers/a/start  404 message page not found
+POST /containers/a/pause  501 message not built
 DELETE /containers/create  501 message not built";
 
 const QUERIES: &str = "\
@@ -179,6 +183,40 @@ fn a_create_has_the_name_of_its_query(rt: HostRuntime) -> Result<(), Fail> {
     assert!(rt; creates(alloc, "/v1.43/containers/create?name=%2Fab&name=c", "/ab")?);
     assert!(rt; creates(alloc, "/containers/create?other=1", "")?);
     assert!(rt; creates(alloc, "/containers/create?name=", "")?);
+    Ok(())
+}
+
+// Whether a class is a start of the container of this reference.
+fn is_start(class: &Class, target: &str) -> bool {
+    match class {
+        Class::Ask(Call::Start { target: given }) => given.as_str() == target,
+        _ => false,
+    }
+}
+
+// Whether a class is an inspect of the container of this reference.
+fn is_inspect(class: &Class, target: &str) -> bool {
+    match class {
+        Class::Ask(Call::Inspect { target: given }) => given.as_str() == target,
+        _ => false,
+    }
+}
+
+#[test]
+fn a_start_is_asked_of_the_container_that_its_path_names(rt: HostRuntime) -> Result<(), Fail> {
+    let alloc = rt.alloc();
+    let routes = Routes::new(alloc)?;
+    let class = routes.class_of(alloc, "POST", "/v1.43/containers/web/start?x=1", b"", false)?;
+    assert!(rt; is_start(&class, "web"));
+    Ok(())
+}
+
+#[test]
+fn an_inspect_is_asked_of_the_container_that_its_path_names(rt: HostRuntime) -> Result<(), Fail> {
+    let alloc = rt.alloc();
+    let routes = Routes::new(alloc)?;
+    let class = routes.class_of(alloc, "GET", "/containers/%2Fweb/json", b"", false)?;
+    assert!(rt; is_inspect(&class, "/web"));
     Ok(())
 }
 

@@ -1,5 +1,5 @@
--- A call that is asked and served is a create, with what its body and its query say.
-use Rattle.std.proofs.Common.{◌≡◌, ℕ, List, [], ◌∷◌, Bool, true, false, cond, not, true≢false, codes, unwrap_or, Result, Ok, Err, Option, Some, None, refl, sym, ap, ◌∙◌, ◌&&◌}
+-- A call that is asked and served is a create, a start or an inspect, and what its request says.
+use Rattle.std.proofs.Common.{◌≡◌, ℕ, List, [], ◌∷◌, Bool, true, false, cond, not, true≢false, codes, unwrap_or, Result, Ok, Err, Option, Some, None, refl, sym, ap, subst, ◌∙◌, ◌&&◌}
 use Rattle.engine_text.specs.Name.{is_name}
 use Rattle.engine_text.specs.declared.call.Call.{Call}
 use Rattle.engine_text.specs.declared.call.Call.TheVariants as call
@@ -11,6 +11,7 @@ use Rattle.engine_text.specs.declared.policy.Policy.TheVariants.{No, Always, Unl
 use Rattle.api_json.specs.declared.fault.BodyFault.{BodyFault}
 use Rattle.api_json.specs.Create.{create_of}
 use Rattle.http_edge.specs.Message.{Request}
+use Rattle.http_edge.specs.Asks.{asks_upgrade}
 use Rattle.api_routes.specs.Fault.{and_then}
 use Rattle.api_routes.specs.Keys.{flag, create_name, optional_name, new_name, signal_in, kill_signal, seconds_in, limit_in, condition_in}
 use Rattle.api_routes.specs.Calls.{of_body, filters_in, create_call, logs_call, attach_ask, events_call, list_keys}
@@ -22,7 +23,7 @@ use Rattle.api_routes.specs.RouteClass.{Asked, route_class, ask, in_chunks, take
 use Rattle.api_routes.specs.Built.{is_built, is_built_create, is_no_policy, has_none}
 use Rattle.api_routes.specs.Class.{class_of}
 use Rattle.api_routes.specs.Sound.{IsWithin}
-use Rattle.api_routes.specs.Laws.{IsAsked, IsNamed}
+use Rattle.api_routes.specs.Laws.{IsAsked, IsAskedCreate, IsFor, IsNamed}
 use Rattle.api_json.proofs.CreateLemmas.{create_signal, create_seconds, create_labels_rise}
 use Rattle.api_routes.specs.declared.class.Class.{Class}
 use Rattle.api_routes.specs.declared.class.Class.TheVariants.{Ask, Stream}
@@ -32,7 +33,9 @@ use Rattle.api_routes.specs.declared.fault.Fault.{Fault}
 use Rattle.api_routes.specs.declared.fault.Fault.TheVariants.{InvalidName, LinksLeftOut}
 use Rattle.api_routes.specs.declared.route.Route.{Route}
 use Rattle.api_routes.specs.declared.route.Route.TheVariants as to
-use Rattle.api_routes.proofs.ClassLemmas.{went-on, asked-by}
+use Rattle.api_routes.specs.Routes.{method_of}
+use Rattle.api_routes.proofs.ClassLemmas.{went-on, asked-by, IsReadAs}
+use Rattle.api_routes.proofs.ParameterLemmas.{has_name, name-given}
 
 -- a call of these parts isn't served
 one-more : {A : Type 0} (e : Result A Fault) (f : A → Call) (c : Call) → ((x : A) → is_built (f x) ≡ false) → and_then e (λ x. Ok (f x)) ≡ Ok c → is_built c ≡ false
@@ -65,50 +68,57 @@ streams x c t h = is-stream x c t (same-class (Stream x t) (Ask c) h)
 chunks : (e : Result Call Fault) (c : Call) → in_chunks e ≡ Ok (Ask c) → ⊥
 chunks e c h = let w = went-on e (λ x. Ok (Stream x takes.None)) (Ask c) h in streams w.0 c takes.None w.2
 
--- no other route asks for a call that is served
-pub only-create : (route : Route) (a : Asked) (c : Call) → route_class route a ≡ Ok (Ask c) → is_built c ≡ true → create_call a.query a.body ≡ Ok c
-only-create to.Create a c h b = asked (create_call a.query a.body) c h
-only-create to.Ping a c h b = cc
-only-create to.PingHead a c h b = cc
-only-create to.Version a c h b = cc
-only-create to.List a c h b =
+-- what a route that asks for a call that is served reads
+abbrev pub IsReadBy : Route → Asked → Call → Type 0
+IsReadBy to.Create a c = create_call a.query a.body ≡ Ok c
+IsReadBy to.Start a c = call.Start a.name ≡ c
+IsReadBy to.Inspect a c = call.Inspect a.name ≡ c
+IsReadBy route a c = ⊥
+
+-- no other route asks for one
+pub only-three : (route : Route) (a : Asked) (c : Call) → route_class route a ≡ Ok (Ask c) → is_built c ≡ true → IsReadBy route a c
+only-three to.Create a c h b = asked (create_call a.query a.body) c h
+only-three to.Ping a c h b = cc
+only-three to.PingHead a c h b = cc
+only-three to.Version a c h b = cc
+only-three to.List a c h b =
     absurd (never c (two-more (limit_in a.query) (filters_in list_keys a.query) (λ limit filter. call.List (flag (codes "all") a.query) limit filter) c (λ x y. refl) (asked _ c h)) b)
-only-create to.Inspect a c h b = let same : call.Inspect a.name ≡ c = cc in absurd (never c (ap is_built (sym same)) b)
-only-create to.Start a c h b = let same : call.Start a.name ≡ c = cc in absurd (never c (ap is_built (sym same)) b)
-only-create to.Stop a c h b =
+only-three to.Inspect a c h b = cc
+only-three to.Start a c h b = cc
+only-three to.Stop a c h b =
     absurd (never c (two-more (seconds_in a.query) (signal_in a.query) (λ wait signal. call.Stop a.name wait signal) c (λ x y. refl) (asked _ c h)) b)
-only-create to.Restart a c h b =
+only-three to.Restart a c h b =
     absurd (never c (two-more (seconds_in a.query) (signal_in a.query) (λ wait signal. call.Restart a.name wait signal) c (λ x y. refl) (asked _ c h)) b)
-only-create to.Kill a c h b =
+only-three to.Kill a c h b =
     absurd (never c (one-more (signal_in a.query) (λ signal. call.Kill a.name (unwrap_or signal kill_signal)) c (λ x. refl) (asked _ c h)) b)
-only-create to.Pause a c h b = let same : call.Pause a.name ≡ c = cc in absurd (never c (ap is_built (sym same)) b)
-only-create to.Unpause a c h b = let same : call.Unpause a.name ≡ c = cc in absurd (never c (ap is_built (sym same)) b)
-only-create to.Rename a c h b = absurd (never c (one-more (new_name a.query) (λ name. call.Rename a.name name) c (λ x. refl) (asked _ c h)) b)
-only-create to.Wait a c h b = absurd (never c (one-more (condition_in a.query) (λ until. call.Wait a.name until) c (λ x. refl) (asked _ c h)) b)
-only-create to.Remove a c h b = absurd (never c (by (flag (codes "link") a.query) (asked _ c h)) b)
+only-three to.Pause a c h b = let same : call.Pause a.name ≡ c = cc in absurd (never c (ap is_built (sym same)) b)
+only-three to.Unpause a c h b = let same : call.Unpause a.name ≡ c = cc in absurd (never c (ap is_built (sym same)) b)
+only-three to.Rename a c h b = absurd (never c (one-more (new_name a.query) (λ name. call.Rename a.name name) c (λ x. refl) (asked _ c h)) b)
+only-three to.Wait a c h b = absurd (never c (one-more (condition_in a.query) (λ until. call.Wait a.name until) c (λ x. refl) (asked _ c h)) b)
+only-three to.Remove a c h b = absurd (never c (by (flag (codes "link") a.query) (asked _ c h)) b)
   where
     by : (v : Bool) → cond v (Err LinksLeftOut) (Ok (call.Remove a.name (flag (codes "force") a.query))) ≡ Ok c → is_built c ≡ false
     by true e = let no : ⊥ = cc in absurd no
     by false e = let same : call.Remove a.name (flag (codes "force") a.query) ≡ c = cc in ap is_built (sym same)
-only-create to.Logs a c h b = absurd (chunks (logs_call a.name a.query) c h)
-only-create to.Attach a c h b = absurd (streams (call.Attach a.name (attach_ask a.query)) c (takeover a.upgrade) h)
-only-create to.ExecCreate a c h b =
+only-three to.Logs a c h b = absurd (chunks (logs_call a.name a.query) c h)
+only-three to.Attach a c h b = absurd (streams (call.Attach a.name (attach_ask a.query)) c (takeover a.upgrade) h)
+only-three to.ExecCreate a c h b =
     absurd (never c (one-more (of_body (exec_of a.body)) (λ exec. call.ExecCreate a.name exec.words exec.stdin exec.out exec.err) c (λ x. refl) (asked _ c h)) b)
-only-create to.ExecStart a c h b =
+only-three to.ExecStart a c h b =
     let w = went-on (of_body (exec_start_of a.body)) _ (Ask c) h in
     absurd (never c (by w.0 (same-class _ _ w.2)) b)
   where
     by : (detach : Bool) → exec_start_class a.name a.upgrade detach ≡ Ask c → is_built c ≡ false
     by true e = let same : call.ExecStart a.name true ≡ c = cc in ap is_built (sym same)
     by false e = absurd (is-stream _ _ _ e)
-only-create to.ExecInspect a c h b = let same : call.ExecInspect a.name ≡ c = cc in absurd (never c (ap is_built (sym same)) b)
-only-create to.VolumeList a c h b = absurd (never c (one-more (filters_in (key.Name ∷ []) a.query) (λ filter. call.VolumeList filter) c (λ x. refl) (asked _ c h)) b)
-only-create to.VolumeCreate a c h b =
+only-three to.ExecInspect a c h b = let same : call.ExecInspect a.name ≡ c = cc in absurd (never c (ap is_built (sym same)) b)
+only-three to.VolumeList a c h b = absurd (never c (one-more (filters_in (key.Name ∷ []) a.query) (λ filter. call.VolumeList filter) c (λ x. refl) (asked _ c h)) b)
+only-three to.VolumeCreate a c h b =
     absurd (never c (one-more (of_body (volume_of a.body)) (λ volume. call.VolumeCreate volume.name volume.labels) c (λ x. refl) (asked _ c h)) b)
-only-create to.VolumeInspect a c h b = let same : call.VolumeInspect a.name ≡ c = cc in absurd (never c (ap is_built (sym same)) b)
-only-create to.VolumeRemove a c h b = let same : call.VolumeRemove a.name ≡ c = cc in absurd (never c (ap is_built (sym same)) b)
-only-create to.Events a c h b = absurd (chunks (events_call a.query) c h)
-only-create to.Journal a c h b = absurd (streams call.JournalRead c takes.None h)
+only-three to.VolumeInspect a c h b = let same : call.VolumeInspect a.name ≡ c = cc in absurd (never c (ap is_built (sym same)) b)
+only-three to.VolumeRemove a c h b = let same : call.VolumeRemove a.name ≡ c = cc in absurd (never c (ap is_built (sym same)) b)
+only-three to.Events a c h b = absurd (chunks (events_call a.query) c h)
+only-three to.Journal a c h b = absurd (streams call.JournalRead c takes.None h)
 
 -- what a name that was read is
 pub name-read : (query name : List ℕ) → create_name query ≡ Ok (Some name) → is_name name ≡ true
@@ -159,28 +169,53 @@ create-within body spec h = record {
 renamed : (spec : CreateSpec) (name : Option (List ℕ)) → IsWithin spec → IsWithin (record spec { name = name })
 renamed spec name w = record { signal = w.signal; seconds = w.seconds; labels = w.labels }
 
--- the one call that is asked and served
-pub asked-create : (r : Request) (c : Call) → class_of r ≡ Ask c → (spec : CreateSpec) × (c ≡ call.Create spec) × IsAsked r spec
-asked-create r c h =
-    let w = asked-by r c h in
-    let b = went-on (of_body (create_of None r.body)) _ c (only-create w.0 _ c w.2 w.3) in
+-- a create that is read and served
+read-create : (r : Request) (c : Call) → create_call (query_of r.target) r.body ≡ Ok c → is_built c ≡ true → IsAsked r c
+read-create r c h served =
+    let b = went-on (of_body (create_of None r.body)) _ c h in
     let n = went-on (create_name (query_of r.target)) _ c b.2 in
     let spec : CreateSpec = record b.0 { name = n.0 } in
     let same : call.Create spec ≡ c = cc in
-    let built : is_built_create spec ≡ true = ap is_built same ∙ w.3 in
+    let built : is_built_create spec ≡ true = ap is_built same ∙ served in
     let p = both (has_none spec.mounts && is_no_policy spec.policy) (not spec.open_stdin) built in
-    let q = both (has_none spec.mounts) (is_no_policy spec.policy) p.0 in (
-      spec,
-      sym same,
-      record {
-        given = b.0;
-        body = of-read _ b.0 b.1;
-        name = n.1;
-        same = refl;
-        mounts = no-mounts spec.mounts q.0;
-        policy = no-policy spec.policy q.1;
-        open_stdin = is-not spec.open_stdin p.1;
-        within = renamed b.0 n.0 (create-within r.body b.0 (of-read _ b.0 b.1));
-        named = named (query_of r.target) n.0 n.1;
-      },
-    )
+    let q = both (has_none spec.mounts) (is_no_policy spec.policy) p.0 in
+    let asked : IsAskedCreate r spec = record {
+      given = b.0;
+      body = of-read _ b.0 b.1;
+      name = n.1;
+      same = refl;
+      mounts = no-mounts spec.mounts q.0;
+      policy = no-policy spec.policy q.1;
+      open_stdin = is-not spec.open_stdin p.1;
+      within = renamed b.0 n.0 (create-within r.body b.0 (of-read _ b.0 b.1));
+      named = named (query_of r.target) n.0 n.1;
+    } in
+    subst (IsAsked r) same asked
+
+-- what the path of a route with a parameter names
+read-name : (r : Request) (c : Call) (w : IsReadAs r.method r.target r.body (asks_upgrade r) (Ask c)) → has_name w.route ≡ true
+    → IsFor r w.route w.name
+read-name r c w has = record {
+  path = w.path;
+  behind = w.behind;
+  fits = w.fits;
+  read = w.named;
+  given = name-given (method_of r.method) w.path w.route w.name has w.fits w.named;
+}
+
+-- what a call that is asked and served is
+asked-as : (r : Request) (c : Call) (w : IsReadAs r.method r.target r.body (asks_upgrade r) (Ask c)) (route : Route) → w.route ≡ route
+    → IsReadBy route (record { name = w.name; query = query_of r.target; body = r.body; upgrade = asks_upgrade r }) c
+    → is_built c ≡ true → IsAsked r c
+asked-as r c w to.Create is h served = read-create r c h served
+asked-as r c w to.Start is h served =
+    subst (IsAsked r) h (subst (λ route. IsFor r route w.name) is (read-name r c w (ap has_name is)))
+asked-as r c w to.Inspect is h served =
+    subst (IsAsked r) h (subst (λ route. IsFor r route w.name) is (read-name r c w (ap has_name is)))
+asked-as r c w route is h served = absurd h
+
+-- each call that is asked
+pub asked-call : (r : Request) (c : Call) → class_of r ≡ Ask c → IsAsked r c
+asked-call r c h =
+    let w = asked-by r c h in
+    asked-as r c w.0 w.0.route refl (only-three w.0.route _ c w.0.reads w.1) w.1
