@@ -9,6 +9,10 @@ pub record ClockView : Type 0 where
   pub moments : Option (List ℕ)
   pub stops : ℕ
 
+-- a clock that tells no moments, before its first pause
+abbrev pub untold_clock : ClockView
+untold_clock = record { moments = None; stops = 0 }
+
 -- a clock that tells its moments handed exactly these; it tells none once they have all come
 abbrev pub Handed : Option (List ℕ) → List ℕ → Option (List ℕ) → Type 0
 Handed (Some before) ms (Some now) = before ≡ ms ++ now

@@ -4,3 +4,4 @@ pub mod Sink
 pub mod Clock
 pub mod Door
 pub mod Memory
+pub mod Adapters

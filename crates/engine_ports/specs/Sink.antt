@@ -8,6 +8,10 @@ pub record SinkView : Type 0 where
   pub wrote : Option (List ℕ)
   pub faults : ℕ
 
+-- a sink that tells no bytes, before its first write
+abbrev pub untold_sink : SinkView
+untold_sink = record { wrote = None; faults = 0 }
+
 -- the bytes begin with this part
 abbrev pub IsFront : List ℕ → List ℕ → Type 0
 IsFront part bytes = (cut : List ℕ) × (part ++ cut ≡ bytes)

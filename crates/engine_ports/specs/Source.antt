@@ -10,6 +10,10 @@ pub record SourceView : Type 0 where
   pub faults : ℕ
   pub ends : ℕ
 
+-- a source that tells no bytes, before its first read
+abbrev pub untold_source : SourceView
+untold_source = record { left = None; faults = 0; ends = 0 }
+
 -- a source that tells its bytes gave exactly these, and tells the rest
 abbrev pub Gave : Option (List ℕ) → List ℕ → Option (List ℕ) → Type 0
 Gave (Some before) bytes (Some now) = before ≡ bytes ++ now

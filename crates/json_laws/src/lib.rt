@@ -7,7 +7,7 @@ ghost use Rattle.serde_json.specs.View.{view};
 ghost use Rattle.serde_json.specs.Written.{has_float};
 ghost use Rattle.json_laws.specs.Laws as law;
 ghost use Rattle.json_laws.specs.Sound.{IsCarried, line_text};
-ghost use Rattle.json_laws.specs.Text.{data_of};
+ghost use Rattle.json_laws.specs.Text.{data_of, IsDataOfLine};
 
 use serde_json::Value;
 use std::alloc::{AllocError, Global};
@@ -40,8 +40,9 @@ pub fn value_of_text(alloc: Global, text: &[u8]) -> Result<Option<Value>, AllocE
     }
 }
 
-/// The value of a line, or none where no carried data has this line; an error is want of memory.
+/// The value of a line: that of the text before its line end, or none; an error is want of memory.
 pub fn value_of_line(alloc: Global, line: &[u8]) -> Result<Option<Value>, AllocError>
+    ensures value { IfOk result (λ found. IsDataOfLine line.now (option_map view found)) }
     ensures some { IfOk result (λ found. IfSome found
         (λ v. (d : Data) → IsCarried d → line_text d ≡ line.now → view v ≡ d)) }
     ensures none { IfOk result (λ found. IfNone found

@@ -1,4 +1,7 @@
 // A source over a reader, as standard input is.
+ghost use Rattle.std.specs.Prelude.{◌≡◌};
+ghost use Rattle.engine_ports.specs.Source.{untold_source};
+
 use crate::{Got, Source};
 use std::io::Read;
 
@@ -11,7 +14,10 @@ pub struct ReadSource<R> {
 }
 
 impl<R: Read + Send> ReadSource<R> {
-    pub fn new(reader: R) -> ReadSource<R> {
+    /// A source that has read nothing.
+    pub fn new(reader: R) -> ReadSource<R>
+        ensures { ⟦<ReadSource<R> as Source>⟧.gives result ≡ untold_source }
+    {
         ReadSource {
             reader,
             faults: 0,
@@ -21,11 +27,18 @@ impl<R: Read + Send> ReadSource<R> {
 }
 
 impl<R: Read + Send> Source for ReadSource<R> {
-    ghost use Rattle.std.specs.Prelude.{None};
+    ghost use Rattle.std.specs.Prelude.{◌<◌, length};
+    ghost use Rattle.engine_ports.specs.Source.{ReadSays};
+    ghost use Rattle.engine_ports.specs.Adapters.{source_over, reader_left, ReaderGave};
 
-    ghost gives = { λ s. record { left = None; faults = s.faults; ends = s.ends } };
+    ghost gives = { source_over };
 
-    fn read(&mut self, into: &mut [u8]) -> Got {
+    fn read(&mut self, into: &mut [u8]) -> Got
+        requires { 0 < length into.old }
+        ensures says { ReadSays result into.new (source_over self.old) (source_over self.new) }
+        ensures reader { ReaderGave result into.new
+            (reader_left R.remaining self.old) (reader_left R.remaining self.new) }
+    {
         match self.reader.read(into) {
             Ok(0) => {
                 self.ends = self.ends.saturating_add(1);

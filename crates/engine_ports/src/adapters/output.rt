@@ -1,4 +1,7 @@
 // A sink over a writer, as standard output is.
+ghost use Rattle.std.specs.Prelude.{◌≡◌};
+ghost use Rattle.engine_ports.specs.Sink.{untold_sink};
+
 use crate::{Failed, Sink};
 use std::io::Write;
 
@@ -10,17 +13,26 @@ pub struct WriteSink<W> {
 }
 
 impl<W: Write + Send> WriteSink<W> {
-    pub fn new(writer: W) -> WriteSink<W> {
+    /// A sink that has written nothing.
+    pub fn new(writer: W) -> WriteSink<W>
+        ensures { ⟦<WriteSink<W> as Sink>⟧.takes result ≡ untold_sink }
+    {
         WriteSink { writer, faults: 0 }
     }
 }
 
 impl<W: Write + Send> Sink for WriteSink<W> {
-    ghost use Rattle.std.specs.Prelude.{None};
+    ghost use Rattle.std.specs.Io.KnownBytes.{Keeps};
+    ghost use Rattle.engine_ports.specs.Sink.{WriteSays, FinishSays};
+    ghost use Rattle.engine_ports.specs.Adapters.{sink_over, writer_holds, WriterTook};
 
-    ghost takes = { λ s. record { wrote = None; faults = s.faults } };
+    ghost takes = { sink_over };
 
-    fn write(&mut self, piece: &[u8]) -> Result<(), Failed> {
+    fn write(&mut self, piece: &[u8]) -> Result<(), Failed>
+        ensures says { WriteSays result piece.now (sink_over self.old) (sink_over self.new) }
+        ensures writer { WriterTook result piece.now
+            (writer_holds W.contents self.old) (writer_holds W.contents self.new) }
+    {
         let mut rest = piece;
         while !rest.is_empty() {
             match self.writer.write(rest) {
@@ -34,7 +46,10 @@ impl<W: Write + Send> Sink for WriteSink<W> {
         self.finish()
     }
 
-    fn finish(&mut self) -> Result<(), Failed> {
+    fn finish(&mut self) -> Result<(), Failed>
+        ensures says { FinishSays result (sink_over self.old) (sink_over self.new) }
+        ensures writer { Keeps (writer_holds W.contents self.old) (writer_holds W.contents self.new) }
+    {
         match self.writer.flush() {
             Ok(()) => Ok(()),
             Err(_) => {

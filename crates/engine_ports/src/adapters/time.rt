@@ -1,4 +1,7 @@
 // The clock of the system.
+ghost use Rattle.std.specs.Prelude.{◌≡◌};
+ghost use Rattle.engine_ports.specs.Clock.{untold_clock};
+
 use crate::{Clock, Pause};
 use std::thread;
 use std::time::{self, Duration, SystemTime, UNIX_EPOCH};
@@ -12,7 +15,10 @@ pub struct SystemClock<C> {
 }
 
 impl<C: time::Clock + Copy + Send> SystemClock<C> {
-    pub fn new(clock: C) -> SystemClock<C> {
+    /// A clock that was never stopped.
+    pub fn new(clock: C) -> SystemClock<C>
+        ensures { ⟦<SystemClock<C> as Clock>⟧.times result ≡ untold_clock }
+    {
         SystemClock {
             clock,
             last: 0,

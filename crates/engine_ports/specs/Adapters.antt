@@ -1,0 +1,36 @@
+-- What adapters over a reader and a writer do (own: where these tell their bytes, as the standard
+-- library's readers and writers in memory do).
+use Rattle.std.specs.Prelude.{ℕ, List, [], take, Option, None, Result, Ok, Err}
+use Rattle.std.specs.Io.KnownBytes.{Appends, Consumes, Keeps, IsAtEnd}
+use Rattle.engine_ports.specs.Source.{SourceView}
+use Rattle.engine_ports.specs.Sink.{SinkView, IsFront}
+use Rattle.engine_ports.specs.declared.adapters.input.ReadSource.{ReadSource}
+use Rattle.engine_ports.specs.declared.adapters.output.WriteSink.{WriteSink}
+use Rattle.engine_ports.specs.declared.ports.Failed.{Failed}
+use Rattle.engine_ports.specs.declared.ports.Got.{Got}
+use Rattle.engine_ports.specs.declared.ports.Got.TheVariants as got
+
+-- what an adapter tells as a source and as a sink: its counts alone
+abbrev pub source_over : {R : Type 0} → ReadSource R → SourceView
+source_over s = record { left = None; faults = s.faults; ends = s.ends }
+
+abbrev pub sink_over : {W : Type 0} → WriteSink W → SinkView
+sink_over s = record { wrote = None; faults = s.faults }
+
+-- the bytes that its reader will give, and those that its writer holds, where these are told
+abbrev pub reader_left : {R : Type 0} → (R → Option (List ℕ)) → ReadSource R → Option (List ℕ)
+reader_left remaining s = remaining s.reader
+
+abbrev pub writer_holds : {W : Type 0} → (W → Option (List ℕ)) → WriteSink W → Option (List ℕ)
+writer_holds contents s = contents s.writer
+
+-- what a read takes of the reader: what stands at the front of the place, or nothing
+abbrev pub ReaderGave : Got → List ℕ → Option (List ℕ) → Option (List ℕ) → Type 0
+ReaderGave (got.Bytes n) into left left' = Consumes left left' (take n into)
+ReaderGave got.End into left left' = Consumes left left' [] × IsAtEnd left'
+ReaderGave got.Failed into left left' = Keeps left left'
+
+-- what a write adds to the writer: the whole piece, or a front of it where it fails
+abbrev pub WriterTook : Result (Unit {0}) Failed → List ℕ → Option (List ℕ) → Option (List ℕ) → Type 0
+WriterTook (Ok x) piece held held' = Appends held held' piece
+WriterTook (Err x) piece held held' = (part : List ℕ) × IsFront part piece × Appends held held' part
