@@ -1,6 +1,8 @@
 -- The test for a decimal below a limit.
-use Rattle.std.proofs.Common.{◌≡◌, ◌≢◌, ◌<◌, ℕ, zero, suc, List, Bool, true, false, ◌||◌, decimal, inl, inr, refl, sym, ap, ◌∙◌, arith}
-use Rattle.std.proofs.lemmas.Bool.{cases_eq}
+use Rattle.std.proofs.Common.{◌≡◌, ◌≢◌, ◌<◌, ◌+◌, ℕ, zero, suc, List, Bool, true, false, decimal, get_or, refl, sym, ap, ◌∙◌, arith}
+use Rattle.std.specs.List.{list_any, range_with_len}
+use Rattle.std.proofs.lemmas.List.Folds.{list_any_at}
+use Rattle.std.proofs.lemmas.List.FromFn.{length-range_with_len, get_or-range_with_len}
 use Rattle.std.proofs.lemmas.Slice.Eq.{bytes_eq-Decides}
 use Rattle.engine_text.specs.Texts.{same_bytes}
 use Rattle.api_json.specs.EventRules.{is_decimal_below}
@@ -18,22 +20,20 @@ not_same v w h = go (same_bytes v w) refl
     go true e = absurd (h (same_is v w e))
     go false e = refl
 
-or_right : (b c : Bool) → c ≡ true → (b || c) ≡ true
-or_right true c e = refl
-or_right false c e = e
+none_of_range : (a k : ℕ) (v : List ℕ) → ((n : ℕ) → n < a + k → v ≢ decimal n) → list_any (λ n. same_bytes v (decimal n)) (range_with_len a k) ≡ false
+none_of_range a zero v h = refl
+none_of_range a (suc k) v h = rw (not_same v (decimal a) (h a (omega arith)), none_of_range (a + 1) k v (λ n lt. h n (omega arith))) refl
 
 pub decimal_below-false : (k : ℕ) (v : List ℕ) → ((n : ℕ) → n < k → v ≢ decimal n) → is_decimal_below k v ≡ false
 unfolding is_decimal_below
-decimal_below-false zero v h = refl
-decimal_below-false (suc k) v h = rw (not_same v (decimal k) (h k (omega arith)), decimal_below-false k v (λ n lt. h n (omega arith))) refl
+decimal_below-false k v h = none_of_range 0 k v (λ n lt. h n (omega arith))
 
 pub decimal_below-true : (k n : ℕ) (v : List ℕ) → n < k → v ≡ decimal n → is_decimal_below k v ≡ true
 unfolding is_decimal_below
-decimal_below-true zero n v lt e = absurd (omega arith)
-decimal_below-true (suc k) n v lt e = elim (cases_eq n k) [
-  | inl here ↦ rw (is_same v (decimal k) (e ∙ ap decimal here)) refl
-  | inr other ↦ or_right (same_bytes v (decimal k)) _ (decimal_below-true k n v (omega arith) e)
-]
+decimal_below-true k n v lt e =
+    let at : get_or (range_with_len 0 k) n 0 ≡ n = omega (arith, get_or-range_with_len 0 k n 0 lt) in
+    list_any_at (λ (m : ℕ). same_bytes v (decimal m)) (range_with_len 0 k) n 0 (omega (arith, length-range_with_len 0 k))
+    (ap (λ (m : ℕ). same_bytes v (decimal m)) at ∙ is_same v (decimal n) e)
 
 -- where n is the only number that v can write
 pub decimal_below-only : (k n : ℕ) (v : List ℕ) → n < k → ((m : ℕ) → m < k → v ≡ decimal m → m ≡ n) → same_bytes (decimal n) v ≡ is_decimal_below k v

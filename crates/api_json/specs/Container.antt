@@ -33,6 +33,7 @@ pub record ContainerParts : Type 0 where
   pub pid : ℕ
   pub code : ℕ
 
+-- the name of a policy, as `RestartPolicy` has it
 abbrev pub policy_word : Policy → List ℕ
 policy_word Policy.No = codes "no"
 policy_word Policy.Always = codes "always"
@@ -50,6 +51,7 @@ most_retries (Policy.OnFailure most) = most
 abbrev pub is_running : ℕ → Status → Bool
 is_running pid status = not (pid == 0) || is_restarting status
 
+-- `Config`: what the create asked for; there is no terminal
 abbrev pub config_data : ContainerParts → Data
 config_data c = object (
     member (codes "Cmd") (words_data c.words) (
@@ -61,16 +63,19 @@ config_data c = object (
     member (codes "StopTimeout") (integer c.stop_after) (
     member (codes "Tty") (boolean false) no_members))))))))
 
+-- `RestartPolicy`: the name of the policy and its count
 abbrev pub policy_data : Policy → Data
 policy_data p = object (
     member (codes "MaximumRetryCount") (natural (most_retries p)) (
     member (codes "Name") (text (policy_word p)) no_members))
 
+-- `HostConfig`: the restart policy; no container is removed by itself
 abbrev pub host_config_data : Policy → Data
 host_config_data p = object (
     member (codes "AutoRemove") (boolean false) (
     member (codes "RestartPolicy") (policy_data p) no_members))
 
+-- `State`: the status and its flags, the living process, and the last run; nothing is killed for want of memory
 abbrev pub state_data : ContainerParts → Data
 state_data c = object (
     member (codes "Dead") (boolean (is_dead c.status)) (
@@ -85,6 +90,7 @@ state_data c = object (
     member (codes "StartedAt") (moment c.started) (
     member (codes "Status") (text (status_word c.status)) no_members)))))))))))
 
+-- a container as ContainerInspect tells it: `Path` is the first word, `Args` are the others, and a slash begins the name
 abbrev pub container_data : ContainerParts → Data
 container_data c = object (
     member (codes "Args") (words_data (drop 1 c.words)) (
@@ -99,5 +105,6 @@ container_data c = object (
     member (codes "RestartCount") (natural c.restarts) (
     member (codes "State") (state_data c) no_members)))))))))))
 
+-- the body of ContainerInspect: compact JSON, as all bodies
 abbrev pub container_text : ContainerParts → List ℕ
 container_text c = compact_text (container_data c)

@@ -1,4 +1,4 @@
--- The body of a create (Docker Engine API v1.43, ContainerCreate).
+-- The body of a create (Docker Engine API v1.43, ContainerCreate; own: the bounds, the order of refusals, and what is left out).
 use Rattle.std.specs.Prelude.{ℕ, ◌==◌, ℤ, pos, negsuc, List, [], ◌∷◌, ◌++◌, Bool, nat_le, if◌then◌else◌, Option, Some, None, Result, Ok, Err}
 use Rattle.serde_json.specs.Data.{Data, Members, no_members, member}
 use Rattle.serde_json.specs.Find.{as_object}
@@ -30,6 +30,7 @@ console_of d =
     and_then (flag Key.StdinOnce d) (λ stdin_once.
     Ok (record { open_stdin = open_stdin; stdin_once = stdin_once }))))
 
+-- the signal of a stop where the create names none
 abbrev pub sigterm : Signal
 sigterm = record { number = 15 }
 
@@ -52,10 +53,12 @@ stop_of d =
     and_then (and_then (whole_field Key.StopTimeout d) (λ seconds. or_fault (BadField Key.StopTimeout) (seconds_in seconds))) (λ after.
     Ok (record { signal = signal; after = after })))
 
+-- `Volumes` without members asks for nothing
 abbrev pub no_members_or_fault : Members → Result Bool BodyFault
 no_members_or_fault no_members = Ok Bool.true
 no_members_or_fault (member k d ms) = Err AnonymousVolumes
 
+-- `Volumes`, where it is there, is an object without members
 abbrev pub none_if_present : Option Data → Result Bool BodyFault
 none_if_present None = Ok Bool.true
 none_if_present (Some d) = and_then (or_fault (BadField Key.Volumes) (as_object d)) no_members_or_fault
@@ -87,5 +90,6 @@ create_in name d =
       mounts = host.mounts;
     }))))))))
 
+-- what the body of a create asks for, or why it is refused
 unfoldable pub create_of : Option (List ℕ) → List ℕ → Result CreateSpec BodyFault
 create_of name body = and_then (body_of body) (create_in name)

@@ -1,4 +1,4 @@
--- The lines of events (Docker Engine API v1.43, SystemEvents, definition EventMessage).
+-- The lines of events (Docker Engine API v1.43, SystemEvents, definition EventMessage; own: the bound of moments).
 use Rattle.std.specs.Prelude.{◌≡◌, ◌≢◌, ℕ, ◌/◌, ◌*◌, ◌≤◌, List, codes, Option, true, option_map, option_and_then, IsUtf8, ⊤}
 use Rattle.serde_json.specs.Data.{Data, object, no_members, member, Members}
 use Rattle.serde_json.specs.Find.{get, as_str, as_object, as_number, as_u64}
@@ -13,6 +13,7 @@ use Rattle.api_json.specs.declared.fault.Refused.{Refused}
 use Rattle.api_json.specs.declared.fault.Refused.TheVariants.{BadBody, NoMemory}
 use Rattle.api_json.specs.declared.fault.BodyFault.TheVariants.{BadEventLine}
 
+-- `Actor`: the id of what the event is of, and the event's attributes
 abbrev pub actor_members : Event → Members
 actor_members e =
     member (codes "Attributes") (pairs_object e.attributes) (
@@ -28,6 +29,7 @@ event_members e =
     member (codes "time") (natural (e.moment / 1000)) (
     member (codes "timeNano") (natural (e.moment * 1000000)) no_members)))))
 
+-- the object that a line of SystemEvents is
 abbrev pub event_data : Event → Data
 event_data e = object (event_members e)
 

@@ -1,5 +1,6 @@
 -- The words for kinds and actions, and the attributes that an event has (Docker Engine API v1.43, definition EventMessage; own: which attributes).
-use Rattle.std.specs.Prelude.{ℕ, zero, suc, List, [], ◌∷◌, codes, Option, Some, None, Bool, true, false, ◌&&◌, ◌||◌, not, if◌then◌else◌, find, decimal}
+use Rattle.std.specs.Prelude.{ℕ, List, [], ◌∷◌, codes, Option, Some, None, Bool, true, false, ◌&&◌, not, if◌then◌else◌, find, decimal}
+use Rattle.std.specs.List.{list_any, range_with_len}
 use Rattle.engine_text.specs.Texts.{same_bytes}
 use Rattle.engine_text.specs.declared.pairs.Pair.{Pair}
 use Rattle.engine_text.specs.declared.event.EventKind.{EventKind}
@@ -7,10 +8,12 @@ use Rattle.engine_text.specs.declared.event.EventKind.TheVariants as Kind
 use Rattle.engine_text.specs.declared.event.Action.{Action}
 use Rattle.engine_text.specs.declared.event.Action.TheVariants.{Create, Start, Kill, Die, Stop, Restart, Pause, Unpause, Rename, Destroy, Attach, ExecCreate, ExecStart, ExecDie, Mount, Unmount}
 
+-- the word for a kind, which is the field `Type`
 abbrev pub kind_word : EventKind → List ℕ
 kind_word Kind.Container = codes "container"
 kind_word Kind.Volume = codes "volume"
 
+-- the word for an action, which is the field `Action`
 abbrev pub action_word : Action → List ℕ
 action_word Create = codes "create"
 action_word Start = codes "start"
@@ -33,6 +36,7 @@ action_word Unmount = codes "unmount"
 abbrev pub kind_of : List ℕ → Option EventKind
 kind_of word = find (λ kind. same_bytes word (kind_word kind)) (Kind.Container ∷ Kind.Volume ∷ [])
 
+-- every action
 abbrev pub actions : List Action
 actions =
     Create ∷ Start ∷ Kill ∷ Die ∷ Stop ∷ Restart ∷ Pause ∷ Unpause ∷ Rename ∷ Destroy ∷ Attach ∷ ExecCreate
@@ -62,6 +66,7 @@ volume_keys Mount = Some (codes "container" ∷ codes "driver" ∷ [])
 volume_keys Unmount = Some (codes "container" ∷ codes "driver" ∷ [])
 volume_keys _ = None
 
+-- the keys of an event's attributes; None where nothing of this kind has this action
 abbrev pub attribute_keys : EventKind → Action → Option (List (List ℕ))
 attribute_keys Kind.Container action = container_keys action
 attribute_keys Kind.Volume action = volume_keys action
@@ -73,14 +78,14 @@ has_keys [] (p ∷ ps) = false
 has_keys (k ∷ ks) [] = false
 has_keys (k ∷ ks) (p ∷ ps) = same_bytes p.key k && has_keys ks ps
 
+-- the attributes have these keys; without keys there is no such event
 abbrev pub keys_fit : Option (List (List ℕ)) → List Pair → Bool
 keys_fit None ps = false
 keys_fit (Some ks) ps = has_keys ks ps
 
--- v is a number below n in decimal
+-- v is the decimal of a number below the limit
 unfoldable pub is_decimal_below : ℕ → List ℕ → Bool
-is_decimal_below zero v = false
-is_decimal_below (suc n) v = same_bytes v (decimal n) || is_decimal_below n v
+is_decimal_below limit v = list_any (λ n. same_bytes v (decimal n)) (range_with_len 0 limit)
 
 -- an exit code is from 0 to 255, a signal from 1 to 31, and the driver is `local`
 abbrev pub value_fits : List ℕ → List ℕ → Bool
@@ -89,6 +94,7 @@ value_fits k v =
     else (if same_bytes k (codes "signal") then (is_decimal_below 32 v && not (same_bytes v (codes "0")))
     else (if same_bytes k (codes "driver") then same_bytes v (codes "local") else true))
 
+-- each value fits its key
 abbrev pub values_fit : List Pair → Bool
 values_fit [] = true
 values_fit (p ∷ ps) = value_fits p.key p.value && values_fit ps

@@ -22,6 +22,7 @@ abbrev pub code_data : Option ℕ → Data
 code_data None = null
 code_data (Some code) = natural code
 
+-- `ProcessConfig`: the first word is `entrypoint`, the others are `arguments`; there is no terminal and no privilege
 abbrev pub process_data : List (List ℕ) → Data
 process_data words = object (
     member (codes "arguments") (words_data (drop 1 words)) (
@@ -29,6 +30,7 @@ process_data words = object (
     member (codes "privileged") (boolean false) (
     member (codes "tty") (boolean false) no_members))))
 
+-- an exec as ExecInspect tells it; it can't be removed, and no keys detach from it
 abbrev pub exec_data : ExecParts → Data
 exec_data x = object (
     member (codes "CanRemove") (boolean false) (
@@ -43,5 +45,6 @@ exec_data x = object (
     member (codes "ProcessConfig") (process_data x.words) (
     member (codes "Running") (boolean x.live) no_members)))))))))))
 
+-- the body of ExecInspect
 abbrev pub exec_text : ExecParts → List ℕ
 exec_text x = compact_text (exec_data x)

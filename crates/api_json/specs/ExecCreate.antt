@@ -1,4 +1,4 @@
--- The bodies of exec create and exec start (Docker Engine API v1.43, ContainerExec and ExecStart).
+-- The bodies of exec create and exec start (Docker Engine API v1.43, ContainerExec and ExecStart; own: the order of refusals, and what is left out).
 use Rattle.std.specs.Prelude.{ℕ, List, [], ◌∷◌, Bool, Result, Ok, Err}
 use Rattle.serde_json.specs.Data.{Data, object, no_members}
 use Rattle.api_json.specs.Fault.{and_then}
@@ -24,6 +24,7 @@ exec_in d =
     and_then (unset_flag TtyLeftOut Key.Tty d) (λ tty.
     Ok (record { words = words; stdin = stdin; out = out; err = err }))))))
 
+-- what the body of an exec create asks for, or why it is refused
 unfoldable pub exec_of : List ℕ → Result ExecSpec BodyFault
 exec_of body = and_then (body_of body) exec_in
 
@@ -39,5 +40,6 @@ abbrev pub body_or_empty : List ℕ → Result Data BodyFault
 body_or_empty [] = Ok (object no_members)
 body_or_empty (c ∷ cs) = body_of (c ∷ cs)
 
+-- whether the body of an exec start asks for a detached one, or why it is refused
 unfoldable pub exec_start_of : List ℕ → Result Bool BodyFault
 exec_start_of body = and_then (body_or_empty body) exec_start_in

@@ -1,4 +1,4 @@
--- Filters in a query (Docker Engine API v1.43, the parameter `filters` of ContainerList, VolumeList and SystemEvents).
+-- Filters in a query (Docker Engine API v1.43, ContainerList, VolumeList, SystemEvents; own: the order of the rows, and which keys of the older form count).
 use Rattle.std.specs.Prelude.{ℕ, List, [], ◌∷◌, codes, if◌then◌else◌, Option, Some, None, Result, Ok, option_map, option_and_then, find}
 use Rattle.serde_json.specs.Data.{Data, Items, Members, no_members, member}
 use Rattle.serde_json.specs.Find.{as_array, as_object, as_bool}
@@ -41,6 +41,7 @@ abbrev pub texts_or_keys : Option Items → Option Members → Option (List (Lis
 texts_or_keys (Some ds) ms = words_of ds
 texts_or_keys None ms = option_and_then true_keys ms
 
+-- the values of a key, of either form
 abbrev pub values_in : Data → Option (List (List ℕ))
 values_in d = texts_or_keys (as_array d) (as_object d)
 

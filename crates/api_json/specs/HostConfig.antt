@@ -1,4 +1,4 @@
--- What a create asks of the host (Docker Engine API v1.43, definitions HostConfig and RestartPolicy).
+-- What a create asks of the host (Docker Engine API v1.43, definitions HostConfig and RestartPolicy; own: AutoRemove is not built, and the order of refusals).
 use Rattle.std.specs.Prelude.{pos, [], Option, Some, None, Result, Ok, Err, unwrap_or}
 use Rattle.serde_json.specs.Data.{Data}
 use Rattle.engine_text.specs.Policy.{read_policy}
@@ -13,6 +13,7 @@ use Rattle.api_json.specs.declared.fault.BodyKey.TheVariants as Key
 use Rattle.api_json.specs.declared.fault.BodyFault.{BodyFault}
 use Rattle.api_json.specs.declared.fault.BodyFault.TheVariants.{BadRestartPolicy, AutoRemoveNotBuilt}
 
+-- a policy that can't be is a bad restart policy
 abbrev pub policy_or_fault : Result Policy Bad → Result Policy BodyFault
 policy_or_fault (Ok policy) = Ok policy
 policy_or_fault (Err bad) = Err BadRestartPolicy
@@ -29,6 +30,7 @@ abbrev pub policy_if_present : Option Data → Result Policy BodyFault
 policy_if_present None = Ok No
 policy_if_present (Some d) = policy_in d
 
+-- the restart policy that a host config asks for
 abbrev pub policy_of : Data → Result Policy BodyFault
 policy_of d = and_then (object_field Key.RestartPolicy d) policy_if_present
 
@@ -45,5 +47,6 @@ abbrev pub host_if_present : Option Data → Result Host BodyFault
 host_if_present None = Ok (record { mounts = []; policy = No })
 host_if_present (Some d) = host_in d
 
+-- what the host config of a create asks for
 abbrev pub host_of : Data → Result Host BodyFault
 host_of d = and_then (object_field Key.HostConfig d) host_if_present

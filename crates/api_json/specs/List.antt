@@ -23,5 +23,6 @@ listed_data c = object (
     member (codes "State") (text (status_word c.status)) (
     member (codes "Status") (text (status_text c.status c.code)) no_members))))))))))
 
+-- the body of ContainerList
 abbrev pub list_text : List Listed → List ℕ
 list_text cs = compact_text (list_of listed_data cs)

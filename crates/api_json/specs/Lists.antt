@@ -16,6 +16,7 @@ abbrev pub word_or_words : Option (List ℕ) → Option Items → Option (List (
 word_or_words (Some word) items = Some (word ∷ [])
 word_or_words None items = option_and_then words_of items
 
+-- the words of a value of either form
 abbrev pub words_in : Data → Option (List (List ℕ))
 words_in d = word_or_words (as_str d) (as_array d)
 
@@ -28,10 +29,11 @@ read_or_else absent kind key (Some v) = or_fault (BadField key) (kind v)
 abbrev pub words_field : BodyKey → Data → Result (List (List ℕ)) BodyFault
 words_field key d = read_or_else [] words_in key (field key d)
 
--- the texts of a field that is a list of texts, none where it is absent
+-- the texts of a list of texts
 abbrev pub texts_in : Data → Option (List (List ℕ))
 texts_in d = option_and_then words_of (as_array d)
 
+-- the texts of a field that is a list of texts, none where it is absent
 abbrev pub texts_field : BodyKey → Data → Result (List (List ℕ)) BodyFault
 texts_field key d = read_or_else [] texts_in key (field key d)
 

@@ -1,4 +1,4 @@
--- Mounts of a container (Docker Engine API v1.43, definition MountPoint).
+-- Mounts of a container (Docker Engine API v1.43, definition MountPoint; own: where the data lie).
 use Rattle.std.specs.Prelude.{ℕ, List, [], ◌++◌, Bool, not, codes}
 use Rattle.serde_json.specs.Data.{Data, boolean, object, no_members, member}
 use Rattle.api_json.specs.Values.{text}
@@ -19,5 +19,6 @@ mount_object target volume writes source = object (
     member (codes "Source") (text source) (
     member (codes "Type") (text (codes "volume")) no_members)))))))
 
+-- a mount as ContainerInspect and ContainerList tell it
 abbrev pub mount_data : Mount → Data
 mount_data m = mount_object m.target m.volume (not m.read_only) (source_of m.volume)

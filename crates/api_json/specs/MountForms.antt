@@ -24,6 +24,7 @@ mount_of volume target read_only =
     if is_volume_name volume && is_path target
     then Ok (record { volume = volume; target = target; read_only = read_only }) else Err BadMount
 
+-- a colon, which is 58
 abbrev pub is_colon : ℕ → Bool
 is_colon c = c == 58
 
@@ -48,6 +49,7 @@ abbrev pub volume_and_path : Option (List ℕ × List ℕ) → Result Mount Body
 volume_and_path None = Err BadMount
 volume_and_path (Some parts) = path_and_mode parts.0 parts.1 (split_colon parts.1)
 
+-- the mount that one text of `Binds` asks for
 abbrev pub bind_of : List ℕ → Result Mount BodyFault
 bind_of text = volume_and_path (split_colon text)
 
@@ -88,6 +90,7 @@ add_mounts mounts no_items = Ok mounts
 add_mounts mounts (item d ds) =
     and_then (and_then (mount_in d) (added_mount mounts)) (λ more. add_mounts more ds)
 
+-- these mounts and those of `Mounts`, which may be absent
 abbrev pub add_mounts_field : List Mount → Option Data → Result (List Mount) BodyFault
 add_mounts_field mounts None = Ok mounts
 add_mounts_field mounts (Some d) = and_then (or_fault (BadField Key.Mounts) (as_array d)) (add_mounts mounts)

@@ -1,4 +1,4 @@
--- The words for a container's state (Docker Engine API v1.43, definitions ContainerState and ContainerSummary).
+-- The words for a container's state (Docker Engine API v1.43, definitions ContainerState and ContainerSummary; own: no text tells how long ago).
 use Rattle.std.specs.Prelude.{ℕ, List, ◌++◌, Bool, true, false, codes, decimal}
 use Rattle.engine_text.specs.declared.status.Status.{Status}
 use Rattle.engine_text.specs.declared.status.Status.TheVariants.{Created, Running, Paused, Restarting, Removing, Exited, Dead}
@@ -23,6 +23,7 @@ status_text Removing code = codes "Removal In Progress"
 status_text Exited code = codes "Exited (" ++ (decimal code ++ codes ")")
 status_text Dead code = codes "Dead"
 
+-- the flag `Paused`
 abbrev pub is_paused : Status → Bool
 is_paused Paused = true
 is_paused Created = false
@@ -32,6 +33,7 @@ is_paused Removing = false
 is_paused Exited = false
 is_paused Dead = false
 
+-- the flag `Restarting`
 abbrev pub is_restarting : Status → Bool
 is_restarting Restarting = true
 is_restarting Created = false
@@ -41,6 +43,7 @@ is_restarting Removing = false
 is_restarting Exited = false
 is_restarting Dead = false
 
+-- the flag `Dead`
 abbrev pub is_dead : Status → Bool
 is_dead Dead = true
 is_dead Created = false

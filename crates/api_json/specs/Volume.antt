@@ -18,16 +18,20 @@ volume_object created labels source name = object (
     member (codes "Options") (object no_members) (
     member (codes "Scope") (text (codes "local")) no_members)))))))
 
+-- a volume as VolumeInspect and VolumeList tell it
 abbrev pub volume_data : ListedVolume → Data
 volume_data v = volume_object (moment_text (Some v.created)) (pairs_object v.labels) (source_of v.name) v.name
 
+-- the body of VolumeInspect
 abbrev pub volume_text : ListedVolume → List ℕ
 volume_text v = compact_text (volume_data v)
 
+-- what VolumeList answers: these volumes, and no warnings
 abbrev pub volumes_object : Data → Data
 volumes_object volumes = object (
     member (codes "Volumes") volumes (
     member (codes "Warnings") empty_list no_members))
 
+-- the body of VolumeList
 abbrev pub volumes_text : List ListedVolume → List ℕ
 volumes_text vs = compact_text (volumes_object (list_of volume_data vs))

@@ -1,4 +1,4 @@
--- The body of a volume create (Docker Engine API v1.43, VolumeCreate).
+-- The body of a volume create (Docker Engine API v1.43, VolumeCreate; own: that a name is needed, the one driver, and the order of refusals).
 use Rattle.std.specs.Prelude.{ℕ, List, Option, Some, None, Bool, codes, ◌||◌, Result, Ok, Err, if◌then◌else◌}
 use Rattle.serde_json.specs.Data.{Data}
 use Rattle.engine_text.specs.Name.{is_volume_name}
@@ -29,5 +29,6 @@ volume_in d =
     and_then (labels_of d) (λ labels.
     Ok (record { name = name; labels = labels }))))
 
+-- what the body of a volume create asks for, or why it is refused
 unfoldable pub volume_of : List ℕ → Result VolumeSpec BodyFault
 volume_of body = and_then (body_of body) volume_in

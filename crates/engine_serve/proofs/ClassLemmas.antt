@@ -8,7 +8,8 @@ use Rattle.engine_text.specs.declared.call.CreateSpec.{CreateSpec}
 use Rattle.engine_text.specs.declared.mounts.Mount.{Mount}
 use Rattle.engine_text.specs.declared.policy.Policy.{Policy}
 use Rattle.engine_text.specs.declared.policy.Policy.TheVariants.{No}
-use Rattle.machine_model.specs.Soundness.{is_sound, is_create, if_given, is_policy, is_signal, is_seconds, are_labels, are_mounts}
+use Rattle.machine_model.specs.Soundness.{is_sound, is_create, if_given, is_policy, is_signal, are_labels, are_mounts}
+use Rattle.api_json.specs.CreateLaws.{is_seconds}
 use Rattle.engine_text.specs.Name.{is_name}
 use Rattle.http_edge.specs.Message.{Request}
 use Rattle.http_edge.specs.Asks.{asks_upgrade}

@@ -1,4 +1,4 @@
--- Logs (Docker Engine API v1.43, ContainerLogs).
+-- Logs (Docker Engine API v1.43, ContainerLogs; own: both ends of the moments count, and the tail counts the asked records).
 use Rattle.std.specs.Prelude.{ℕ, suc, zero, ◌-◌, List, [], ◌∷◌, Bool, true, false, ◌&&◌, if◌then◌else◌, Option, Some, None, length, nat_le, nat_lt, slice_index}
 use Rattle.machine_model.specs.State.{State}
 use Rattle.machine_model.specs.Outcome.{Outcome, replies, at_reference}
