@@ -1,6 +1,6 @@
 -- What the class of a request tells of its call: it is built and sound, and no stream's call is built.
-use Rattle.std.proofs.Common.{◌≡◌, ℕ, List, [], Bool, true, false, cond, ◌&&◌, Result, Ok, Err, Option, Some, None, refl, sym, ap, subst, ◌∙◌, codes, unwrap_or}
-use Rattle.std.specs.Prelude.{IsTrue, not}
+use Rattle.std.proofs.Common.{◌≡◌, ◌≢◌, ℕ, List, [], ◌∷◌, Bool, true, false, ◌&&◌, Result, Ok, Option, Some, None, refl, sym, ap, ◌∙◌, codes}
+use Rattle.std.specs.Prelude.{IsTrue}
 use Rattle.std.proofs.lemmas.Bool.{false≢true}
 use Rattle.engine_text.specs.declared.call.Call.{Call}
 use Rattle.engine_text.specs.declared.call.Call.TheVariants as call
@@ -8,7 +8,7 @@ use Rattle.engine_text.specs.declared.call.CreateSpec.{CreateSpec}
 use Rattle.engine_text.specs.declared.mounts.Mount.{Mount}
 use Rattle.engine_text.specs.declared.policy.Policy.{Policy}
 use Rattle.engine_text.specs.declared.policy.Policy.TheVariants.{No}
-use Rattle.machine_model.specs.Soundness.{is_sound, is_create, if_given, is_policy, is_signal, are_labels, are_mounts}
+use Rattle.machine_model.specs.Soundness.{is_sound, is_full, is_create, if_given, is_policy, is_signal, are_labels, are_mounts}
 use Rattle.api_json.specs.CreateLaws.{is_seconds}
 use Rattle.engine_text.specs.Name.{is_name}
 use Rattle.http_edge.specs.Message.{Request}
@@ -20,40 +20,32 @@ use Rattle.api_routes.specs.RouteClass.{Asked, route_class, ask, in_chunks, take
 use Rattle.api_json.specs.ExecCreate.{exec_start_of}
 use Rattle.api_routes.specs.Built as api
 use Rattle.api_routes.specs.Class.{class_of}
-use Rattle.api_routes.specs.Laws.{IsAsked, IsNamed}
+use Rattle.api_routes.specs.Laws.{IsAsked, IsAskedCreate, IsNamed}
 use Rattle.api_routes.specs.declared.class.Class.{Class}
-use Rattle.api_routes.specs.declared.class.Class.TheVariants.{Direct, Ask, Stream}
+use Rattle.api_routes.specs.declared.class.Class.TheVariants.{Ask, Stream}
 use Rattle.api_routes.specs.declared.class.Takeover.{Takeover}
 use Rattle.api_routes.specs.declared.class.Takeover.TheVariants as takes
 use Rattle.api_routes.specs.declared.fault.Fault.{Fault}
 use Rattle.api_routes.specs.declared.route.Route.{Route}
 use Rattle.api_routes.specs.declared.route.Route.TheVariants as to
-use Rattle.api_routes.specs.Built.{if_built}
-use Rattle.api_routes.specs.Class.{or_not_found, or_refusal}
-use Rattle.api_routes.specs.Routes.{method_of, route_for}
-use Rattle.api_routes.specs.Path.{path_of, query_of, parameter_of}
-use Rattle.api_routes.specs.Version.{behind_version}
-use Rattle.route_laws.specs.Segments.{segments}
-use Rattle.api_routes.specs.declared.fault.Fault.TheVariants.{NotBuilt}
-use Rattle.api_routes.proofs.ClassLemmas.{went-on, class_streams}
-use Rattle.api_routes.proofs.CreateLemmas.{asked-create}
+use Rattle.api_routes.specs.Path.{query_of}
+use Rattle.api_routes.proofs.ClassLemmas.{went-on, streamed-by}
+use Rattle.api_routes.proofs.AskedLemmas.{asked-call}
 use Rattle.engine_serve.specs.Built.{is_served}
 
 -- ---- built
 
-both : (a b c : Bool) → a ≡ true → b ≡ true → c ≡ true → IsTrue (a && b && c)
-both true true true f g h = refl
-both false b c f g h = absurd (false≢true f)
-both true false c f g h = absurd (false≢true g)
-both true true false f g h = absurd (false≢true h)
+bare_built : (spec : CreateSpec) → spec.mounts ≡ [] → spec.policy ≡ No → IsTrue (is_served (call.Create spec))
+bare_built spec m p = rw (m, p) refl
 
-bare_built : (spec : CreateSpec) → spec.mounts ≡ [] → spec.policy ≡ No → spec.open_stdin ≡ false → IsTrue (is_served (call.Create spec))
-bare_built spec m p o = rw (m, p) refl
+built_as : (r : Request) (c : Call) → IsAsked r c → IsTrue (is_served c)
+built_as r (call.Create spec) a = bare_built spec a.mounts a.policy
+built_as r (call.Start target) a = refl
+built_as r (call.Inspect target) a = refl
+built_as r c a = absurd a
 
 pub asked_built : (r : Request) (c : Call) → class_of r ≡ Ask c → IsTrue (is_served c)
-asked_built r c h =
-    let a = asked-create r c h in
-    subst (λ x. IsTrue (is_served x)) (sym a.1) (bare_built a.0 a.2.mounts a.2.policy a.2.open_stdin)
+asked_built r c h = built_as r c (asked-call r c h)
 
 -- ---- sound
 
@@ -76,16 +68,24 @@ no_policy policy h = rw h refl
 no_mounts : (mounts : List Mount) → mounts ≡ [] → are_mounts mounts ≡ true
 no_mounts mounts h = rw h refl
 
-create_sound : (r : Request) (spec : CreateSpec) → IsAsked r spec → IsTrue (is_create spec)
+create_sound : (r : Request) (spec : CreateSpec) → IsAskedCreate r spec → IsTrue (is_create spec)
 create_sound r spec a =
     sound_by (if_given is_name spec.name) (is_policy spec.policy) (is_signal spec.stop_signal) (is_seconds spec.stop_after)
     (are_labels spec.labels) (are_mounts spec.mounts)
     (named spec.name a.named) (no_policy spec.policy a.policy) a.within.signal a.within.seconds a.within.labels (no_mounts spec.mounts a.mounts)
 
+full : (target : List ℕ) → target ≢ [] → IsTrue (is_full target)
+full [] h = absurd (h refl)
+full (b ∷ target) h = refl
+
+sound_as : (r : Request) (c : Call) → IsAsked r c → IsTrue (is_sound c)
+sound_as r (call.Create spec) a = create_sound r spec a
+sound_as r (call.Start target) a = full target a.given
+sound_as r (call.Inspect target) a = full target a.given
+sound_as r c a = absurd a
+
 pub asked_sound : (r : Request) (c : Call) → class_of r ≡ Ask c → IsTrue (is_sound c)
-asked_sound r c h =
-    let a = asked-create r c h in
-    subst (λ x. IsTrue (is_sound x)) (sym a.1) (create_sound r a.0 a.2)
+asked_sound r c h = sound_as r c (asked-call r c h)
 
 -- ---- no stream
 
@@ -167,31 +167,9 @@ unserved to.VolumeRemove a c t h = absurd (asks_not _ c t h)
 unserved to.Events a c t h = events_unserved a.query c (chunks_by (events_call a.query) c t h)
 unserved to.Journal a c t h = ap api.is_built (sym (same_call call.JournalRead c takes.None t h))
 
-stream_read : (m : List ℕ) (r : Result Class Fault) (c : Call) (t : Takeover) → or_refusal m r ≡ Stream c t → r ≡ Ok (Stream c t)
-stream_read m (Ok class) c t h = ap Ok h
-stream_read m (Err fault) c t h = let n : ⊥ = cc in absurd n
-
-stream_built : (class : Class) (c : Call) (t : Takeover) → if_built class ≡ Ok (Stream c t) → class ≡ Stream c t
-stream_built (Direct answer) c t h = let n : ⊥ = cc in absurd n
-stream_built (Ask d) c t h = by (api.is_built d) h
-  where
-    by : (b : Bool) → cond b (Ok (Ask d)) (Err NotBuilt) ≡ Ok (Stream c t) → Ask d ≡ Stream c t
-    by true h = let n : ⊥ = cc in absurd n
-    by false h = let n : ⊥ = cc in absurd n
-stream_built (Stream d u) c t h = by (api.is_built d) h
-  where
-    by : (b : Bool) → cond b (Ok (Stream d u)) (Err NotBuilt) ≡ Ok (Stream c t) → Stream d u ≡ Stream c t
-    by true h = same_class (Stream d u) (Stream c t) h
-    by false h = let n : ⊥ = cc in absurd n
-
 -- no request's class is a stream
 pub never_streamed : (r : Request) (c : Call) (t : Takeover) → class_of r ≡ Stream c t → ⊥
-unfolding class_of
 never_streamed r c t h =
-    let path = went-on (behind_version (segments (path_of r.target))) _ (Stream c t) (stream_read r.method _ c t h) in
-    let route = went-on (or_not_found (route_for (method_of r.method) path.0)) _ (Stream c t) path.2 in
-    let name = went-on (parameter_of path.0) _ (Stream c t) route.2 in
-    let asked : Asked = record { name = name.0; query = query_of r.target; body = r.body; upgrade = asks_upgrade r } in
-    let last = went-on (route_class route.0 asked) if_built (Stream c t) name.2 in
-    let none = unserved route.0 asked c t (last.1 ∙ ap Ok (stream_built last.0 c t last.2)) in
-    false≢true (sym none ∙ class_streams r c t h)
+    let s = streamed-by r c t h in
+    let asked : Asked = record { name = s.0.name; query = query_of r.target; body = r.body; upgrade = asks_upgrade r } in
+    false≢true (sym (unserved s.0.route asked c t s.0.reads) ∙ s.1)
