@@ -9,8 +9,11 @@ top=$(mktemp -d)
 trap 'rm -rf "$top"' EXIT
 mkdir -p "$top/crates"
 for crate in "$here"/../crates/*; do
-  cp -r "$crate" "$top/crates/"
-  rm -rf "$top/crates/$(basename "$crate")/out"
+  copy="$top/crates/$(basename "$crate")"
+  mkdir "$copy"
+  for part in src specs proofs; do
+    if [ -d "$crate/$part" ]; then cp -r "$crate/$part" "$copy/"; fi
+  done
 done
 cp "$here/../HANDLES" "$top/"
 { cat "$here/../crates.txt"; printf 'bench_%s: %s\n' "$name" "$(head -n 1 "$here/$name.program" | sed 's,^// *needs: *,,')"; } >"$top/crates.txt"
