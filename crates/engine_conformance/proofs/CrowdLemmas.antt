@@ -1,0 +1,166 @@
+-- A turn on the daemon behind a turn of another connection.
+use Rattle.std.proofs.Common.{◌≡◌, ◌≤◌, ◌==◌, ◌||◌, ℕ, List, [], ◌∷◌, ◌++◌, length, refl, sym, ◌∙◌, ap, subst, append-nil, append_assoc, arith, Bool, true, false, cond, Option, Some, None, Result, Ok, Err, IfOk}
+use Rattle.std.specs.Prelude.{IsTrue, IsFalse, OnErr}
+use Rattle.std.specs.List.{filter}
+use Rattle.std.proofs.lemmas.Bool.{false≢true}
+use Rattle.std.proofs.lemmas.List.Elements.{filter-append}
+use Rattle.engine_text.specs.declared.call.Call.{Call}
+use Rattle.engine_text.specs.declared.call.Call.TheVariants as call
+use Rattle.engine_text.specs.declared.memory.NoMemory.{NoMemory}
+use Rattle.engine_text.specs.declared.step.Step.{Step}
+use Rattle.machine_model.specs.History.{Charter, HasNone, own_calls, is_own, input_of, state_after}
+use Rattle.session_model.specs.declared.turned.Turned.{Turned}
+use Rattle.session_model.specs.Pass.{PassView, IsConnection}
+use Rattle.session_model.specs.Turning.{Turns, Turn, TurnSays, MayAsk, HasBegun}
+use Rattle.session_model.specs.Exchange.{IsQuiet}
+use Rattle.session_model.proofs.HistoryLemmas.{none_append, uncalled, quiet_same}
+use Rattle.engine_serve.specs.Storing.{pass_of, is_call}
+use Rattle.engine_conformance.specs.Crowding.{pass_among}
+use Rattle.engine_conformance.specs.Other.{nameless}
+
+-- ---- steps of which all calls are one connection's
+
+shorter : (b : Bool) (x : Step) (xs ys : List Step) → length ys ≤ length xs
+    → length (cond b (x ∷ ys) ys) ≤ length (x ∷ xs)
+shorter true x xs ys h = omega arith
+shorter false x xs ys h = omega arith
+
+-- who has the calls of one number has at most all
+fewer : (j : ℕ) (xs : List Step) → length (own_calls j xs) ≤ length (filter is_call xs)
+fewer j [] = omega arith
+fewer j (Step.Due ∷ xs) = fewer j xs
+fewer j (Step.Call i t c ∷ xs) =
+    shorter (is_own j (Step.Call i t c)) (Step.Call i t c) (filter is_call xs) (own_calls j xs) (fewer j xs)
+
+first_is : (b : Bool) (x : Step) (xs ys : List Step) → length ys ≤ length xs → x ∷ xs ≡ cond b (x ∷ ys) ys
+    → IsTrue b × (xs ≡ ys)
+first_is true x xs ys h e = (refl, cc)
+first_is false x xs ys h e = absurd (omega (arith, ap length e))
+
+-- two connections have no number in common
+strange : (i j k : ℕ) → IsConnection j → IsConnection k → IsFalse (k == j)
+    → IsTrue ((i == j) || (i == input_of j)) → ((i == k) || (i == input_of k)) ≡ false
+strange i j k fits fits' apart is = grind arith
+
+skips : (b : Bool) (x : Step) (xs : List Step) → b ≡ false → xs ≡ [] → cond b (x ∷ xs) xs ≡ []
+skips true x xs h e = absurd (false≢true (sym h))
+skips false x xs h e = e
+
+-- where all calls are of one connection, none is another's
+pub none_else : (j k : ℕ) (xs : List Step) → IsConnection j → IsConnection k → IsFalse (k == j)
+    → filter is_call xs ≡ own_calls j xs → HasNone k xs
+none_else j k [] fits fits' apart e = refl
+none_else j k (Step.Due ∷ xs) fits fits' apart e = none_else j k xs fits fits' apart e
+none_else j k (Step.Call i t c ∷ xs) fits fits' apart e =
+    let p = first_is (is_own j (Step.Call i t c)) (Step.Call i t c) (filter is_call xs) (own_calls j xs) (fewer j xs) e in
+    skips (is_own k (Step.Call i t c)) (Step.Call i t c) (own_calls k xs)
+    (strange i j k fits fits' apart p.0) (none_else j k xs fits fits' apart p.1)
+
+cancel : (a x y : List Step) → a ++ x ≡ a ++ y → x ≡ y
+cancel [] x y e = e
+cancel (s ∷ a) x y e = cancel a x y cc
+
+-- ---- the other's turn
+
+-- who takes all turns meets no other's steps
+here : (j : ℕ) (ch ch' : Charter) (h h' : List Step) (t : Turns j (pass_of ch h) (pass_of ch' h')) → h ++ t.others ≡ h
+here j ch ch' h h' t = ap (λ x. h ++ x) (t.alone refl) ∙ append-nil h
+
+-- another's turn is quiet
+pub quiet_by : (j k : ℕ) (ch ch' : Charter) (h h' : List Step) → IsConnection j → IsConnection k → IsFalse (k == j)
+    → Turns j (pass_of ch h) (pass_of ch' h') → IsQuiet k h h'
+quiet_by j k ch ch' h h' fits fits' apart t =
+    let at : h' ≡ h ++ t.own = t.seen ∙ ap (λ x. x ++ t.own) (here j ch ch' h h' t) in
+    let same : filter is_call t.own ≡ own_calls j t.own =
+    cancel (filter is_call h) (filter is_call t.own) (own_calls j t.own)
+    (sym (filter-append is_call h t.own) ∙ sym (ap (filter is_call) at) ∙ t.own_calls) in
+    (t.own, none_else j k t.own fits fits' apart same, at)
+
+-- what it leaves behind: a history with no step of ours, of the same daemon
+pub record Bystands (k : ℕ) (p q : PassView) : Type 0 where
+  pub quiet : IsQuiet k p.seen q.seen
+  pub charter : q.charter ≡ p.charter
+
+bystands_own : (r : Result Turned NoMemory) (j k handed : ℕ) (ch ch' : Charter) (h h' : List Step)
+    → IsConnection j → IsConnection k → IsFalse (k == j)
+    → IfOk r (λ t. Turn j handed (Some nameless) t (pass_of ch h) (pass_of ch' h'))
+    → OnErr r (pass_of ch' h' ≡ pass_of ch h) → Bystands k (pass_of ch h) (pass_of ch' h')
+bystands_own (Ok x) j k handed ch ch' h h' fits fits' apart made _ = record {
+  quiet = quiet_by j k ch ch' h h' fits fits' apart made.turns;
+  charter = made.turns.stays.charter;
+}
+bystands_own (Err x) j k handed ch ch' h h' fits fits' apart _ same = record {
+  quiet = subst (λ (q : PassView). IsQuiet k h q.seen) (sym same) (quiet_same k h);
+  charter = ap (λ (q : PassView). q.charter) same;
+}
+
+-- by the number that the connection has
+pub bystands : (r : Result Turned NoMemory) (j own k handed : ℕ) (ch ch' : Charter) (h h' : List Step)
+    → own ≡ k → IsConnection j → IsConnection own → IsFalse (own == j)
+    → IfOk r (λ t. Turn j handed (Some nameless) t (pass_of ch h) (pass_of ch' h'))
+    → OnErr r (pass_of ch' h' ≡ pass_of ch h) → Bystands k (pass_of ch h) (pass_of ch' h')
+bystands r j own k handed ch ch' h h' is fits fits' apart made same =
+    subst (λ n. Bystands n (pass_of ch h) (pass_of ch' h')) is
+    (bystands_own r j own handed ch ch' h h' fits fits' apart made same)
+
+-- ---- the own turn behind it
+
+begun_on : (ch : Charter) (k n : ℕ) (h h' : List Step) → IsQuiet k h h' → HasBegun ch k n h → HasBegun ch k n h'
+begun_on ch k n h h' (xs, none, at) (before, behind, t, c, none', is, reply) = (
+  before,
+  behind ++ xs,
+  t,
+  c,
+  none_append k behind xs none' none,
+  at ∙ ap (λ x. x ++ xs) is ∙ append_assoc before (Step.Call k t c ∷ behind) xs,
+  reply,
+)
+
+-- what could be asked can be asked behind steps of others
+pub may_on : (ch : Charter) (k : ℕ) (h h' : List Step) (c : Option Call) → IsQuiet k h h' → MayAsk ch k h c → MayAsk ch k h' c
+may_on ch k h h' None q m = tt
+may_on ch k h h' (Some (call.Take n)) q m = (m.0, begun_on ch k n h h' q m.1)
+may_on ch k h h' (Some (call.Drop n)) q m = (m.0, begun_on ch k n h h' q m.1)
+may_on ch k h h' (Some c) q m = m
+
+pub may_behind : (ch ch' : Charter) (k : ℕ) (h h' : List Step) (c : Option Call) → Bystands k (pass_of ch h) (pass_of ch' h')
+    → MayAsk ch k h c → MayAsk ch' k h' c
+may_behind ch ch' k h h' c by may = subst (λ x. MayAsk x k h' c) (sym by.charter) (may_on ch k h h' c by.quiet may)
+
+pub turn_behind : (k handed : ℕ) (c : Option Call) (result : Turned) (ch ch' ch'' : Charter) (h h' h'' : List Step)
+    → Bystands k (pass_of ch h) (pass_of ch' h') → Turn k handed c result (pass_of ch' h') (pass_of ch'' h'')
+    → Turn k handed c result (pass_among k (pass_of ch h)) (pass_among k (pass_of ch'' h''))
+turn_behind k handed c result ch ch' ch'' h h' h'' by turn =
+    let t = turn.turns in
+    let others = by.quiet.0 in
+    let none : HasNone k others = by.quiet.1 in
+    let met : h' ++ t.others ≡ h ++ others = here k ch' ch'' h' h'' t ∙ by.quiet.2 in
+    let at : h'' ≡ h ++ others ++ t.own = t.seen ∙ ap (λ x. x ++ t.own) met in
+    let charter : ch'' ≡ ch = t.stays.charter ∙ by.charter in
+    let before : own_calls k (h ++ others) ≡ own_calls k h =
+    filter-append (is_own k) h others ∙ ap (λ x. own_calls k h ++ x) none ∙ append-nil (own_calls k h) in
+    record {
+      turns = record {
+        others = others;
+        own = t.own;
+        seen = at;
+        apart = uncalled k others none;
+        strangers = λ _. none;
+        alone = λ e. absurd (false≢true e);
+        legal = t.legal;
+        own_calls = ap (own_calls k) at ∙ filter-append (is_own k) (h ++ others) t.own ∙ ap (λ x. x ++ own_calls k t.own) before;
+        looks = omega arith;
+        found_busy = omega arith;
+        stays = record { joined_calls = refl; number = refl; pair = refl; charter = charter; alone = refl; home = refl };
+      };
+      says = subst (λ x. TurnSays x (state_after x (h ++ others)) k handed c result t.own) by.charter
+          (subst (λ x. TurnSays ch' (state_after ch' x) k handed c result t.own) met turn.says);
+    }
+
+-- by the number that the connection has
+pub turn_numbered : (own own' k handed : ℕ) (c : Option Call) (result : Turned) (p q : PassView) → own ≡ k → own' ≡ own
+    → Turn k handed c result (pass_among k p) (pass_among k q)
+    → Turn k handed c result (pass_among own p) (pass_among own' q)
+turn_numbered own own' k handed c result p q is same turn =
+    subst (λ n. Turn k handed c result (pass_among own p) (pass_among n q)) (sym (same ∙ is))
+    (subst (λ n. Turn k handed c result (pass_among n p) (pass_among k q)) (sym is) turn)
