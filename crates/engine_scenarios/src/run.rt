@@ -1,0 +1,113 @@
+// A scenario, run and told.
+ghost use Rattle.std.specs.Prelude.{◌<◌};
+
+use crate::scenario::{Coming, Scenario};
+use engine_ports::{MemSink, MemSource, NoDoor, NoMemory, StepClock};
+use engine_serve::run_engined;
+use engine_text::Text;
+use std::fs;
+use std::io::{self, Write};
+use std::rt::Files;
+use std::sync::Wait;
+
+/// The moment at which the clock of the outside stands, in milliseconds since 1970.
+const MOMENT: u64 = 1_700_000_000_000;
+
+/// What a run ended with.
+#[derive(Drop)]
+struct Ran {
+    status: u8,
+    sink: MemSink,
+}
+
+// Runs the daemon over these bytes, at most `cut` of them at once.
+fn run_over<R: Wait + AllocGlobal>(
+    rt: &R,
+    words: &[Text],
+    bytes: &[u8],
+    cut: usize,
+    failing_reads: &[u64],
+    failing_writes: &[u64],
+) -> Result<Ran, NoMemory>
+    requires { 0 < cut }
+{
+    let mut source = MemSource::new(rt.alloc(), bytes, cut, failing_reads)?;
+    let mut sink = MemSink::new(rt.alloc(), failing_writes)?;
+    let mut clock = StepClock::new(MOMENT, 0, None);
+    let status = run_engined(
+        rt,
+        rt.alloc(),
+        words,
+        &mut source,
+        &mut sink,
+        &mut clock,
+        &mut NoDoor,
+    );
+    Ok(Ran { status, sink })
+}
+
+// Tells the status, and what was written, as it is.
+fn tell_ran(rt: &impl Print, ran: Result<Ran, NoMemory>) -> io::Result<()> {
+    match ran {
+        Ok(ran) => {
+            let mut out = io::writer(rt);
+            println!(rt; "status {}", ran.status)?;
+            out.write_all(ran.sink.bytes())?;
+            println!(rt; "")
+        }
+        Err(NoMemory) => println!(rt; "out of memory"),
+    }
+}
+
+// Tells how many of the cut inputs end with status 3 and nothing written, and each that doesn't.
+fn tell_cuts<R: Wait + AllocGlobal + Print>(
+    rt: &R,
+    words: &[Text],
+    bytes: &[u8],
+) -> io::Result<()> {
+    let mut as_cut = 0u64;
+    for length in 1..bytes.len() {
+        let Ok(ran) = run_over(rt, words, &bytes[..length], 4096, &[], &[]) else {
+            return println!(rt; "out of memory");
+        };
+        let written = ran.sink.bytes().len();
+        if ran.status == 3 && written == 0 {
+            as_cut = as_cut.saturating_add(1);
+        } else {
+            println!(rt;
+                "cut after {length}: status {}, {written} bytes",
+                ran.status
+            )?;
+        }
+    }
+    println!(rt; "{as_cut} cuts: status 3, nothing written")
+}
+
+/// Runs a scenario and tells what came of it.
+pub fn tell<R: Wait + AllocGlobal + Files + Print>(rt: &R, scenario: &Scenario) -> io::Result<()> {
+    let words = scenario.words.as_slice();
+    let name = scenario.name.as_str();
+    let bytes = fs::read(rt, name)?;
+    let bytes = bytes.as_slice();
+    match scenario.coming {
+        Coming::Pieces(cut) => {
+            println!(rt; "== {name} in pieces of {cut}")?;
+            if cut == 0 {
+                return println!(rt; "no piece has no byte");
+            }
+            tell_ran(rt, run_over(rt, words, bytes, cut, &[], &[]))
+        }
+        Coming::Cuts => {
+            println!(rt; "== {name} cut after each byte")?;
+            tell_cuts(rt, words, bytes)
+        }
+        Coming::FailingRead(number) => {
+            println!(rt; "== {name} with read {number} failing")?;
+            tell_ran(rt, run_over(rt, words, bytes, 4096, &[number], &[]))
+        }
+        Coming::FailingWrite(number) => {
+            println!(rt; "== {name} with write {number} failing")?;
+            tell_ran(rt, run_over(rt, words, bytes, 4096, &[], &[number]))
+        }
+    }
+}

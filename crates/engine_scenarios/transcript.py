@@ -1,0 +1,224 @@
+#!/usr/bin/env python3
+"""Writes data/, stdin and stdout: requests by hand, and the answers that the public rules give them.
+
+It computes nothing with the daemon's code: ids are made from RFC 8439's block function, texts are
+written out from docs/API.md. Run it here after a change, and look at the difference.
+"""
+import json
+import os
+import struct
+
+HERE = os.path.dirname(os.path.abspath(__file__))
+PHRASES = {200: "OK", 201: "Created", 204: "No Content", 304: "Not Modified", 400: "Bad Request", 404: "Not Found",
+           409: "Conflict", 413: "Payload Too Large", 417: "Expectation Failed", 431: "Request Header Fields Too Large",
+           501: "Not Implemented", 505: "HTTP Version Not Supported"}
+STDIO = "--stdio --clock 1700000000000:0"
+NOW = "2023-11-14T22:13:20.000000000Z"  # the moment 1700000000000
+NEVER = "0001-01-01T00:00:00Z"
+USAGE = ("usage: engined --stdio | --listen ADDR | --drill N [--seed HEX] [--clock START:STEP] [--connections N] "
+         "[--journal N]\n")
+USUAL = ('{"Hostname":"","Domainname":"","User":"","AttachStdin":false,"AttachStdout":true,"AttachStderr":true,"Tty":false,'
+         '"OpenStdin":false,"StdinOnce":false,"Env":null,"Cmd":["echo","hi"],"Image":"engine/tools:latest","Volumes":{},'
+         '"WorkingDir":"","Entrypoint":null,"OnBuild":null,"Labels":{},"HostConfig":{"Binds":null,"ContainerIDFile":"",'
+         '"LogConfig":{"Type":"","Config":{}},"NetworkMode":"default","PortBindings":{},"RestartPolicy":{"Name":"no",'
+         '"MaximumRetryCount":0},"AutoRemove":false,"VolumeDriver":"","VolumesFrom":null,"ConsoleSize":[24,80],"CapAdd":null,'
+         '"CapDrop":null,"Dns":[],"DnsOptions":[],"DnsSearch":[],"ExtraHosts":null,"IpcMode":"","Links":null,"OomScoreAdj":0,'
+         '"PidMode":"","Privileged":false,"ReadonlyRootfs":false,"SecurityOpt":null,"Memory":0,"NanoCpus":0,"PidsLimit":0,'
+         '"Ulimits":null},"NetworkingConfig":{"EndpointsConfig":{}}}')
+
+
+# ---- ids: 24 bytes of the ChaCha20 keystream of the zero key on the stream n, and n
+
+def keystream(n):
+    state = list(struct.unpack("<4I", b"expand 32-byte k")) + [0] * 8 + [0, 0, n & 0xFFFFFFFF, n >> 32]
+    work = state[:]
+
+    def quarter(a, b, c, d):
+        for x, y, z, by in ((a, b, d, 16), (c, d, b, 12), (a, b, d, 8), (c, d, b, 7)):
+            work[x] = (work[x] + work[y]) & 0xFFFFFFFF
+            turned = work[z] ^ work[x]
+            work[z] = ((turned << by) | (turned >> (32 - by))) & 0xFFFFFFFF
+
+    for _ in range(10):
+        for i in range(4):
+            quarter(i, 4 + i, 8 + i, 12 + i)
+        for i in range(4):
+            quarter(i, 4 + (i + 1) % 4, 8 + (i + 2) % 4, 12 + (i + 3) % 4)
+    return struct.pack("<16I", *((a + b) & 0xFFFFFFFF for a, b in zip(work, state)))
+
+
+def id_of(n):
+    return keystream(n)[:24].hex() + f"{n:016x}"
+
+
+# ---- requests
+
+def get(target, method="GET"):
+    return f"{method} {target} HTTP/1.1\r\nHost: x\r\n\r\n"
+
+
+def post(target, body="", more=""):
+    return f"POST {target} HTTP/1.1\r\nHost: x\r\n{more}Content-Length: {len(body)}\r\n\r\n{body}"
+
+
+def create(name=None, words=None, body=None):
+    body = body or compact({"Image": "engine/tools:latest", **({"Cmd": words} if words else {})})
+    return post("/v1.43/containers/create" + (f"?name={name}" if name is not None else ""), body)
+
+
+# ---- answers
+
+def compact(value):
+    return json.dumps(value, separators=(",", ":"), ensure_ascii=False)
+
+
+def answer(status, body=None, kind="application/json", close=False, head=False):
+    lines = [f"HTTP/1.1 {status} {PHRASES[status]}", "Api-Version: 1.43"]
+    lines += ["Connection: close"] if close else []
+    lines += [f"Content-Length: {len(body)}", f"Content-Type: {kind}"] if body is not None else []
+    return "\r\n".join(lines + ["Server: engined", "", ""]) + ("" if head or body is None else body)
+
+
+def message(status, text, **more):
+    return answer(status, compact({"message": text}), **more)
+
+
+def bad(status):
+    return message(status, PHRASES[status], close=True)
+
+
+def created(n):
+    return answer(201, compact({"Id": id_of(n), "Warnings": []}))
+
+
+def conflict(name, n):
+    return message(409, f'Conflict. The container name "/{name}" is already in use by container "{id_of(n)}". '
+                        "You have to remove (or rename) that container to be able to reuse that name.")
+
+
+def moment(ms):
+    return f"2023-11-14T22:13:20.{ms:03}000000Z"
+
+
+def shown(n, name, words, status, code=0, pid=0, started=NEVER, finished=NEVER):
+    return answer(200, compact({
+        "Args": words[1:],
+        "Config": {"Cmd": words, "Image": "engine/tools:latest", "Labels": {}, "OpenStdin": False, "StdinOnce": False,
+                   "StopSignal": "SIGTERM", "StopTimeout": 10, "Tty": False},
+        "Created": NOW,
+        "HostConfig": {"AutoRemove": False, "RestartPolicy": {"MaximumRetryCount": 0, "Name": "no"}},
+        "Id": id_of(n), "Image": "engine/tools:latest", "Mounts": [], "Name": f"/{name}", "Path": words[0],
+        "RestartCount": 0,
+        "State": {"Dead": False, "Error": "", "ExitCode": code, "FinishedAt": finished, "OOMKilled": False,
+                  "Paused": False, "Pid": pid, "Restarting": False, "Running": status == "running",
+                  "StartedAt": started, "Status": status}}))
+
+
+# ---- scenarios: the file, its requests, how they come, the words, the status, and what is written
+
+SCENARIOS = []
+
+
+def scenario(name, requests, wanted, status=0, words=STDIO, comings=("pieces=4096",)):
+    text = requests if isinstance(requests, str) else "".join(requests)
+    wanted = wanted if isinstance(wanted, str) else "".join(wanted)
+    SCENARIOS.append((name + ".http", text, comings, words, status, wanted))
+
+
+def refused(name, request, status):
+    scenario(name, request, bad(status), status=3)
+
+
+WEB = create("web")
+scenario("create", WEB, created(0), comings=("pieces=1", "pieces=4096", "cuts"))
+scenario("nothing", "", "", comings=("pieces=1", "read=0"))
+scenario("create_failing", WEB, "", status=4, comings=("read=0", "write=0"))
+scenario("other_words", WEB, USAGE, status=2, words="--stdio --listen 127.0.0.1:1")
+scenario("same_name", [WEB, WEB, create(), get("/containers/anon-1/json")],
+         [created(0), conflict("web", 0), created(1), shown(1, "anon-1", ["hello"], "created")])
+scenario("names", [create("a"), create("ab"), create("%2Fab")],
+         [message(400, "Invalid container name (a)"), created(0), conflict("ab", 0)])
+scenario("other_image", create("web", body='{"Image":"nope"}'), message(404, "No such image: nope"))
+scenario("exit_7", [create("web", ["exit", "7"]), post("/v1.43/containers/web/start"), get("/v1.43/containers/web/json")],
+         [created(0), answer(204), shown(0, "web", ["exit", "7"], "exited", code=7, started=NOW, finished=NOW)],
+         comings=("pieces=7",))
+scenario("unknown_command", [create("web", ["nope"]), post("/containers/web/start"), get("/containers/web/json")],
+         [created(0), message(400, "unknown command: nope"), shown(0, "web", ["nope"], "created")])
+scenario("started_twice", [create("web", ["deaf"]), post("/containers/web/start"), post("/containers/web/start"),
+                           get("/containers/web/json"), post("/containers/db/start")],
+         [created(0), answer(204), answer(304), shown(0, "web", ["deaf"], "running", pid=1001, started=NOW),
+          message(404, "No such container: db")])
+# the clock is asked once for each call, and never for an answer from the request's bytes
+scenario("clock_steps", [create("web", ["sleep", "15"]), get("/_ping"), post("/containers/web/start"),
+                         get("/containers/web/json"), get("/containers/web/json")],
+         [created(0), answer(200, "OK", kind="text/plain; charset=utf-8"), answer(204),
+          shown(0, "web", ["sleep", "15"], "running", pid=1001, started=moment(10)),
+          shown(0, "web", ["sleep", "15"], "exited", started=moment(10), finished=moment(25))],
+         words="--stdio --clock 1700000000000:10")
+scenario("usual_client", [create("web", body=USUAL), post("/containers/web/start"), get("/containers/web/json")],
+         [created(0), answer(204), shown(0, "web", ["echo", "hi"], "exited", started=NOW, finished=NOW)])
+scenario("looks_like_a_prefix", [create("web"), get("/containers/7/json"), create("76"), get("/containers/76/json")],
+         [created(0), shown(0, "web", ["hello"], "created"), created(1), shown(1, "76", ["hello"], "created")])
+
+# of seventeen ids two begin with one digit
+FIRSTS = [id_of(n)[0] for n in range(17)]
+TWICE = next(digit for digit in FIRSTS if FIRSTS.count(digit) > 1)
+scenario("prefix_of_two", [create()] * 17 + [get(f"/containers/{TWICE}/json")],
+         [created(n) for n in range(17)] + [message(400, f"multiple IDs found with provided prefix: {TWICE}")])
+
+refused("too_long", "POST /v1.43/containers/create HTTP/1.1\r\nHost: x\r\nContent-Length: 1048577\r\n\r\n", 413)
+refused("without_host", "GET /_ping HTTP/1.1\r\n\r\n", 400)
+refused("two_hosts", "GET /_ping HTTP/1.1\r\nHost: x\r\nHost: y\r\n\r\n", 400)
+refused("old_version", "GET /_ping HTTP/1.0\r\nHost: x\r\n\r\n", 505)
+refused("expecting", "POST /containers/create HTTP/1.1\r\nHost: x\r\nExpect: 100-continue\r\nContent-Length: x\r\n\r\n", 417)
+refused("length_of_letters", "POST /containers/create HTTP/1.1\r\nHost: x\r\nContent-Length: x\r\n\r\n", 400)
+refused("no_request", "\x00\r\n\r\n", 400)
+refused("too_many_fields", "GET /_ping HTTP/1.1\r\nHost: x\r\n" + "A: b\r\n" * 64 + "\r\n", 431)
+refused("endless_head", "GET /" + "a" * 16384, 431)
+scenario("cut_head", "GET /_ping HT", "", status=3)
+scenario("api_versions", [get("/v1.44/_ping"), get("/v1.23/_ping"), get("/v1.24/_ping")],
+         [message(400, "client version 1.44 is too new. Maximum supported API version is 1.43"),
+          message(400, "client version 1.23 is too old. Minimum supported API version is 1.24"),
+          answer(200, "OK", kind="text/plain; charset=utf-8")])
+scenario("ping", [get("/_ping"), get("/_ping", "HEAD"), get("/version"), get("/nothing"), get("/containers/a%zz/json")],
+         [answer(200, "OK", kind="text/plain; charset=utf-8"), answer(200, "OK", kind="text/plain; charset=utf-8", head=True),
+          answer(200, '{"ApiVersion":"1.43","Arch":"amd64","MinAPIVersion":"1.24","Os":"linux","Version":"1.0.0"}'),
+          message(404, "page not found"), message(400, "bad path")])
+scenario("closing", ["GET /_ping HTTP/1.1\r\nHost: x\r\nConnection: close\r\n\r\n", WEB],
+         answer(200, "OK", kind="text/plain; charset=utf-8", close=True))
+scenario("queries", [
+    post("/containers/web/rename?name=a"), post("/containers/web/kill?signal=NOPE"), post("/containers/web/stop?t=-2"),
+    get("/containers/json?limit=x"), get("/containers/web/logs?stdout=1&tail=x"), post("/containers/web/wait?condition=x"),
+    get("/containers/web/logs?stdout=1&since=x"), get("/containers/web/logs"), get("/containers/web?link=1", "DELETE"),
+    get("/containers/json?filters=x"), post("/containers/create?name=a", "[]"),
+    post("/containers/web/stop?signal=9&signal=NOPE"), get("/events?until=1.1234567890")],
+    [message(400, "Invalid container name (a)"), message(400, "Invalid signal: NOPE"), message(400, "bad t"),
+     message(400, "bad limit"), message(400, "bad tail"), message(400, "bad condition"), message(400, "bad time"),
+     message(400, "you must choose at least one stream"), message(400, "links are left out"),
+     message(400, "invalid filter"), message(400, "bad JSON"), message(501, "not built"), message(400, "bad time")])
+
+
+def main():
+    os.makedirs(f"{HERE}/data", exist_ok=True)
+    for old in os.listdir(f"{HERE}/data"):
+        os.remove(f"{HERE}/data/{old}")
+    lines, told = [], []
+    for name, text, comings, words, status, wanted in SCENARIOS:
+        with open(f"{HERE}/data/{name}", "w", newline="") as file:
+            file.write(text)
+        for coming in comings:
+            lines.append(f"{name} {coming} {words}\n")
+            how, _, number = coming.partition("=")
+            if how == "cuts":
+                told.append(f"== {name} cut after each byte\n{len(text) - 1} cuts: status 3, nothing written\n")
+            elif how == "pieces":
+                told.append(f"== {name} in pieces of {number}\nstatus {status}\n{wanted}\n")
+            else:
+                told.append(f"== {name} with {how} {number} failing\nstatus 4\n\n")
+    with open(f"{HERE}/stdin", "w", newline="") as file:
+        file.write("".join(lines))
+    with open(f"{HERE}/stdout", "w", newline="") as file:
+        file.write("".join(told))
+
+
+main()
