@@ -1,13 +1,11 @@
 -- The calls that are served (own: every other is answered 501 by its class).
-use Rattle.std.specs.Prelude.{Bool, true, false, Option, Some, None, IsTrue}
+use Rattle.std.specs.Prelude.{Bool, Option, Some, None, IsTrue}
 use Rattle.engine_text.specs.declared.call.Call.{Call}
-use Rattle.engine_text.specs.declared.call.Call.TheVariants as call
-use Rattle.container_machine.specs.Built.{is_built_create}
+use Rattle.container_machine.specs.Built.{is_built}
 
--- so far a create, without mounts and restart policy
+-- a create without mounts and restart policy, a start, and an inspect
 abbrev pub is_served : Call → Bool
-is_served (call.Create spec) = is_built_create spec
-is_served c = false
+is_served c = is_built c
 
 -- of no call, and of a call that is served
 abbrev pub AreBuilt : Option Call → Type 0
