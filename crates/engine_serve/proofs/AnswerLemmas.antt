@@ -38,7 +38,7 @@ use Rattle.engine_serve.specs.declared.terms.Terms.{Terms}
 use Rattle.engine_serve.specs.declared.went.Went.{Went}
 use Rattle.engine_serve.specs.Serving.{Sends, Tries, IsAnswer}
 use Rattle.engine_serve.specs.Answering.{terms_of, flow_by, sent_of_kind, sent_message, SendsDirect, SendsReply}
-use Rattle.engine_serve.proofs.BuiltLemmas.{built_at, built_answers, built_drop, built_comes}
+use Rattle.engine_serve.proofs.BuiltLemmas.{built_at, built_answers, built_drop, built_comes, built_ready, room_steps}
 
 -- ---- whole answers
 
@@ -103,6 +103,8 @@ unclassed k r result p u u' t sends =
 
 pub built_may : (ch : Charter) (k : ℕ) (h : List Step) (c : Call) → IsTrue (is_served c) → IsSound c → MayAsk ch k h (Some c)
 built_may ch k h (call.Create spec) built sound = (sound, tt)
+built_may ch k h (call.Start target) built sound = (sound, tt)
+built_may ch k h (call.Inspect target) built sound = (sound, tt)
 built_may ch k h c built sound = absurd (false≢true built)
 
 pub replied : (k handed : ℕ) (r : Request) (c : Call) (x : Reply) (result : Went) (p q : PassView) (u u' : SinkView)
@@ -146,14 +148,6 @@ never_begun k handed n c p q built turn =
 ready_due : (s : State) (u : ℕ) (due steps : Bool) → due ≡ true → steps ≡ true → (due && steps) ≡ false → ⊥
 ready_due s u due steps f g h = false≢true (sym h ∙ ap (λ x. x && steps) f ∙ g)
 
-room_steps : (ch : Charter) (s : State) (c : Call) → IsTrue (is_served c) → HasRoom ch s c → IsTrue (has_steps s)
-room_steps ch s (call.Create spec) built h = and_right _ (has_steps s) h
-  where
-    and_right : (x y : Bool) → IsTrue (x && y) → IsTrue y
-    and_right true y h = h
-    and_right false y h = absurd (false≢true h)
-room_steps ch s c built h = absurd (false≢true built)
-
 last_acts : (s : State) (u : ℕ) (ds : List Step) → DuesUntil s u ds → acts_by (state_from s ds) u ≡ false
 last_acts s u [] h = h
 last_acts s u (Step.Due ∷ ds) h = last_acts (after_step s Step.Due) u ds h.1
@@ -161,10 +155,8 @@ last_acts s u (Step.Call k t c ∷ ds) h = absurd h
 
 waits_not : (ch : Charter) (s : State) (u : ℕ) (c : Call) → IsTrue (is_served c) → HasRoom ch s c → acts_by s u ≡ false
     → IsNotReady s u c → ⊥
-waits_not ch s u (call.Create spec) built room acts (inl h) = false≢true (sym h)
-waits_not ch s u (call.Create spec) built room acts (inr h) =
-    ready_due s u (is_due s u) (has_steps s) h (room_steps ch s (call.Create spec) built room) acts
-waits_not ch s u c built room acts h = absurd (false≢true built)
+waits_not ch s u c built room acts (inl h) = false≢true (sym h ∙ built_ready c s built)
+waits_not ch s u c built room acts (inr h) = ready_due s u (is_due s u) (has_steps s) h (room_steps ch s c built room) acts
 
 -- and is always ready
 pub never_waits : (k handed : ℕ) (c : Call) (p q : PassView) → IsTrue (is_served c) → Turn k handed (Some c) T.NotYet p q → ⊥

@@ -1,5 +1,6 @@
 pub mod ServeLemmas
 pub mod BuiltLemmas
+pub mod DueLemmas
 pub mod DaemonLemmas
 pub mod AnswerLemmas
 pub mod SendLemmas

@@ -1,7 +1,6 @@
 // The one daemon value.
-ghost use Rattle.std.specs.Prelude.{◌≡◌, ◌≤◌, length};
+ghost use Rattle.std.specs.Prelude.{◌≡◌, ◌≤◌};
 ghost use Rattle.std.specs.Coded.{Coded-set};
-ghost use Rattle.machine_model.specs.Due.{due_actions};
 ghost use Rattle.machine_model.specs.History.{IsLegal, state_after, greatest_moment};
 ghost use Rattle.machine_model.proofs.Histories.{IsLegal-prop};
 ghost use Rattle.engine_serve.specs.Storing.{charter_of, turned_by};
@@ -24,8 +23,6 @@ pub struct Daemon {
     pub(super) greatest: u64,
     pub(super) ghost state: { stored ≡ record stored { machine = record stored.machine { state = state_after (charter_of seed opening greatest) stored.steps.items } } } by { Coded-set stored-code stored _ },
     pub(super) ghost legal: { IsLegal (charter_of seed opening greatest) stored.steps.items } by { IsLegal-prop (charter_of seed opening greatest) stored.steps.items },
-    pub(super) ghost in_time: { stored.machine.state.clock ≤ greatest_moment },
-    pub(super) ghost idle: { length (due_actions stored.machine.state) ≤ 0 },
 }
 
 /// The answer of a turn by the reply to its call.
@@ -39,11 +36,12 @@ fn turned(reply: Reply) -> Turned
 }
 
 impl Daemon {
-    ghost use Rattle.std.specs.Prelude.{ℕ, [], Some, IfOk};
+    ghost use Rattle.std.specs.Prelude.{ℕ, [], IfOk, IsTrue};
     ghost use Rattle.std.specs.Option.{option_map};
+    ghost use Rattle.machine_model.specs.Soundness.{IsSound};
     ghost use Rattle.session_model.specs.Turning.{MayAsk, Turn};
-    ghost use Rattle.engine_serve.specs.Built.{AreBuilt};
-    ghost use Rattle.engine_serve.specs.Storing.{charter_of, pass_of};
+    ghost use Rattle.engine_serve.specs.Built.{is_served, AreBuilt};
+    ghost use Rattle.engine_serve.specs.Storing.{charter_of, pass_of, IsClear, Ends};
     ghost use Rattle.engine_serve.specs.Passing.{charter, whole_pass};
 
     /// A daemon without history. The moment is at most the greatest one.
@@ -73,21 +71,27 @@ impl Daemon {
         requires built { AreBuilt (option_map (λ c. c.now) call) }
         ensures { Turn conn handed (option_map (λ c. c.now) call.entry) result (whole_pass self.old) (whole_pass self.new) }
     {
-        match call {
-            None => Turned::Nothing,
-            Some(call) => self.make(alloc, conn, handed, call),
+        let moment = moment_used(self.stored.machine.now(), handed);
+        match self.stored.run_due(alloc, moment) {
+            Ok(()) => match call {
+                None => Turned::Nothing,
+                Some(call) => self.make(alloc, conn, moment, call),
+            },
+            Err(NoMemory) => Turned::NoMemory,
         }
     }
 
-    fn make(&mut self, alloc: Global, conn: u32, handed: u64, call: &Call) -> Turned
-        requires may { MayAsk (charter self.old) conn self.old.stored.steps.items (Some call.now) }
-        requires built { AreBuilt (Some call.now) }
-        ensures { Turn conn handed (Some call.now) result (whole_pass self.old) (whole_pass self.new) }
+    // Makes the call behind all that is due by its moment.
+    fn make(&mut self, alloc: Global, conn: u32, moment: u64, call: &Call) -> Turned
+        requires sound { IsSound call.now }
+        requires built { IsTrue (is_served call.now) }
+        requires at { IsClear self.old.stored.machine.state moment }
+        ensures charter { charter self.new ≡ charter self.old }
+        ensures ends { Ends (charter self.old) self.old.stored.machine.state conn moment call.now result self.old.stored.steps.items self.new.stored.steps.items }
     {
         if !has_room(&self.stored.machine, self.greatest, call) {
             return Turned::JournalFull;
         }
-        let moment = moment_used(self.stored.machine.now(), handed);
         match self.stored.make(alloc, conn, moment, call) {
             Ok(reply) => turned(reply),
             Err(NoMemory) => Turned::NoMemory,
