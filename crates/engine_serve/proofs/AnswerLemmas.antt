@@ -111,7 +111,7 @@ pub replied : (k handed : ℕ) (r : Request) (c : Call) (x : Reply) (result : We
 replied k handed r c x result p q u u' t t' pair class built clock turn (status, body, is, sends) =
     let m = makes_call p.charter _ k handed c turn.turns.own x (built_drop c built) turn.says.1 in
     let none = dues_none k _ _ m.0 m.1 in
-    let made = turn_made k _ c x p q turn.turns m.0 pair none m.2.1 m.2.2 in
+    let made = turn_made k _ c x p q turn.turns m.0 pair none m.2.1 m.2.0 m.2.2 in
     tries_whole k r _ result _ p q u u' t t' refl sends
     (λ behind. ByItsCall c status body class (subst (IsMade p.charter k k c p.seen q.seen) is made) refl refl)
     (turn_opens true k handed c p q turn.turns m.0 t t' pair none m.2.1 (built_at c built k) (built_comes c (handed ∷ []) built) clock)

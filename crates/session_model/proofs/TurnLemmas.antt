@@ -88,17 +88,20 @@ others_none k p q turns pair = turns.strangers pair
 
 pub turn_made : (k t : ℕ) (c : Call) (r : Reply) (p q : PassView) (turns : Turns k p q) (dues : List Step)
     → IsTrue p.pair → HasNone k dues → turns.own ≡ dues ++ Step.Call k t c ∷ []
+    → HasRoom p.charter (state_from (found k p q turns) dues) c
     → r ≡ reply_of (state_from (found k p q turns) dues) k t c → IsMade p.charter k k c p.seen q.seen r
-turn_made k t c r p q turns dues pair none is reply =
-    let e : p.seen ++ turns.others ++ dues ≡ p.seen ++ (turns.others ++ dues) = append_assoc p.seen turns.others dues in (
+turn_made k t c r p q turns dues pair none is room reply =
+    let e : p.seen ++ turns.others ++ dues ≡ p.seen ++ (turns.others ++ dues) = append_assoc p.seen turns.others dues in
+    let at : state_from (found k p q turns) dues ≡ state_after p.charter (p.seen ++ (turns.others ++ dues)) =
+        sym (run_append (opening_state p.charter) (p.seen ++ turns.others) dues) ∙ ap (state_after p.charter) e in (
       turns.others ++ dues,
       [],
       t,
       none_append k turns.others dues (turns.strangers pair) none,
       refl,
       seen_made k t c p q turns dues is ∙ ap (λ x. x ++ Step.Call k t c ∷ []) e,
-      reply ∙ ap (λ s. reply_of s k t c) (sym (run_append (opening_state p.charter) (p.seen ++ turns.others) dues))
-          ∙ ap (λ x. reply_of (state_after p.charter x) k t c) e,
+      subst (λ s. HasRoom p.charter s c) at room,
+      reply ∙ ap (λ s. reply_of s k t c) at,
     )
 
 pub state_made : (ch : Charter) (h : List Step) (x : Step) → state_after ch (h ++ x ∷ []) ≡ after_step (state_after ch h) x

@@ -36,11 +36,13 @@ use Rattle.session_model.specs.Responses.{answer_bytes, direct_bytes, out_of_mem
 abbrev pub IsQuiet : ℕ → List Step → List Step → Type 0
 IsQuiet k a b = (others : List Step) × HasNone k others × (b ≡ a ++ others)
 
--- it makes this one call, by its own number or that of its input, and is answered so at its place
+-- it makes this one call, by its own number or that of its input: at its place there is room for the
+-- call, and it is answered so
 abbrev pub IsMade : Charter → ℕ → ℕ → Call → List Step → List Step → Reply → Type 0
 IsMade ch k number c a b reply =
     (before : List Step) × (behind : List Step) × (t : ℕ) × HasNone k before × HasNone k behind
     × (b ≡ a ++ before ++ Step.Call number t c ∷ behind)
+    × HasRoom ch (state_after ch (a ++ before)) c
     × (reply ≡ reply_of (state_after ch (a ++ before)) number t c)
 
 -- it makes a call that gives a ticket, and then the call that ends the ticket
