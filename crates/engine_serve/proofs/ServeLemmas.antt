@@ -28,7 +28,7 @@ use Rattle.session_model.proofs.OutsideLemmas.{source_none, source_on, sink_none
 use Rattle.session_model.proofs.HistoryLemmas.{extends_same, extends_on}
 use Rattle.session_model.proofs.MomentLemmas.{within_on}
 use Rattle.session_model.proofs.SessionLemmas.{reads_more, reads_on, answered_more}
-use Rattle.session_model.proofs.TurnLemmas.{stays_same, stays_on}
+use Rattle.session_model.proofs.TurnLemmas.{stays_same, stays_on, same_pass}
 use Rattle.engine_serve.specs.declared.went.Went.{Went}
 use Rattle.engine_serve.specs.declared.went.Went.TheVariants as W
 use Rattle.engine_serve.specs.Serving.{Tries}
@@ -138,8 +138,9 @@ ended_by k r e p q q2 s s1 s2 u u1 u2 t t1 t2 held ahead so next tries legal =
       clock = clock_on t t1 t2 so.handed tries.moves.handed so.clock tries.moves.clock;
       extends = extends_on p.seen q.seen q2.seen so.extends tries.moves.extends;
       legal = legal;
-      stays = stays_on p q q2 so.stays tries.moves.stays;
+      same = same_pass p q2 (stays_on p q q2 so.stays tries.moves.stays);
       pumps = false;
+      stays = λ _. stays_on p q q2 so.stays tries.moves.stays;
       within = λ h b. within_of k true p q q2 t1 t2 so.handed tries.moves.handed so.stays tries.moves.within h (so.within h);
       session = record {
         done = so.done;
@@ -181,8 +182,9 @@ ended_at k e p q s s1 u u1 u2 t t1 ahead last so took ends legal = record {
   clock = so.clock;
   extends = so.extends;
   legal = legal;
-  stays = so.stays;
+  same = same_pass p q so.stays;
   pumps = false;
+  stays = λ _. so.stays;
   within = λ h b. so.within h;
   session = record {
     done = so.done;

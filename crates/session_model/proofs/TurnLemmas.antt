@@ -11,7 +11,7 @@ use Rattle.engine_text.specs.declared.step.Step.{Step}
 use Rattle.machine_model.specs.State.{State}
 use Rattle.machine_model.specs.History.{Charter, state_after, state_from, after_step, opening_state, reply_of, moment_used, HasNone, Extends, DuesUntil, SomeDues, is_drop}
 use Rattle.machine_model.specs.Room.{HasRoom}
-use Rattle.session_model.specs.Pass.{PassView, Stays}
+use Rattle.session_model.specs.Pass.{PassView, SamePass, Stays}
 use Rattle.session_model.specs.Turning.{Turns, Makes, MakesAt, found, HasBegun}
 use Rattle.session_model.specs.Exchange.{IsQuiet, IsMade}
 use Rattle.session_model.specs.Moments.{TakesMoments, HasNoTimed, ComesTo, StaysWithin}
@@ -32,6 +32,9 @@ stays_on p q r f g = record {
   alone = g.alone ∙ f.alone;
   home = g.home ∙ f.home;
 }
+
+pub same_pass : (p q : PassView) → Stays p q → SamePass p q
+same_pass p q f = record { number = f.number; charter = f.charter; alone = f.alone; home = f.home }
 
 pub moves_same : (k : ℕ) (whole : Bool) (p : PassView) (v : ClockView) → Moves k whole p p v v
 moves_same k whole p v = record {

@@ -39,6 +39,13 @@ pub record Stays (p q : PassView) : Type 0 where
   pub alone : q.alone ≡ p.alone
   pub home : q.home ≡ p.home
 
+-- what no session changes: whose pass it is, and to which daemon
+pub record SamePass (p q : PassView) : Type 0 where
+  pub number : q.number ≡ p.number
+  pub charter : q.charter ≡ p.charter
+  pub alone : q.alone ≡ p.alone
+  pub home : q.home ≡ p.home
+
 -- the numbers that a connection may have
 abbrev pub IsConnection : ℕ → Type 0
 IsConnection k = k < 2147483646
