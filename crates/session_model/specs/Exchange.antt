@@ -1,5 +1,5 @@
 -- How one request is answered between two histories (own: the serving of this project).
-use Rattle.std.specs.Prelude.{ℕ, ◌≡◌, ◌<◌, Bool, true, false, if◌then◌else◌, List, [], ◌∷◌, ◌++◌, Option, Some, None, IsTrue, IsFalse}
+use Rattle.std.specs.Prelude.{ℕ, ◌≡◌, ◌<◌, ◌≤◌, Bool, true, false, if◌then◌else◌, List, [], ◌∷◌, ◌++◌, Option, Some, None, IsTrue, IsFalse}
 use Rattle.std.specs.List.{concat}
 use Rattle.engine_ports.specs.Sink.{IsFront}
 use Rattle.engine_text.specs.declared.owner.Owner.{Owner}
@@ -13,7 +13,7 @@ use Rattle.machine_model.specs.State.{State}
 use Rattle.machine_model.specs.Room.{HasRoom}
 use Rattle.machine_model.specs.Calls.Events.{first_kept}
 use Rattle.machine_model.specs.LogStream.{IsLogStream, removal_of, first_kept_removal}
-use Rattle.machine_model.specs.EventLines.{event_lines}
+use Rattle.machine_model.specs.EventLines.{event_lines, lines_between}
 use Rattle.machine_model.specs.JournalLines.{journal_lines}
 use Rattle.http_edge.specs.Message.{Request}
 use Rattle.http_edge.specs.Asks.{closes}
@@ -78,17 +78,20 @@ pub record IsForgotten (s : State) (owner : Owner) (removal first : ℕ) : Type 
   pub first_is : first ≡ first_kept_removal s
   pub before : removal < first
 
--- what a follower needs is kept no more: an event, or a log; a journal is kept whole
-abbrev pub HasLapsed : Charter → Reply → ℕ → ℕ → List Step → List Step → Type 0
-HasLapsed ch (LogStream spec) next first a b = AtSome a b (λ at. IsForgotten (state_after ch at) spec.owner next first)
-HasLapsed ch (EventStream from until filter) next first a b =
-    (next < first) × AtSome a b (λ at. first ≡ first_kept (state_after ch at))
-HasLapsed ch reply next first a b = ⊥
+-- what a follower needs is kept no more: an event, its next behind all that its body tells; or a
+-- log. A journal is kept whole
+abbrev pub HasLapsed : Charter → Reply → ℕ → ℕ → List ℕ → List Step → List Step → Type 0
+HasLapsed ch (LogStream spec) next first body a b =
+    AtSome a b (λ at. IsForgotten (state_after ch at) spec.owner next first)
+HasLapsed ch (EventStream from until filter) next first body a b =
+    (from ≤ next) × (body ≡ lines_between ch b filter until from next)
+    × (next < first) × AtSome a b (λ at. first ≡ first_kept (state_after ch at))
+HasLapsed ch reply next first body a b = ⊥
 
 -- it ended so; who fell behind lacks what isn't kept
-abbrev pub EndsSo : Charter → Reply → Followed → List Step → List Step → Type 0
-EndsSo ch reply (F.Lagged next first) a b = HasLapsed ch reply next first a b
-EndsSo ch reply followed a b = Unit {0}
+abbrev pub EndsSo : Charter → Reply → Followed → List ℕ → List Step → List Step → Type 0
+EndsSo ch reply (F.Lagged next first) body a b = HasLapsed ch reply next first body a b
+EndsSo ch reply followed body a b = Unit {0}
 
 -- ---- standard input
 
@@ -175,13 +178,13 @@ pub data Answers (ch : Charter) (k : ℕ) (r : Request) (behind : List ℕ) (a b
   BrokenStream : (c : Call) (reply : Reply) (mid : List Step) (body chunks : List ℕ) (f : Followed)
       → class_of r ≡ Stream c Takeover.None → IsMade ch k k c a mid reply → IsQuiet k mid b
       → IsBody ch reply false mid b body → IsChunked body chunks
-      → IsFalse (is_whole f) → EndsSo ch reply f mid b
+      → IsFalse (is_whole f) → EndsSo ch reply f body mid b
       → flow ≡ BreaksOff f → w ≡ head_of_stream r Takeover.None reply ++ chunks
       → Answers ch k r behind a b flow w
   TakenOver : (c : Call) (t : Takeover) (spec : LogSpec) (mid : List Step) (body : List ℕ)
       (f : Followed) (pumped : Option PumpEnd) → class_of r ≡ Stream c t → IsTrue (is_takeover t)
       → IsMade ch k k c a mid (LogStream spec) → Pumps ch k spec behind pumped mid b
-      → IsBody ch (LogStream spec) (is_whole f) mid b body → EndsSo ch (LogStream spec) f mid b
+      → IsBody ch (LogStream spec) (is_whole f) mid b body → EndsSo ch (LogStream spec) f body mid b
       → flow ≡ TakesOver f pumped → w ≡ takeover_head t ++ body → Answers ch k r behind a b flow w
   HeadIsLost : (c : Call) (t : Takeover) (reply : Reply) → class_of r ≡ Stream c t
       → IsMade ch k k c a b reply → IsTrue (is_stream reply)
