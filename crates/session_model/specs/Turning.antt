@@ -1,5 +1,5 @@
 -- What a turn does, whoever else may take turns. own: turns of this project.
-use Rattle.std.specs.Prelude.{ℕ, ◌≡◌, ◌≤◌, ◌⊎◌, Bool, true, false, List, [], ◌∷◌, ◌++◌, Option, Some, None, IsTrue, IsFalse}
+use Rattle.std.specs.Prelude.{ℕ, ◌≡◌, ◌≤◌, ◌⊎◌, ◌==◌, ◌&&◌, Bool, true, false, List, [], ◌∷◌, ◌++◌, Option, Some, None, IsTrue, IsFalse}
 use Rattle.std.specs.List.{filter}
 use Rattle.engine_text.specs.declared.call.Call.{Call}
 use Rattle.engine_text.specs.declared.call.Call.TheVariants as call
@@ -17,10 +17,21 @@ use Rattle.session_model.specs.Pass.{PassView, Stays}
 
 -- ---- which calls may be handed to a turn
 
--- connection k began the ticket, and has made no call since
+-- whether it ends that ticket
+abbrev pub is_end_of : ℕ → Call → Bool
+is_end_of n (call.Take m) = m == n
+is_end_of n (call.Drop m) = m == n
+is_end_of n c = false
+
+-- whether the step ends connection k's ticket
+abbrev pub ends_ticket : ℕ → ℕ → Step → Bool
+ends_ticket k n Step.Due = false
+ends_ticket k n (Step.Call j t c) = (j == k) && is_end_of n c
+
+-- connection k began the ticket, and hasn't ended it since
 abbrev pub HasBegun : Charter → ℕ → ℕ → List Step → Type 0
 HasBegun ch k n h =
-    (before : List Step) × (behind : List Step) × (t : ℕ) × (c : Call) × HasNone k behind
+    (before : List Step) × (behind : List Step) × (t : ℕ) × (c : Call) × (filter (ends_ticket k n) behind ≡ [])
     × (h ≡ before ++ Step.Call k t c ∷ behind) × (reply_of (state_after ch before) k t c ≡ reply.Begun n)
 
 -- a take or a drop is of a ticket that the connection has begun
