@@ -2,7 +2,7 @@
 use Rattle.std.proofs.Common.{◌≡◌, ◌≤◌, ◌⊎◌, ℕ, List, [], ◌∷◌, ◌++◌, refl, sym, ◌∙◌, ap, subst, append_assoc, append-nil, inl, inr, Bool, true, false, Option, Some, None, Result, Ok, Err, arith}
 use Rattle.std.specs.Prelude.{IsTrue, IsFalse}
 use Rattle.engine_ports.specs.Rose.{Rose}
-use Rattle.engine_ports.specs.Source.{SourceView, SourceGave}
+use Rattle.engine_ports.specs.Source.{SourceView, SourceGave, SourceEnded}
 use Rattle.engine_ports.specs.Sink.{SinkView, SinkTook, IsFront, WriteSays}
 use Rattle.engine_ports.specs.Clock.{ClockView, ClockHanded}
 use Rattle.engine_ports.specs.Door.{Outside, outside}
@@ -24,7 +24,7 @@ use Rattle.session_model.specs.Exchange.{Flow, GoesOn, Closes, Stops, BreaksOff,
 use Rattle.session_model.specs.Moments.{StaysWithin, is_whole_flow}
 use Rattle.session_model.specs.Session.{Exchange, AreAnswered, IsWritten, Cause, FollowCause, PumpCause, EndsAt, IsSession}
 use Rattle.session_model.specs.Guarantee.{Serves}
-use Rattle.session_model.proofs.OutsideLemmas.{source_none, source_on, sink_none, sink_on, clock_none, clock_on, rose_since}
+use Rattle.session_model.proofs.OutsideLemmas.{source_none, source_on, sink_none, sink_on, clock_none, clock_on, rose_since, ended_since}
 use Rattle.session_model.proofs.HistoryLemmas.{extends_same, extends_on}
 use Rattle.session_model.proofs.MomentLemmas.{within_on}
 use Rattle.session_model.proofs.SessionLemmas.{reads_more, reads_on, answered_more}
@@ -202,13 +202,13 @@ ended_at k e p q s s1 u u1 u2 t t1 ahead last so took ends legal = record {
   };
 }
 
-pub ended_closed : (k : ℕ) (p q : PassView) (s s1 s2 : SourceView) (u u1 : SinkView) (t t1 : ClockView) (held : List ℕ) → SoFar k p q s s1 u u1 t t1 held → Reached held s1 s2 (λ all. all ≡ []) → Rose s1.ends s2.ends → IsLegal q.charter q.seen → Serves k E.Closed p q (outside s u t) (outside s2 u1 t1)
-ended_closed k p q s s1 s2 u u1 t t1 held so next rose legal =
-    ended_at k E.Closed p q s s2 u u1 u1 t t1 [] [] (read_on k p q s s1 s2 u u1 t t1 held next.read [] so next.gave next.holds) (sink_none u1) (refl, refl, rose_since s.ends s1.ends s2.ends so.source.ends rose) legal
+pub ended_closed : (k : ℕ) (p q : PassView) (s s1 s2 : SourceView) (u u1 : SinkView) (t t1 : ClockView) (held : List ℕ) → SoFar k p q s s1 u u1 t t1 held → Reached held s1 s2 (λ all. all ≡ []) → SourceEnded s1 s2 → IsLegal q.charter q.seen → Serves k E.Closed p q (outside s u t) (outside s2 u1 t1)
+ended_closed k p q s s1 s2 u u1 t t1 held so next ended legal =
+    ended_at k E.Closed p q s s2 u u1 u1 t t1 [] [] (read_on k p q s s1 s2 u u1 t t1 held next.read [] so next.gave next.holds) (sink_none u1) (refl, refl, ended_since s s1 s2 so.source.ends ended) legal
 
-pub ended_cut : (k : ℕ) (p q : PassView) (s s1 s2 : SourceView) (u u1 : SinkView) (t t1 : ClockView) (held : List ℕ) → SoFar k p q s s1 u u1 t t1 held → Reached held s1 s2 IsUnfinished → Rose s1.ends s2.ends → IsLegal q.charter q.seen → Serves k E.CutShort p q (outside s u t) (outside s2 u1 t1)
-ended_cut k p q s s1 s2 u u1 t t1 held so next rose legal =
-    ended_at k E.CutShort p q s s2 u u1 u1 t t1 (held ++ next.read) [] (read_on k p q s s1 s2 u u1 t t1 held next.read (held ++ next.read) so next.gave refl) (sink_none u1) (next.holds, refl, rose_since s.ends s1.ends s2.ends so.source.ends rose) legal
+pub ended_cut : (k : ℕ) (p q : PassView) (s s1 s2 : SourceView) (u u1 : SinkView) (t t1 : ClockView) (held : List ℕ) → SoFar k p q s s1 u u1 t t1 held → Reached held s1 s2 IsUnfinished → SourceEnded s1 s2 → IsLegal q.charter q.seen → Serves k E.CutShort p q (outside s u t) (outside s2 u1 t1)
+ended_cut k p q s s1 s2 u u1 t t1 held so next ended legal =
+    ended_at k E.CutShort p q s s2 u u1 u1 t t1 (held ++ next.read) [] (read_on k p q s s1 s2 u u1 t t1 held next.read (held ++ next.read) so next.gave refl) (sink_none u1) (next.holds, refl, ended_since s s1 s2 so.source.ends ended) legal
 
 pub ended_fault : (k : ℕ) (p q : PassView) (s s1 s2 : SourceView) (u u1 : SinkView) (t t1 : ClockView) (held : List ℕ) → SoFar k p q s s1 u u1 t t1 held → Reached held s1 s2 HasNoRequest → Rose s1.faults s2.faults → IsLegal q.charter q.seen → Serves k E.ReadFault p q (outside s u t) (outside s2 u1 t1)
 ended_fault k p q s s1 s2 u u1 t t1 held so next rose legal =

@@ -3,6 +3,7 @@
 use Rattle.std.specs.Prelude.{ℕ, ◌≡◌, ◌⊎◌, Bool, true, false, List, [], ◌∷◌, ◌++◌, Option, Some, None, IsFalse}
 use Rattle.engine_text.specs.declared.step.Step.{Step}
 use Rattle.engine_ports.specs.Rose.{Rose}
+use Rattle.engine_ports.specs.Source.{SourceEnded}
 use Rattle.engine_ports.specs.Sink.{SinkView, IsFront}
 use Rattle.engine_ports.specs.Door.{Outside}
 use Rattle.http_edge.specs.Message.{Request}
@@ -69,7 +70,7 @@ FollowCause F.WriteFault o o' = Rose o.sink.faults o'.sink.faults
 FollowCause followed o o' = Unit {0}
 
 abbrev pub PumpCause : Option PumpEnd → Outside → Outside → Type 0
-PumpCause (Some P.Ended) o o' = Rose o.source.ends o'.source.ends
+PumpCause (Some P.Ended) o o' = SourceEnded o.source o'.source
 PumpCause (Some P.Stopped) o o' = Rose o.clock.stops o'.clock.stops
 PumpCause (Some P.ReadFault) o o' = Rose o.source.faults o'.source.faults
 PumpCause pumped o o' = Unit {0}
@@ -105,8 +106,8 @@ pub record EndsBy (ch : Charter) (k : ℕ) (r : Request) (behind : List ℕ) (e 
 -- where no request is answered any more: of all that was read, the tail is behind the answered ones,
 -- and begins with no request
 abbrev pub EndsAt : Ending → List ℕ → List ℕ → List ℕ → Outside → Outside → Type 0
-EndsAt Closed read tail w o o' = (tail ≡ []) × (w ≡ []) × Rose o.source.ends o'.source.ends
-EndsAt CutShort read tail w o o' = IsUnfinished tail × (w ≡ []) × Rose o.source.ends o'.source.ends
+EndsAt Closed read tail w o o' = (tail ≡ []) × (w ≡ []) × SourceEnded o.source o'.source
+EndsAt CutShort read tail w o o' = IsUnfinished tail × (w ≡ []) × SourceEnded o.source o'.source
 EndsAt (Refused s) read tail w o o' = IsRefused tail s × (w ≡ refusal_bytes s)
 EndsAt ReadFault read tail w o o' = HasNoRequest tail × (w ≡ []) × Rose o.source.faults o'.source.faults
 EndsAt WriteFault read tail w o o' =
@@ -139,7 +140,7 @@ pub record IsSession (ch : Charter) (k : ℕ) (read : List ℕ) (a b : List Step
 
 -- what rose outside, by the ending
 abbrev pub EndingCause : Option Ending → Outside → Outside → Type 0
-EndingCause (Some CutShort) o o' = Rose o.source.ends o'.source.ends
+EndingCause (Some CutShort) o o' = SourceEnded o.source o'.source
 EndingCause (Some Stopped) o o' = Rose o.clock.stops o'.clock.stops
 EndingCause (Some ReadFault) o o' = Rose o.source.faults o'.source.faults
 EndingCause (Some WriteFault) o o' = Rose o.sink.faults o'.sink.faults
