@@ -13,7 +13,7 @@ use Rattle.engine_text.specs.declared.step.Step.{Step}
 use Rattle.machine_model.specs.State.{State}
 use Rattle.machine_model.specs.Due.{due_actions, least_due}
 use Rattle.machine_model.specs.Room.{HasRoom, has_room}
-use Rattle.machine_model.specs.History.{Charter, IsLegal, IsLawful, state_after, after_step, moment_used, greatest_moment, has_steps, own_calls, reply_of}
+use Rattle.machine_model.specs.History.{Charter, IsLegal, IsLawful, state_after, after_step, moment_used, greatest_moment, has_steps, calls_of, reply_of}
 use Rattle.machine_model.specs.Soundness.{IsSound}
 use Rattle.machine_model.proofs.Histories.{legal_append}
 use Rattle.session_model.specs.declared.turned.Turned.{Turned}
@@ -51,7 +51,7 @@ and-true-right : (x y : Bool) → IsTrue (x && y) → IsTrue y
 and-true-right true y h = h
 and-true-right false y h = absurd (false≢true h)
 
-own_call : (k t : ℕ) (c : Call) → own_calls k (Step.Call k t c ∷ []) ≡ Step.Call k t c ∷ []
+own_call : (k t : ℕ) (c : Call) → calls_of k (Step.Call k t c ∷ []) ≡ Step.Call k t c ∷ []
 own_call k t c = let e : (k == k) ≡ true = grind arith in rw e refl
 
 -- a turn that adds nothing
@@ -68,6 +68,7 @@ rests ch h k handed c result legal says = record {
     legal = legal;
     own_calls = sym (append-nil (filter is_call h));
     looks = omega arith;
+    anew = λ shared. absurd (false≢true (sym shared));
     found_busy = omega arith;
     stays = record { joined_calls = refl; number = refl; pair = refl; charter = refl; alone = refl; home = refl };
   };
@@ -92,6 +93,7 @@ adds ch h h' k t handed c result legal at says =
         legal = legal;
         own_calls = ap (filter is_call) at ∙ filter-append is_call h own ∙ ap (λ x. filter is_call h ++ x) (sym (own_call k t c));
         looks = omega arith;
+        anew = λ shared. absurd (false≢true (sym shared));
         found_busy = omega arith;
         stays = record { joined_calls = refl; number = refl; pair = refl; charter = refl; alone = refl; home = refl };
       };
