@@ -5,3 +5,4 @@ pub mod AnswerLemmas
 pub mod SendLemmas
 pub mod ClassLemmas
 pub mod NextLemmas
+pub mod StandardFacts
