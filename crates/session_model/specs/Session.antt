@@ -3,8 +3,9 @@
 use Rattle.std.specs.Prelude.{ℕ, ◌≡◌, ◌⊎◌, Bool, true, false, List, [], ◌∷◌, ◌++◌, Option, Some, None, IsFalse}
 use Rattle.engine_text.specs.declared.step.Step.{Step}
 use Rattle.engine_ports.specs.Rose.{Rose}
-use Rattle.engine_ports.specs.Source.{SourceEnded}
-use Rattle.engine_ports.specs.Sink.{SinkView, IsFront}
+use Rattle.engine_ports.specs.Source.{SourceGave, SourceEnded}
+use Rattle.engine_ports.specs.Sink.{SinkView, SinkTook, IsFront}
+use Rattle.engine_ports.specs.Clock.{ClockHanded}
 use Rattle.engine_ports.specs.Door.{Outside}
 use Rattle.http_edge.specs.Message.{Request}
 use Rattle.http_edge.specs.Spelling.{Begins, ReadsRequests, HasNoRequest}
@@ -121,7 +122,16 @@ Ends ch k e read tail a b w ms pumps o o' =
     ⊎ ((r : Request) × (behind : List ℕ) × Begins tail r behind
     × EndsBy ch k r behind e a b w ms pumps o o')
 
--- some first requests are answered, and then the session ends
+-- what was told when all but the last was answered: these bytes were written and these moments handed
+-- by then, and some of all that was read
+pub record IsBetween (read bytes early : List ℕ) (o between : Outside) : Type 0 where
+  pub front : List ℕ
+  pub of_read : IsFront front read
+  pub source : SourceGave o.source front between.source
+  pub sink : SinkTook o.sink bytes between.sink
+  pub clock : ClockHanded o.clock early between.clock
+
+-- some first requests are answered, and then the session ends, by what rises outside since then
 pub record IsSession (ch : Charter) (k : ℕ) (read : List ℕ) (a b : List Step) (e : Ending) (w ms : List ℕ) (pumps : Bool) (o o' : Outside) : Type 0 where
   pub done : List Request
   pub tail : List ℕ
@@ -132,7 +142,9 @@ pub record IsSession (ch : Charter) (k : ℕ) (read : List ℕ) (a b : List Step
   pub late : List ℕ
   pub requests : ReadsRequests read done tail
   pub answered : AreAnswered ch k done a mid bytes early
-  pub ends : Ends ch k e read tail mid b last late pumps o o'
+  pub between : Outside
+  pub before : IsBetween read bytes early o between
+  pub ends : Ends ch k e read tail mid b last late pumps between o'
   pub wrote : w ≡ bytes ++ last
   pub handed : ms ≡ early ++ late
 
