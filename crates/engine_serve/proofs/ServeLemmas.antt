@@ -67,7 +67,7 @@ read_on k p q s s1 s2 u u1 t t1 held more ahead so gave is = record {
 -- a request is answered, under the first charter
 exchange_of : (k : ℕ) (r : Request) (result : _) (behind : List ℕ) (p q q2 : PassView) (u u' : SinkView) (t t' : ClockView) → Stays p q → (tries : Tries k r result q q2 u u' t t') → Exchange p.charter k r behind tries.flow q.seen q2.seen tries.whole tries.moves.handed
 exchange_of k r result behind p q q2 u u' t t' stays tries = subst (λ ch. Exchange ch k r behind tries.flow q.seen q2.seen tries.whole tries.moves.handed) stays.charter
-    (record { answer = tries.answer behind; moments = tries.moves.moments })
+    (record { answer = tries.answer behind; moments = tries.moves.moments; unasked = tries.unasked })
 
 within_of : (k : ℕ) (whole : Bool) (p q q2 : PassView) (t t' : ClockView) (ms ns : List ℕ) → Stays p q → (IsTrue q.alone → StaysWithin q.charter q.seen q2.seen ns) → IsTrue p.alone → StaysWithin p.charter p.seen q.seen ms → StaysWithin p.charter p.seen q2.seen (ms ++ ns)
 within_of k whole p q q2 t t' ms ns stays within h f = within_on p.charter p.seen q.seen q2.seen ms ns f (subst (λ ch. StaysWithin ch q.seen q2.seen ns) stays.charter (within (stays.alone ∙ h)))
