@@ -33,7 +33,7 @@ pub never_five : (opening status : ℕ) (s s' : SourceView) (u u' : SinkView)
 never_five opening status s s' u u' ran is =
     let v = ran.serves in
     let cause : EndingCause (Some ran.ending) (outside s u unstopped) (outside s' u' unstopped) =
-        causes (charter_of default_seed opening default_entries) 0 v.read [] ran.pass.seen ran.ending v.written v.handed
-        v.pumps (outside s u unstopped) (outside s' u' unstopped) v.session in
+    causes (charter_of default_seed opening default_entries) 0 v.read [] ran.pass.seen ran.ending v.written v.handed
+    v.pumps (outside s u unstopped) (outside s' u' unstopped) v.session in
     never_rose (subst (λ e. EndingCause (Some e) (outside s u unstopped) (outside s' u' unstopped))
     (five ran.ending (sym ran.status_is ∙ is)) cause)
