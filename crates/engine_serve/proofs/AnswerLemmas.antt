@@ -1,5 +1,5 @@
 -- What answers a request: its bytes alone, a call, or that there is no memory or no room for it.
-use Rattle.std.proofs.Common.{◌≡◌, ◌⊎◌, inl, inr, ℕ, List, [], ◌∷◌, ◌++◌, refl, sym, ◌∙◌, ap, subst, Bool, true, false, ◌&&◌, if◌then◌else◌, Option, Some, None, codes}
+use Rattle.std.proofs.Common.{◌≡◌, ◌⊎◌, inl, inr, ℕ, List, [], ◌∷◌, ◌++◌, refl, sym, ◌∙◌, ap, subst, append-nil, arith, Bool, true, false, ◌&&◌, if◌then◌else◌, Option, Some, None, codes}
 use Rattle.std.specs.Prelude.{IsTrue, IsFalse}
 use Rattle.std.proofs.lemmas.Bool.{false≢true}
 use Rattle.engine_ports.specs.Source.{SourceView}
@@ -30,9 +30,10 @@ use Rattle.session_model.specs.Exchange.{Flow, GoesOn, Closes, flow_of, call_of,
 use Rattle.session_model.specs.Moments.{is_whole_flow}
 use Rattle.session_model.specs.Session.{Cause, is_pumped}
 use Rattle.session_model.specs.Progress.{Moves}
-use Rattle.session_model.proofs.HistoryLemmas.{quiet_same, dues_none, some_none}
+use Rattle.session_model.proofs.OutsideLemmas.{clock_none}
+use Rattle.session_model.proofs.HistoryLemmas.{extends_same, quiet_same, dues_none, some_none}
 use Rattle.session_model.proofs.DueLemmas.{dues_clock, some_clock}
-use Rattle.session_model.proofs.TurnLemmas.{moves_same, makes_call, turn_made, turn_opens, turn_quiet, turn_rests, state_seen}
+use Rattle.session_model.proofs.TurnLemmas.{stays_same, makes_call, turn_made, turn_opens, turn_quiet, turn_rests, state_seen}
 use Rattle.engine_serve.specs.Built.{is_served}
 use Rattle.engine_serve.specs.declared.terms.Terms.{Terms}
 use Rattle.engine_serve.specs.declared.went.Went.{Went}
@@ -54,21 +55,51 @@ if_pumped : (b : Bool) → IsFalse (is_pumped (if b then Closes else GoesOn))
 if_pumped true = refl
 if_pumped false = refl
 
+-- where the request asks for no call, the clock isn't asked
+abbrev MovesBy : ℕ → Request → Bool → PassView → PassView → ClockView → ClockView → Type 0
+MovesBy k r whole p q t t' = (m : Moves k whole p q t t') × (call_of (class_of r) ≡ None → m.handed ≡ [])
+
+abbrev IsNone : Option Call → Type 0
+IsNone None = Unit {0}
+IsNone (Some c) = ⊥
+
+-- it asks for one
+asks : (k : ℕ) (r : Request) (c : Call) (whole : Bool) (p q : PassView) (t t' : ClockView) → call_of (class_of r) ≡ Some c
+    → Moves k whole p q t t' → MovesBy k r whole p q t t'
+asks k r c whole p q t t' class moves = (moves, λ none. absurd (subst IsNone (sym none ∙ class) tt))
+
+-- it is answered at once
+rests : (k : ℕ) (r : Request) (whole : Bool) (p : PassView) (t : ClockView) → MovesBy k r whole p p t t
+rests k r whole p t = (
+  record {
+    extends = extends_same p.seen;
+    stays = stays_same p;
+    handed = [];
+    clock = clock_none t;
+    moments = ([], refl, sym (append-nil p.seen));
+    within = λ h. omega arith;
+  },
+  λ none. refl,
+)
+
 tries_whole : (k : ℕ) (r : Request) (b : Bool) (result : Went) (whole : List ℕ) (p q : PassView) (u u' : SinkView)
     (t t' : ClockView) → flow_of r ≡ (if b then Closes else GoesOn) → Sends (flow_of r) result whole u u'
     → ((behind : List ℕ) → Answers p.charter k r behind p.seen q.seen (flow_of r) whole)
-    → Moves k true p q t t' → Tries k r result p q u u' t t'
-tries_whole k r b result whole p q u u' t t' e (part, sink, goes) answer moves = record {
-  flow = flow_of r;
-  whole = whole;
-  part = part;
-  answer = answer;
-  goes = goes;
-  sink = sink;
-  cause = λ s s'. subst (λ f. Cause f (outside s u t) (outside s' u' t')) (sym e) (if_cause b (outside s u t) (outside s' u' t'));
-  moves = subst (λ x. Moves k x p q t t') (sym (ap is_whole_flow e ∙ if_whole b)) moves;
-  pumped = ap is_pumped e ∙ if_pumped b;
-}
+    → MovesBy k r true p q t t' → Tries k r result p q u u' t t'
+tries_whole k r b result whole p q u u' t t' e (part, sink, goes) answer moves =
+    let on : MovesBy k r (is_whole_flow (flow_of r)) p q t t' =
+    subst (λ x. MovesBy k r x p q t t') (sym (ap is_whole_flow e ∙ if_whole b)) moves in record {
+      flow = flow_of r;
+      whole = whole;
+      part = part;
+      answer = answer;
+      goes = goes;
+      sink = sink;
+      cause = λ s s'. subst (λ f. Cause f (outside s u t) (outside s' u' t')) (sym e) (if_cause b (outside s u t) (outside s' u' t'));
+      moves = on.0;
+      unasked = on.1;
+      pumped = ap is_pumped e ∙ if_pumped b;
+    }
 
 -- ---- by its bytes alone
 
@@ -85,11 +116,11 @@ pub direct : (k : ℕ) (r : Request) (answer : DirectAnswer) (result : Went) (p 
 direct k r answer result p u u' t class (whole, inl is, sends) =
     tries_whole k r _ result whole p p u u' t t refl sends
     (λ behind. FromItsBytes answer class (quiet_same k p.seen) refl (is ∙ sent_kind answer.kind r answer.status answer.text))
-    (moves_same k true p t)
+    (rests k r true p t)
 direct k r answer result p u u' t class (whole, inr is, sends) =
     tries_whole k r _ result whole p p u u' t t refl sends
     (λ behind. OutOfMemory (quiet_same k p.seen) refl is)
-    (moves_same k true p t)
+    (rests k r true p t)
 
 -- memory was refused before its class was known
 pub unclassed : (k : ℕ) (r : Request) (result : Went) (p : PassView) (u u' : SinkView) (t : ClockView)
@@ -97,7 +128,7 @@ pub unclassed : (k : ℕ) (r : Request) (result : Went) (p : PassView) (u u' : S
 unclassed k r result p u u' t sends =
     tries_whole k r _ result _ p p u u' t t refl sends
     (λ behind. OutOfMemory (quiet_same k p.seen) refl refl)
-    (moves_same k true p t)
+    (rests k r true p t)
 
 -- ---- by its call
 
@@ -113,10 +144,11 @@ pub replied : (k handed : ℕ) (r : Request) (c : Call) (x : Reply) (result : We
 replied k handed r c x result p q u u' t t' pair class built clock turn (status, body, is, sends) =
     let m = makes_call p.charter _ k handed c turn.turns.own x (built_drop c built) turn.says.1 in
     let none = dues_none k _ _ m.0 m.1 in
-    let made = turn_made k _ c x p q turn.turns m.0 pair none m.2.1 m.2.2 in
+    let made = turn_made k _ c x p q turn.turns m.0 pair none m.2.1 m.2.0 m.2.2 in
     tries_whole k r _ result _ p q u u' t t' refl sends
     (λ behind. ByItsCall c status body class (subst (IsMade p.charter k k c p.seen q.seen) is made) refl refl)
-    (turn_opens true k handed c p q turn.turns m.0 t t' pair none m.2.1 (built_at c built k) (built_comes c (handed ∷ []) built) clock)
+    (asks k r c true p q t t' class
+    (turn_opens true k handed c p q turn.turns m.0 t t' pair none m.2.1 (built_at c built k) (built_comes c (handed ∷ []) built) clock))
 
 pub full : (k handed : ℕ) (r : Request) (c : Call) (result : Went) (p q : PassView) (u u' : SinkView) (t t' : ClockView)
     → IsTrue p.pair → call_of (class_of r) ≡ Some c → ClockHanded t (handed ∷ []) t' → Turn k handed (Some c) T.JournalFull p q
@@ -126,16 +158,16 @@ full k handed r c result p q u u' t t' pair class clock turn sends =
     tries_whole k r _ result _ p q u u' t t' refl sends
     (λ behind. JournalIsFull c class (turn_quiet k p q turn.turns pair none)
     (λ room. turn.says.1.1 (subst (λ s. HasRoom p.charter s c) (sym (state_seen k p q turn.turns)) room)) refl refl)
-    (turn_rests k handed p q turn.turns t t' pair none (dues_clock _ _ turn.turns.own turn.says.1.0) clock)
+    (asks k r c true p q t t' class (turn_rests k handed p q turn.turns t t' pair none (dues_clock _ _ turn.turns.own turn.says.1.0) clock))
 
 pub no_memory : (k handed : ℕ) (r : Request) (c : Call) (result : Went) (p q : PassView) (u u' : SinkView) (t t' : ClockView)
-    → IsTrue p.pair → ClockHanded t (handed ∷ []) t' → Turn k handed (Some c) T.NoMemory p q
+    → IsTrue p.pair → call_of (class_of r) ≡ Some c → ClockHanded t (handed ∷ []) t' → Turn k handed (Some c) T.NoMemory p q
     → Sends (flow_of r) result (sent_message (terms_of r) 500 (codes "out of memory")) u u' → Tries k r result p q u u' t t'
-no_memory k handed r c result p q u u' t t' pair clock turn sends =
+no_memory k handed r c result p q u u' t t' pair class clock turn sends =
     let none = some_none k _ _ turn.turns.own turn.says.1 in
     tries_whole k r _ result _ p q u u' t t' refl sends
     (λ behind. OutOfMemory (turn_quiet k p q turn.turns pair none) refl refl)
-    (turn_rests k handed p q turn.turns t t' pair none (some_clock _ _ turn.turns.own turn.says.1) clock)
+    (asks k r c true p q t t' class (turn_rests k handed p q turn.turns t t' pair none (some_clock _ _ turn.turns.own turn.says.1) clock))
 
 -- ---- what can't be
 
@@ -188,11 +220,11 @@ asked_full k handed r terms c result p q u u' t t' is pair class clock turn send
     (subst (λ y. Sends (flow_by y) result (sent_message y 503 (codes "journal is full")) u u') is sends)
 
 pub asked_short : (k handed : ℕ) (r : Request) (terms : Terms) (c : Call) (result : Went) (p q : PassView)
-    (u u' : SinkView) (t t' : ClockView) → terms ≡ terms_of r → IsTrue p.pair
+    (u u' : SinkView) (t t' : ClockView) → terms ≡ terms_of r → IsTrue p.pair → call_of (class_of r) ≡ Some c
     → ClockHanded t (handed ∷ []) t' → Turn k handed (Some c) T.NoMemory p q
     → Sends (flow_by terms) result (sent_message terms 500 (codes "out of memory")) u u' → Tries k r result p q u u' t t'
-asked_short k handed r terms c result p q u u' t t' is pair clock turn sends =
-    no_memory k handed r c result p q u u' t t' pair clock turn
+asked_short k handed r terms c result p q u u' t t' is pair class clock turn sends =
+    no_memory k handed r c result p q u u' t t' pair class clock turn
     (subst (λ y. Sends (flow_by y) result (sent_message y 500 (codes "out of memory")) u u') is sends)
 
 pub never_other : (k handed : ℕ) (c : Call) (x : Turned) (p q : PassView) → IsTrue (is_served c)

@@ -13,7 +13,7 @@ use Rattle.engine_text.specs.declared.step.Step.{Step}
 use Rattle.machine_model.specs.State.{State}
 use Rattle.machine_model.specs.Room.{HasRoom, has_room}
 use Rattle.machine_model.specs.Soundness.{IsSound}
-use Rattle.machine_model.specs.History.{Charter, IsLegal, IsLawful, AreLawful, state_after, state_from, moment_used, latest, greatest_moment, acts_by, own_calls, is_own, is_drop, DuesUntil, SomeDues, reply_of}
+use Rattle.machine_model.specs.History.{Charter, IsLegal, IsLawful, AreLawful, state_after, state_from, moment_used, latest, greatest_moment, acts_by, calls_of, bears, is_drop, DuesUntil, SomeDues, reply_of}
 use Rattle.machine_model.proofs.Histories.{run_append, legal_append}
 use Rattle.session_model.specs.declared.turned.Turned.{Turned}
 use Rattle.session_model.specs.declared.turned.Turned.TheVariants as T
@@ -94,7 +94,7 @@ ends_full ch s h k t c none = (λ room. false≢true (sym none ∙ room), refl)
 
 -- of which just those of its number are calls
 pub adds : (ch : Charter) (h h' own : List Step) (k handed : ℕ) (c : Option Call) (result : Turned) → IsLegal ch h' → h' ≡ h ++ own
-    → filter is_call own ≡ own_calls k own → TurnSays ch (state_after ch h) k handed c result own
+    → filter is_call own ≡ calls_of k own → TurnSays ch (state_after ch h) k handed c result own
     → Turn k handed c result (pass_of ch h) (pass_of ch h')
 adds ch h h' own k handed c result legal at calls says = record {
   turns = record {
@@ -107,21 +107,22 @@ adds ch h h' own k handed c result legal at calls says = record {
     legal = legal;
     own_calls = ap (filter is_call) at ∙ filter-append is_call h own ∙ ap (λ x. filter is_call h ++ x) calls;
     looks = omega arith;
+    anew = λ shared. absurd (false≢true (sym shared));
     found_busy = omega arith;
     stays = record { joined_calls = refl; number = refl; pair = refl; charter = refl; alone = refl; home = refl };
   };
   says = subst (λ x. TurnSays ch (state_after ch x) k handed c result own) (sym (append-nil h)) says;
 }
 
-own_call : (k t : ℕ) (c : Call) → own_calls k (Step.Call k t c ∷ []) ≡ Step.Call k t c ∷ []
+own_call : (k t : ℕ) (c : Call) → calls_of k (Step.Call k t c ∷ []) ≡ Step.Call k t c ∷ []
 own_call k t c = let e : (k == k) ≡ true = grind arith in rw e refl
 
-own_behind : (k t : ℕ) (c : Call) (ds : List Step) → filter is_call ds ≡ [] → own_calls k ds ≡ []
-    → filter is_call (ds ++ Step.Call k t c ∷ []) ≡ own_calls k (ds ++ Step.Call k t c ∷ [])
+own_behind : (k t : ℕ) (c : Call) (ds : List Step) → filter is_call ds ≡ [] → calls_of k ds ≡ []
+    → filter is_call (ds ++ Step.Call k t c ∷ []) ≡ calls_of k (ds ++ Step.Call k t c ∷ [])
 own_behind k t c ds none none' =
     let last : List Step = Step.Call k t c ∷ [] in
     filter-append is_call ds last ∙ ap (λ x. x ++ last) none ∙ sym (own_call k t c)
-    ∙ sym (ap (λ x. x ++ own_calls k last) none') ∙ sym (filter-append (is_own k) ds last)
+    ∙ sym (ap (λ x. x ++ calls_of k last) none') ∙ sym (filter-append (bears k) ds last)
 
 -- due steps alone were made
 pub adds_due : (ch : Charter) (u : ℕ) (s s' : State) (h h' : List Step) (k handed : ℕ) (c : Option Call) (result : Turned)

@@ -65,14 +65,14 @@ pub ends_closed : (k : ℕ) (p q : PassView) (s s1 s2 : SourceView) (u u1 : Sink
     → Stands k p q s s1 u u1 t t1 old → NextSays old new next.End s1 s2 → IsLegal q.charter q.seen
     → Serves k E.Closed p q (outside s u t) (outside s2 u1 t1)
 ends_closed k p q s s1 s2 u u1 t t1 old new st says legal =
-    ended_closed k p q s s1 s2 u u1 t t1 old.ahead st.so_far says.2 says.4.rose legal
+    ended_closed k p q s s1 s2 u u1 t t1 old.ahead st.so_far says.2 says.4 legal
 
 pub ends_cut : (k : ℕ) (p q : PassView) (s s1 s2 : SourceView) (u u1 : SinkView) (t t1 : ClockView) (old new : Reading)
     → Stands k p q s s1 u u1 t t1 old → NextSays old new next.CutShort s1 s2 → IsLegal q.charter q.seen
     → Serves k E.CutShort p q (outside s u t) (outside s2 u1 t1)
 ends_cut k p q s s1 s2 u u1 t t1 old new st says legal =
     let f = stopped_now old new _ s1 s2 _ st.reads_on says in
-    ended_cut k p q s s1 s2 u u1 t t1 old.ahead st.so_far f.0 f.1.rose legal
+    ended_cut k p q s s1 s2 u u1 t t1 old.ahead st.so_far f.0 f.1 legal
 
 pub ends_fault : (k : ℕ) (p q : PassView) (s s1 s2 : SourceView) (u u1 : SinkView) (t t1 : ClockView) (old new : Reading)
     → Stands k p q s s1 u u1 t t1 old → NextSays old new next.ReadFault s1 s2 → IsLegal q.charter q.seen

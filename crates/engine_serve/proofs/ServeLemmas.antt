@@ -2,7 +2,7 @@
 use Rattle.std.proofs.Common.{◌≡◌, ◌≤◌, ◌⊎◌, ℕ, List, [], ◌∷◌, ◌++◌, refl, sym, ◌∙◌, ap, subst, append_assoc, append-nil, inl, inr, Bool, true, false, Option, Some, None, Result, Ok, Err, arith}
 use Rattle.std.specs.Prelude.{IsTrue, IsFalse}
 use Rattle.engine_ports.specs.Rose.{Rose}
-use Rattle.engine_ports.specs.Source.{SourceView, SourceGave}
+use Rattle.engine_ports.specs.Source.{SourceView, SourceGave, SourceEnded}
 use Rattle.engine_ports.specs.Sink.{SinkView, SinkTook, IsFront, WriteSays}
 use Rattle.engine_ports.specs.Clock.{ClockView, ClockHanded}
 use Rattle.engine_ports.specs.Door.{Outside, outside}
@@ -14,21 +14,17 @@ use Rattle.http_edge.specs.Spelling.{Begins, ReadsRequests, HasNoRequest}
 use Rattle.http_edge.specs.Refusal.{IsRefused, IsUnfinished}
 use Rattle.session_model.specs.declared.ending.Ending.{Ending}
 use Rattle.session_model.specs.declared.ending.Ending.TheVariants as E
-use Rattle.session_model.specs.declared.followed.Followed.{Followed}
-use Rattle.session_model.specs.declared.followed.Followed.TheVariants as F
-use Rattle.session_model.specs.declared.followed.PumpEnd.{PumpEnd}
-use Rattle.session_model.specs.declared.followed.PumpEnd.TheVariants as P
 use Rattle.http_edge.specs.Response.{refusal_bytes}
 use Rattle.session_model.specs.Pass.{PassView, Stays}
 use Rattle.session_model.specs.Exchange.{Flow, GoesOn, Closes, Stops, BreaksOff, TakesOver, Answers}
 use Rattle.session_model.specs.Moments.{StaysWithin, is_whole_flow}
-use Rattle.session_model.specs.Session.{Exchange, AreAnswered, IsWritten, Cause, FollowCause, PumpCause, EndsAt, IsSession}
+use Rattle.session_model.specs.Session.{Exchange, AreAnswered, IsBetween, EndsAt, IsSession}
 use Rattle.session_model.specs.Guarantee.{Serves}
-use Rattle.session_model.proofs.OutsideLemmas.{source_none, source_on, sink_none, sink_on, clock_none, clock_on, rose_since}
+use Rattle.session_model.proofs.OutsideLemmas.{source_none, source_on, sink_none, sink_on, clock_none, clock_on}
 use Rattle.session_model.proofs.HistoryLemmas.{extends_same, extends_on}
 use Rattle.session_model.proofs.MomentLemmas.{within_on}
 use Rattle.session_model.proofs.SessionLemmas.{reads_more, reads_on, answered_more}
-use Rattle.session_model.proofs.TurnLemmas.{stays_same, stays_on}
+use Rattle.session_model.proofs.TurnLemmas.{stays_same, stays_on, same_pass}
 use Rattle.engine_serve.specs.declared.went.Went.{Went}
 use Rattle.engine_serve.specs.declared.went.Went.TheVariants as W
 use Rattle.engine_serve.specs.Serving.{Tries}
@@ -71,7 +67,7 @@ read_on k p q s s1 s2 u u1 t t1 held more ahead so gave is = record {
 -- a request is answered, under the first charter
 exchange_of : (k : ℕ) (r : Request) (result : _) (behind : List ℕ) (p q q2 : PassView) (u u' : SinkView) (t t' : ClockView) → Stays p q → (tries : Tries k r result q q2 u u' t t') → Exchange p.charter k r behind tries.flow q.seen q2.seen tries.whole tries.moves.handed
 exchange_of k r result behind p q q2 u u' t t' stays tries = subst (λ ch. Exchange ch k r behind tries.flow q.seen q2.seen tries.whole tries.moves.handed) stays.charter
-    (record { answer = tries.answer behind; moments = tries.moves.moments })
+    (record { answer = tries.answer behind; moments = tries.moves.moments; unasked = tries.unasked })
 
 within_of : (k : ℕ) (whole : Bool) (p q q2 : PassView) (t t' : ClockView) (ms ns : List ℕ) → Stays p q → (IsTrue q.alone → StaysWithin q.charter q.seen q2.seen ns) → IsTrue p.alone → StaysWithin p.charter p.seen q.seen ms → StaysWithin p.charter p.seen q2.seen (ms ++ ns)
 within_of k whole p q q2 t t' ms ns stays within h f = within_on p.charter p.seen q.seen q2.seen ms ns f (subst (λ ch. StaysWithin ch q.seen q2.seen ns) stays.charter (within (stays.alone ∙ h)))
@@ -96,32 +92,17 @@ one_more k r p q q2 s s1 s2 u u1 u2 t t1 t2 held ahead so next tries =
       within = λ h. within_of k true p q q2 t1 t2 so.handed tries.moves.handed so.stays tries.moves.within h (so.within h);
     }
 
-follow_since : (f : Followed) (s s' : SourceView) (u u1 u2 : SinkView) (t t1 t2 : ClockView) → u.faults ≤ u1.faults → t.stops ≤ t1.stops → FollowCause f (outside s u1 t1) (outside s' u2 t2) → FollowCause f (outside s u t) (outside s' u2 t2)
-follow_since F.Whole s s' u u1 u2 t t1 t2 le le' h = tt
-follow_since F.Stopped s s' u u1 u2 t t1 t2 le le' h = rose_since t.stops t1.stops t2.stops le' h
-follow_since (F.Lagged next first) s s' u u1 u2 t t1 t2 le le' h = tt
-follow_since F.WriteFault s s' u u1 u2 t t1 t2 le le' h = rose_since u.faults u1.faults u2.faults le h
-follow_since F.NoMemory s s' u u1 u2 t t1 t2 le le' h = tt
-
-pump_since : (e : Option PumpEnd) (s s' : SourceView) (u u1 u2 : SinkView) (t t1 t2 : ClockView) → t.stops ≤ t1.stops → PumpCause e (outside s u1 t1) (outside s' u2 t2) → PumpCause e (outside s u t) (outside s' u2 t2)
-pump_since None s s' u u1 u2 t t1 t2 le h = tt
-pump_since (Some P.Ended) s s' u u1 u2 t t1 t2 le h = h
-pump_since (Some P.Gone) s s' u u1 u2 t t1 t2 le h = tt
-pump_since (Some P.Stopped) s s' u u1 u2 t t1 t2 le h = rose_since t.stops t1.stops t2.stops le h
-pump_since (Some P.JournalFull) s s' u u1 u2 t t1 t2 le h = tt
-pump_since (Some P.ReadFault) s s' u u1 u2 t t1 t2 le h = h
-pump_since (Some P.NoMemory) s s' u u1 u2 t t1 t2 le h = tt
-
-pub cause_since : (flow : Flow) (s s' : SourceView) (u u1 u2 : SinkView) (t t1 t2 : ClockView) → u.faults ≤ u1.faults → t.stops ≤ t1.stops → Cause flow (outside s u1 t1) (outside s' u2 t2) → Cause flow (outside s u t) (outside s' u2 t2)
-cause_since GoesOn s s' u u1 u2 t t1 t2 le le' h = tt
-cause_since Closes s s' u u1 u2 t t1 t2 le le' h = tt
-cause_since Stops s s' u u1 u2 t t1 t2 le le' h = rose_since t.stops t1.stops t2.stops le' h
-cause_since (BreaksOff f) s s' u u1 u2 t t1 t2 le le' h = follow_since f s s' u u1 u2 t t1 t2 le le' h
-cause_since (TakesOver f e) s s' u u1 u2 t t1 t2 le le' h = (follow_since f s s' u u1 u2 t t1 t2 le le' h.0, pump_since e s s' u u1 u2 t t1 t2 le' h.1)
-
-written_since : (e : Ending) (flow : Flow) (whole w : List ℕ) (u u1 u2 : SinkView) → u.faults ≤ u1.faults → IsWritten e flow whole w u1 u2 → IsWritten e flow whole w u u2
-written_since e flow whole w u u1 u2 le (inl h) = inl h
-written_since e flow whole w u u1 u2 le (inr (is, front, rose)) = inr (is, front, rose_since u.faults u1.faults u2.faults le rose)
+-- what was told where it stands
+before : (k : ℕ) (p q : PassView) (s s1 : SourceView) (u u1 : SinkView) (t t1 : ClockView) (held more : List ℕ)
+    (so : SoFar k p q s s1 u u1 t t1 held)
+    → IsBetween (so.read ++ more) so.written so.handed (outside s u t) (outside s1 u1 t1)
+before k p q s s1 u u1 t t1 held more so = record {
+  front = so.read;
+  of_read = (more, refl);
+  source = so.source;
+  sink = so.sink;
+  clock = so.clock;
+}
 
 -- the answer to a request ends the session
 pub ended_by : (k : ℕ) (r : Request) (e : Ending) (p q q2 : PassView) (s s1 s2 : SourceView) (u u1 u2 : SinkView) (t t1 t2 : ClockView) (held ahead : List ℕ) → SoFar k p q s s1 u u1 t t1 held → Reached held s1 s2 (λ all. Begins all r ahead) → Tries k r (W.Ends e) q q2 u1 u2 t1 t2
@@ -138,8 +119,9 @@ ended_by k r e p q q2 s s1 s2 u u1 u2 t t1 t2 held ahead so next tries legal =
       clock = clock_on t t1 t2 so.handed tries.moves.handed so.clock tries.moves.clock;
       extends = extends_on p.seen q.seen q2.seen so.extends tries.moves.extends;
       legal = legal;
-      stays = stays_on p q q2 so.stays tries.moves.stays;
+      same = same_pass p q2 (stays_on p q q2 so.stays tries.moves.stays);
       pumps = false;
+      stays = λ _. stays_on p q q2 so.stays tries.moves.stays;
       within = λ h b. within_of k true p q q2 t1 t2 so.handed tries.moves.handed so.stays tries.moves.within h (so.within h);
       session = record {
         done = so.done;
@@ -151,6 +133,8 @@ ended_by k r e p q q2 s s1 s2 u u1 u2 t t1 t2 held ahead so next tries legal =
         late = tries.moves.handed;
         requests = now.requests;
         answered = so.answered;
+        between = outside s1 u1 t1;
+        before = before k p q s s1 u u1 t t1 held next.read so;
         ends = inr (
           r,
           ahead,
@@ -159,8 +143,8 @@ ended_by k r e p q q2 s s1 s2 u u1 u2 t t1 t2 held ahead so next tries legal =
             flow = tries.flow;
             whole = tries.whole;
             exchange = exchange_of k r (W.Ends e) ahead p q q2 u1 u2 t1 t2 so.stays tries;
-            written = written_since e tries.flow tries.whole tries.part u u1 u2 so.sink.faults tries.goes;
-            cause = cause_since tries.flow s s2 u u1 u2 t t1 t2 so.sink.faults so.clock.stops (tries.cause s s2);
+            written = tries.goes;
+            cause = tries.cause s1 s2;
             pumped = tries.pumped;
           },
         );
@@ -169,61 +153,79 @@ ended_by k r e p q q2 s s1 s2 u u1 u2 t t1 t2 held ahead so next tries legal =
       };
     }
 
--- the session ends where no more requests are answered
-ended_at : (k : ℕ) (e : Ending) (p q : PassView) (s s1 : SourceView) (u u1 u2 : SinkView) (t t1 : ClockView) (ahead last : List ℕ) → (so : SoFar k p q s s1 u u1 t t1 ahead) → SinkTook u1 last u2 → EndsAt e so.read ahead last (outside s u t) (outside s1 u2 t1)
-    → IsLegal q.charter q.seen → Serves k e p q (outside s u t) (outside s1 u2 t1)
-ended_at k e p q s s1 u u1 u2 t t1 ahead last so took ends legal = record {
-  read = so.read;
-  written = so.written ++ last;
-  handed = so.handed;
-  source = so.source;
-  sink = sink_on u u1 u2 so.written last so.sink took;
-  clock = so.clock;
-  extends = so.extends;
-  legal = legal;
-  stays = so.stays;
-  pumps = false;
-  within = λ h b. so.within h;
-  session = record {
-    done = so.done;
-    tail = ahead;
-    mid = q.seen;
-    bytes = so.written;
-    last = last;
-    early = so.handed;
-    late = [];
-    requests = so.requests;
-    answered = so.answered;
-    ends = inl (ends, refl, refl, refl);
-    wrote = refl;
-    handed = sym (append-nil so.handed);
-  };
-}
+-- the session ends where no more requests are answered, and more was read
+ended_at : (k : ℕ) (e : Ending) (p q : PassView) (s s1 s2 : SourceView) (u u1 u2 : SinkView) (t t1 : ClockView)
+    (held more last : List ℕ) (so : SoFar k p q s s1 u u1 t t1 held) → SourceGave s1 more s2 → SinkTook u1 last u2
+    → EndsAt e (so.read ++ more) (held ++ more) last (outside s1 u1 t1) (outside s2 u2 t1)
+    → IsLegal q.charter q.seen → Serves k e p q (outside s u t) (outside s2 u2 t1)
+unfolding read_on
+ended_at k e p q s s1 s2 u u1 u2 t t1 held more last so gave took ends legal =
+    let now = read_on k p q s s1 s2 u u1 t t1 held more (held ++ more) so gave refl in
+    record {
+      read = now.read;
+      written = so.written ++ last;
+      handed = so.handed;
+      source = now.source;
+      sink = sink_on u u1 u2 so.written last so.sink took;
+      clock = so.clock;
+      extends = so.extends;
+      legal = legal;
+      same = same_pass p q so.stays;
+      pumps = false;
+      stays = λ _. so.stays;
+      within = λ h b. so.within h;
+      session = record {
+        done = so.done;
+        tail = held ++ more;
+        mid = q.seen;
+        bytes = so.written;
+        last = last;
+        early = so.handed;
+        late = [];
+        requests = now.requests;
+        answered = so.answered;
+        between = outside s1 u1 t1;
+        before = before k p q s s1 u u1 t t1 held more so;
+        ends = inl (ends, refl, refl, refl);
+        wrote = refl;
+        handed = sym (append-nil so.handed);
+      };
+    }
 
-pub ended_closed : (k : ℕ) (p q : PassView) (s s1 s2 : SourceView) (u u1 : SinkView) (t t1 : ClockView) (held : List ℕ) → SoFar k p q s s1 u u1 t t1 held → Reached held s1 s2 (λ all. all ≡ []) → Rose s1.ends s2.ends → IsLegal q.charter q.seen → Serves k E.Closed p q (outside s u t) (outside s2 u1 t1)
-ended_closed k p q s s1 s2 u u1 t t1 held so next rose legal =
-    ended_at k E.Closed p q s s2 u u1 u1 t t1 [] [] (read_on k p q s s1 s2 u u1 t t1 held next.read [] so next.gave next.holds) (sink_none u1) (refl, refl, rose_since s.ends s1.ends s2.ends so.source.ends rose) legal
+pub ended_closed : (k : ℕ) (p q : PassView) (s s1 s2 : SourceView) (u u1 : SinkView) (t t1 : ClockView) (held : List ℕ)
+    → SoFar k p q s s1 u u1 t t1 held → Reached held s1 s2 (λ all. all ≡ []) → SourceEnded s1 s2
+    → IsLegal q.charter q.seen → Serves k E.Closed p q (outside s u t) (outside s2 u1 t1)
+ended_closed k p q s s1 s2 u u1 t t1 held so next ended legal =
+    ended_at k E.Closed p q s s1 s2 u u1 u1 t t1 held next.read [] so next.gave (sink_none u1) (next.holds, refl, ended) legal
 
-pub ended_cut : (k : ℕ) (p q : PassView) (s s1 s2 : SourceView) (u u1 : SinkView) (t t1 : ClockView) (held : List ℕ) → SoFar k p q s s1 u u1 t t1 held → Reached held s1 s2 IsUnfinished → Rose s1.ends s2.ends → IsLegal q.charter q.seen → Serves k E.CutShort p q (outside s u t) (outside s2 u1 t1)
-ended_cut k p q s s1 s2 u u1 t t1 held so next rose legal =
-    ended_at k E.CutShort p q s s2 u u1 u1 t t1 (held ++ next.read) [] (read_on k p q s s1 s2 u u1 t t1 held next.read (held ++ next.read) so next.gave refl) (sink_none u1) (next.holds, refl, rose_since s.ends s1.ends s2.ends so.source.ends rose) legal
+pub ended_cut : (k : ℕ) (p q : PassView) (s s1 s2 : SourceView) (u u1 : SinkView) (t t1 : ClockView) (held : List ℕ)
+    → SoFar k p q s s1 u u1 t t1 held → Reached held s1 s2 IsUnfinished → SourceEnded s1 s2
+    → IsLegal q.charter q.seen → Serves k E.CutShort p q (outside s u t) (outside s2 u1 t1)
+ended_cut k p q s s1 s2 u u1 t t1 held so next ended legal =
+    ended_at k E.CutShort p q s s1 s2 u u1 u1 t t1 held next.read [] so next.gave (sink_none u1) (next.holds, refl, ended) legal
 
-pub ended_fault : (k : ℕ) (p q : PassView) (s s1 s2 : SourceView) (u u1 : SinkView) (t t1 : ClockView) (held : List ℕ) → SoFar k p q s s1 u u1 t t1 held → Reached held s1 s2 HasNoRequest → Rose s1.faults s2.faults → IsLegal q.charter q.seen → Serves k E.ReadFault p q (outside s u t) (outside s2 u1 t1)
+pub ended_fault : (k : ℕ) (p q : PassView) (s s1 s2 : SourceView) (u u1 : SinkView) (t t1 : ClockView) (held : List ℕ)
+    → SoFar k p q s s1 u u1 t t1 held → Reached held s1 s2 HasNoRequest → Rose s1.faults s2.faults
+    → IsLegal q.charter q.seen → Serves k E.ReadFault p q (outside s u t) (outside s2 u1 t1)
 ended_fault k p q s s1 s2 u u1 t t1 held so next rose legal =
-    ended_at k E.ReadFault p q s s2 u u1 u1 t t1 (held ++ next.read) [] (read_on k p q s s1 s2 u u1 t t1 held next.read (held ++ next.read) so next.gave refl) (sink_none u1) (next.holds, refl, rose_since s.faults s1.faults s2.faults so.source.faults rose) legal
+    ended_at k E.ReadFault p q s s1 s2 u u1 u1 t t1 held next.read [] so next.gave (sink_none u1) (next.holds, refl, rose) legal
 
 abbrev pub ending_of_refusal : Result (Unit {0}) Failed → ℕ → Ending
 ending_of_refusal (Ok x) status = E.Refused status
 ending_of_refusal (Err x) status = E.WriteFault
 
-pub ended_bad : (r : Result (Unit {0}) Failed) (k status : ℕ) (p q : PassView) (s s1 s2 : SourceView) (u u1 u2 : SinkView) (t t1 : ClockView) (held : List ℕ) → SoFar k p q s s1 u u1 t t1 held → Reached held s1 s2 (λ all. IsRefused all status) → WriteSays r (refusal_bytes status) u1 u2
-    → IsLegal q.charter q.seen → Serves k (ending_of_refusal r status) p q (outside s u t) (outside s2 u2 t1)
+pub ended_bad : (r : Result (Unit {0}) Failed) (k status : ℕ) (p q : PassView) (s s1 s2 : SourceView) (u u1 u2 : SinkView)
+    (t t1 : ClockView) (held : List ℕ) → SoFar k p q s s1 u u1 t t1 held → Reached held s1 s2 (λ all. IsRefused all status)
+    → WriteSays r (refusal_bytes status) u1 u2 → IsLegal q.charter q.seen
+    → Serves k (ending_of_refusal r status) p q (outside s u t) (outside s2 u2 t1)
 ended_bad (Ok x) k status p q s s1 s2 u u1 u2 t t1 held so next says legal =
-    ended_at k (E.Refused status) p q s s2 u u1 u2 t t1 (held ++ next.read) (refusal_bytes status) (read_on k p q s s1 s2 u u1 t t1 held next.read (held ++ next.read) so next.gave refl) says (next.holds, refl) legal
+    ended_at k (E.Refused status) p q s s1 s2 u u1 u2 t t1 held next.read (refusal_bytes status) so next.gave says (next.holds, refl) legal
 ended_bad (Err x) k status p q s s1 s2 u u1 u2 t t1 held so next (part, front, took, rose) legal =
-    ended_at k E.WriteFault p q s s2 u u1 u2 t t1 (held ++ next.read) part (read_on k p q s s1 s2 u u1 t t1 held next.read (held ++ next.read) so next.gave refl) took (status, next.holds, front, rose_since u.faults u1.faults u2.faults so.sink.faults rose) legal
+    ended_at k E.WriteFault p q s s1 s2 u u1 u2 t t1 held next.read part so next.gave took (status, next.holds, front, rose) legal
 
 -- memory was refused before anything was read
-pub ended_unread : (k : ℕ) (p : PassView) (s : SourceView) (u : SinkView) (t : ClockView) → IsLegal p.charter p.seen → Serves k E.NoMemory p p (outside s u t) (outside s u t)
+pub ended_unread : (k : ℕ) (p : PassView) (s : SourceView) (u : SinkView) (t : ClockView) → IsLegal p.charter p.seen
+    → Serves k E.NoMemory p p (outside s u t) (outside s u t)
 unfolding begin
-ended_unread k p s u t legal = ended_at k E.NoMemory p p s s u u u t t [] [] (begin k p s u t [] refl) (sink_none u) (refl, refl) legal
+ended_unread k p s u t legal =
+    ended_at k E.NoMemory p p s s s u u u t t [] [] [] (begin k p s u t [] refl) (source_none s) (sink_none u) (refl, refl) legal

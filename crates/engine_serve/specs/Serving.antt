@@ -1,5 +1,5 @@
 -- What answering one request says, also where a write failed in it (own).
-use Rattle.std.specs.Prelude.{ℕ, ◌≡◌, List, Bool, true, false, if◌then◌else◌, IsFalse, Result, Ok, Err}
+use Rattle.std.specs.Prelude.{ℕ, ◌≡◌, List, [], Option, None, Bool, true, false, if◌then◌else◌, IsFalse, Result, Ok, Err}
 use Rattle.engine_ports.specs.Source.{SourceView}
 use Rattle.engine_ports.specs.Sink.{SinkView, SinkTook}
 use Rattle.engine_ports.specs.Clock.{ClockView}
@@ -9,9 +9,10 @@ use Rattle.engine_text.specs.declared.reply.Reply.{Reply}
 use Rattle.engine_text.specs.declared.reply.Reply.TheVariants.{Answer}
 use Rattle.http.specs.StatusCode.{IsStatusCode}
 use Rattle.http_edge.specs.Message.{Request}
+use Rattle.api_routes.specs.Class.{class_of}
 use Rattle.session_model.specs.declared.ending.Ending.{Ending}
 use Rattle.session_model.specs.Pass.{PassView}
-use Rattle.session_model.specs.Exchange.{Flow, GoesOn, Closes, Answers}
+use Rattle.session_model.specs.Exchange.{Flow, GoesOn, Closes, call_of, Answers}
 use Rattle.session_model.specs.Moments.{is_whole_flow}
 use Rattle.session_model.specs.Session.{IsWritten, Cause, is_pumped}
 use Rattle.session_model.specs.Progress.{Moves}
@@ -41,4 +42,5 @@ pub record Tries (k : ℕ) (r : Request) (result : Went) (p q : PassView) (u u' 
   pub sink : SinkTook u part u'
   pub cause : (s s' : SourceView) → Cause flow (outside s u t) (outside s' u' t')
   pub moves : Moves k (is_whole_flow flow) p q t t'
+  pub unasked : call_of (class_of r) ≡ None → moves.handed ≡ []
   pub pumped : IsFalse (is_pumped flow)

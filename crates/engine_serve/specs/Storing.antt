@@ -7,6 +7,7 @@ use Rattle.engine_text.specs.declared.reply.Reply.TheVariants as reply
 use Rattle.engine_text.specs.declared.step.Step.{Step}
 use Rattle.session_model.specs.declared.turned.Turned.{Turned}
 use Rattle.session_model.specs.declared.turned.Turned.TheVariants as turned
+pub use Rattle.session_model.specs.Pass.{is_call}
 use Rattle.machine_model.specs.State.{State}
 use Rattle.machine_model.specs.History.{Charter, after_step, state_from, reply_of, acts_by, latest, SomeDues, AreLawful, greatest_jump, greatest_moment}
 use Rattle.machine_model.specs.Room.{HasRoom}
@@ -15,10 +16,6 @@ use Rattle.session_model.specs.Pass.{PassView, Every}
 -- what no step changes
 abbrev pub charter_of : List ℕ → ℕ → ℕ → Charter
 charter_of seed opening greatest = record { seed = seed; opening = opening; greatest = greatest }
-
-abbrev pub is_call : Step → Bool
-is_call Step.Due = false
-is_call (Step.Call k t c) = true
 
 -- who takes all turns has seen the whole history, and every number is its own
 abbrev pub pass_of : Charter → List Step → PassView

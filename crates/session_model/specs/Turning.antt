@@ -1,5 +1,5 @@
 -- What a turn does, whoever else may take turns. own: turns of this project.
-use Rattle.std.specs.Prelude.{ℕ, ◌≡◌, ◌≤◌, ◌⊎◌, Bool, true, false, List, [], ◌∷◌, ◌++◌, Option, Some, None, IsTrue, IsFalse}
+use Rattle.std.specs.Prelude.{ℕ, ◌≡◌, ◌≤◌, ◌<◌, ◌⊎◌, ◌==◌, ◌&&◌, Bool, true, false, List, [], ◌∷◌, ◌++◌, Option, Some, None, IsTrue, IsFalse}
 use Rattle.std.specs.List.{filter}
 use Rattle.engine_text.specs.declared.call.Call.{Call}
 use Rattle.engine_text.specs.declared.call.Call.TheVariants as call
@@ -12,15 +12,26 @@ use Rattle.machine_model.specs.Ready.{is_ready}
 use Rattle.machine_model.specs.Soundness.{IsSound}
 use Rattle.session_model.specs.declared.turned.Turned.{Turned}
 use Rattle.session_model.specs.declared.turned.Turned.TheVariants.{Replied, Begun, NotYet, Nothing, JournalFull, NoMemory}
-use Rattle.machine_model.specs.History.{Charter, state_after, state_from, reply_of, moment_used, is_due, IsLegal, DuesUntil, SomeDues, HasNone, HasNoCall, own_calls, is_drop}
+use Rattle.machine_model.specs.History.{Charter, state_after, state_from, reply_of, moment_used, is_due, IsLegal, DuesUntil, SomeDues, HasNone, HasNoCall, calls_of, is_drop}
 use Rattle.session_model.specs.Pass.{PassView, Stays}
 
 -- ---- which calls may be handed to a turn
 
--- connection k began the ticket, and has made no call since
+-- whether it ends that ticket
+abbrev pub is_end_of : ℕ → Call → Bool
+is_end_of n (call.Take m) = m == n
+is_end_of n (call.Drop m) = m == n
+is_end_of n c = false
+
+-- whether the step ends connection k's ticket
+abbrev pub ends_ticket : ℕ → ℕ → Step → Bool
+ends_ticket k n Step.Due = false
+ends_ticket k n (Step.Call j t c) = (j == k) && is_end_of n c
+
+-- connection k began the ticket, and hasn't ended it since
 abbrev pub HasBegun : Charter → ℕ → ℕ → List Step → Type 0
 HasBegun ch k n h =
-    (before : List Step) × (behind : List Step) × (t : ℕ) × (c : Call) × HasNone k behind
+    (before : List Step) × (behind : List Step) × (t : ℕ) × (c : Call) × (filter (ends_ticket k n) behind ≡ [])
     × (h ≡ before ++ Step.Call k t c ∷ behind) × (reply_of (state_after ch before) k t c ≡ reply.Begun n)
 
 -- a take or a drop is of a ticket that the connection has begun
@@ -86,8 +97,10 @@ pub record Turns (k : ℕ) (p q : PassView) : Type 0 where
   pub strangers : IsTrue p.pair → HasNone k others
   pub alone : IsTrue p.alone → others ≡ []
   pub legal : IsLegal q.charter q.seen
-  pub own_calls : q.own_calls ≡ p.own_calls ++ own_calls k own
+  pub own_calls : q.own_calls ≡ p.own_calls ++ calls_of k own
+  -- who isn't alone looks anew at each turn
   pub looks : p.looks ≤ q.looks
+  pub anew : IsFalse p.alone → p.looks < q.looks
   pub found_busy : p.found_busy ≤ q.found_busy
   pub stays : Stays p q
 
