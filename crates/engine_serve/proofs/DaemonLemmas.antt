@@ -107,7 +107,6 @@ adds ch h h' own k handed c result legal at calls says = record {
     legal = legal;
     own_calls = ap (filter is_call) at ∙ filter-append is_call h own ∙ ap (λ x. filter is_call h ++ x) calls;
     looks = omega arith;
-    anew = λ shared. absurd (false≢true (sym shared));
     found_busy = omega arith;
     stays = record { joined_calls = refl; number = refl; pair = refl; charter = refl; alone = refl; home = refl };
   };

@@ -1,5 +1,5 @@
 -- What a turn does, whoever else may take turns. own: turns of this project.
-use Rattle.std.specs.Prelude.{ℕ, ◌≡◌, ◌≤◌, ◌<◌, ◌⊎◌, ◌==◌, ◌&&◌, Bool, true, false, List, [], ◌∷◌, ◌++◌, Option, Some, None, IsTrue, IsFalse}
+use Rattle.std.specs.Prelude.{ℕ, ◌≡◌, ◌≤◌, ◌⊎◌, ◌==◌, ◌&&◌, Bool, true, false, List, [], ◌∷◌, ◌++◌, Option, Some, None, IsTrue, IsFalse}
 use Rattle.std.specs.List.{filter}
 use Rattle.engine_text.specs.declared.call.Call.{Call}
 use Rattle.engine_text.specs.declared.call.Call.TheVariants as call
@@ -98,9 +98,7 @@ pub record Turns (k : ℕ) (p q : PassView) : Type 0 where
   pub alone : IsTrue p.alone → others ≡ []
   pub legal : IsLegal q.charter q.seen
   pub own_calls : q.own_calls ≡ p.own_calls ++ calls_of k own
-  -- who isn't alone looks anew at each turn
   pub looks : p.looks ≤ q.looks
-  pub anew : IsFalse p.alone → p.looks < q.looks
   pub found_busy : p.found_busy ≤ q.found_busy
   pub stays : Stays p q
 
