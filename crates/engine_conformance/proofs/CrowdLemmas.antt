@@ -8,12 +8,12 @@ use Rattle.engine_text.specs.declared.call.Call.{Call}
 use Rattle.engine_text.specs.declared.call.Call.TheVariants as call
 use Rattle.engine_text.specs.declared.memory.NoMemory.{NoMemory}
 use Rattle.engine_text.specs.declared.step.Step.{Step}
-use Rattle.machine_model.specs.History.{Charter, HasNone, own_calls, is_own, input_of, state_after}
+use Rattle.machine_model.specs.History.{Charter, HasNone, HasNoCall, own_calls, is_own, calls_of, bears, input_of, state_after}
 use Rattle.session_model.specs.declared.turned.Turned.{Turned}
 use Rattle.session_model.specs.Pass.{PassView, IsConnection}
-use Rattle.session_model.specs.Turning.{Turns, Turn, TurnSays, MayAsk, HasBegun}
+use Rattle.session_model.specs.Turning.{Turns, Turn, TurnSays, MayAsk, HasBegun, ends_ticket}
 use Rattle.session_model.specs.Exchange.{IsQuiet}
-use Rattle.session_model.proofs.HistoryLemmas.{none_append, uncalled, quiet_same}
+use Rattle.session_model.proofs.HistoryLemmas.{uncalled, quiet_same}
 use Rattle.engine_serve.specs.Storing.{pass_of, is_call}
 use Rattle.engine_conformance.specs.Crowding.{pass_among}
 use Rattle.engine_conformance.specs.Other.{nameless}
@@ -26,11 +26,11 @@ shorter true x xs ys h = omega arith
 shorter false x xs ys h = omega arith
 
 -- who has the calls of one number has at most all
-fewer : (j : ℕ) (xs : List Step) → length (own_calls j xs) ≤ length (filter is_call xs)
+fewer : (j : ℕ) (xs : List Step) → length (calls_of j xs) ≤ length (filter is_call xs)
 fewer j [] = omega arith
 fewer j (Step.Due ∷ xs) = fewer j xs
 fewer j (Step.Call i t c ∷ xs) =
-    shorter (is_own j (Step.Call i t c)) (Step.Call i t c) (filter is_call xs) (own_calls j xs) (fewer j xs)
+    shorter (bears j (Step.Call i t c)) (Step.Call i t c) (filter is_call xs) (calls_of j xs) (fewer j xs)
 
 first_is : (b : Bool) (x : Step) (xs ys : List Step) → length ys ≤ length xs → x ∷ xs ≡ cond b (x ∷ ys) ys
     → IsTrue b × (xs ≡ ys)
@@ -39,7 +39,7 @@ first_is false x xs ys h e = absurd (omega (arith, ap length e))
 
 -- two connections have no number in common
 strange : (i j k : ℕ) → IsConnection j → IsConnection k → IsFalse (k == j)
-    → IsTrue ((i == j) || (i == input_of j)) → ((i == k) || (i == input_of k)) ≡ false
+    → IsTrue (i == j) → ((i == k) || (i == input_of k)) ≡ false
 strange i j k fits fits' apart is = grind arith
 
 skips : (b : Bool) (x : Step) (xs : List Step) → b ≡ false → xs ≡ [] → cond b (x ∷ xs) xs ≡ []
@@ -48,11 +48,11 @@ skips false x xs h e = e
 
 -- where all calls are of one connection, none is another's
 pub none_else : (j k : ℕ) (xs : List Step) → IsConnection j → IsConnection k → IsFalse (k == j)
-    → filter is_call xs ≡ own_calls j xs → HasNone k xs
+    → filter is_call xs ≡ calls_of j xs → HasNone k xs
 none_else j k [] fits fits' apart e = refl
 none_else j k (Step.Due ∷ xs) fits fits' apart e = none_else j k xs fits fits' apart e
 none_else j k (Step.Call i t c ∷ xs) fits fits' apart e =
-    let p = first_is (is_own j (Step.Call i t c)) (Step.Call i t c) (filter is_call xs) (own_calls j xs) (fewer j xs) e in
+    let p = first_is (bears j (Step.Call i t c)) (Step.Call i t c) (filter is_call xs) (calls_of j xs) (fewer j xs) e in
     skips (is_own k (Step.Call i t c)) (Step.Call i t c) (own_calls k xs)
     (strange i j k fits fits' apart p.0) (none_else j k xs fits fits' apart p.1)
 
@@ -71,8 +71,8 @@ pub quiet_by : (j k : ℕ) (ch ch' : Charter) (h h' : List Step) → IsConnectio
     → Turns j (pass_of ch h) (pass_of ch' h') → IsQuiet k h h'
 quiet_by j k ch ch' h h' fits fits' apart t =
     let at : h' ≡ h ++ t.own = t.seen ∙ ap (λ x. x ++ t.own) (here j ch ch' h h' t) in
-    let same : filter is_call t.own ≡ own_calls j t.own =
-    cancel (filter is_call h) (filter is_call t.own) (own_calls j t.own)
+    let same : filter is_call t.own ≡ calls_of j t.own =
+    cancel (filter is_call h) (filter is_call t.own) (calls_of j t.own)
     (sym (filter-append is_call h t.own) ∙ sym (ap (filter is_call) at) ∙ t.own_calls) in
     (t.own, none_else j k t.own fits fits' apart same, at)
 
@@ -105,13 +105,23 @@ bystands r j own k handed ch ch' h h' is fits fits' apart made same =
 
 -- ---- the own turn behind it
 
+not_first : (b : Bool) (x : Step) (ys : List Step) → cond b (x ∷ ys) ys ≡ [] → (b ≡ false) × (ys ≡ [])
+not_first true x ys h = absurd (omega (arith, ap length h))
+not_first false x ys h = (refl, h)
+
+-- who makes no call ends no ticket
+unended : (k n : ℕ) (xs : List Step) → HasNoCall k xs → filter (ends_ticket k n) xs ≡ []
+unended k n [] h = refl
+unended k n (Step.Due ∷ xs) h = unended k n xs h
+unended k n (Step.Call j t c ∷ xs) h = let p = not_first (j == k) (Step.Call j t c) (calls_of k xs) h in rw p.0 (unended k n xs p.1)
+
 begun_on : (ch : Charter) (k n : ℕ) (h h' : List Step) → IsQuiet k h h' → HasBegun ch k n h → HasBegun ch k n h'
-begun_on ch k n h h' (xs, none, at) (before, behind, t, c, none', is, reply) = (
+begun_on ch k n h h' (xs, none, at) (before, behind, t, c, stands, is, reply) = (
   before,
   behind ++ xs,
   t,
   c,
-  none_append k behind xs none' none,
+  filter-append (ends_ticket k n) behind xs ∙ ap (λ x. x ++ filter (ends_ticket k n) xs) stands ∙ unended k n xs (uncalled k xs none),
   at ∙ ap (λ x. x ++ xs) is ∙ append_assoc before (Step.Call k t c ∷ behind) xs,
   reply,
 )
@@ -137,8 +147,8 @@ turn_behind k handed c result ch ch' ch'' h h' h'' by turn =
     let met : h' ++ t.others ≡ h ++ others = here k ch' ch'' h' h'' t ∙ by.quiet.2 in
     let at : h'' ≡ h ++ others ++ t.own = t.seen ∙ ap (λ x. x ++ t.own) met in
     let charter : ch'' ≡ ch = t.stays.charter ∙ by.charter in
-    let before : own_calls k (h ++ others) ≡ own_calls k h =
-    filter-append (is_own k) h others ∙ ap (λ x. own_calls k h ++ x) none ∙ append-nil (own_calls k h) in
+    let before : calls_of k (h ++ others) ≡ calls_of k h =
+    filter-append (bears k) h others ∙ ap (λ x. calls_of k h ++ x) (uncalled k others none) ∙ append-nil (calls_of k h) in
     record {
       turns = record {
         others = others;
@@ -148,7 +158,7 @@ turn_behind k handed c result ch ch' ch'' h h' h'' by turn =
         strangers = λ _. none;
         alone = λ e. absurd (false≢true e);
         legal = t.legal;
-        own_calls = ap (own_calls k) at ∙ filter-append (is_own k) (h ++ others) t.own ∙ ap (λ x. x ++ own_calls k t.own) before;
+        own_calls = ap (calls_of k) at ∙ filter-append (bears k) (h ++ others) t.own ∙ ap (λ x. x ++ calls_of k t.own) before;
         looks = omega arith;
         found_busy = omega arith;
         stays = record { joined_calls = refl; number = refl; pair = refl; charter = charter; alone = refl; home = refl };

@@ -1,5 +1,5 @@
 // Turns of one connection on a daemon that another one uses too.
-ghost use Rattle.std.specs.Prelude.{◌≡◌, ◌==◌, false, IsFalse, IfOk, OnErr};
+ghost use Rattle.std.specs.Prelude.{◌≡◌, ◌==◌, false, refl, IsFalse, IfOk, OnErr};
 ghost use Rattle.session_model.specs.Pass.{IsConnection};
 ghost use Rattle.session_model.specs.Turning.{Turn};
 ghost use Rattle.engine_serve.specs.Passing.{whole_pass};
@@ -77,4 +77,6 @@ impl Turns for Crowd {
     }
 
     ghost sound = { λ a. a.daemon.legal };
+
+    ghost counted = { λ a. refl };
 }
