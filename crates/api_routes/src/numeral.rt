@@ -22,8 +22,8 @@ fn is_numeral(text: &str, most: usize) -> bool
     fits && all_digits(bytes)
 }
 
-/// The number that one to `most` decimal digits write.
-pub(crate) fn number_of(text: &str, most: usize) -> Option<u64>
+/// The number that one to `most` decimal digits write; none for any other text.
+pub fn number_of(text: &str, most: usize) -> Option<u64>
     requires { most ≤ 19 }
     ensures value { result ≡ spec.number_of most text.now }
     ensures bound { IfSome result (λ n. n < 10 ^ most) }
