@@ -1,5 +1,5 @@
 -- The process whose op is the least of what is due.
-use Rattle.std.proofs.Common.{◌≡◌, ◌≢◌, ℕ, ◌==◌, Bool, true, false, List, [], ◌∷◌, Option, Some, None, refl, ap, sym, ◌∙◌, subst, map, find, if◌then◌else◌, ◌⊎◌, inl, inr}
+use Rattle.std.proofs.Common.{◌≡◌, ◌≢◌, ℕ, ◌==◌, true, List, [], ◌∷◌, Option, Some, None, refl, ap, sym, ◌∙◌, subst, map, find, if◌then◌else◌, ◌⊎◌, inl, inr}
 use Rattle.std.specs.List.{AllByRecursion, cons_option}
 use Rattle.std.proofs.lemmas.Bool.Decides.{eqb_tells}
 use Rattle.engine_text.specs.Owner.{same_owner}
@@ -7,7 +7,8 @@ use Rattle.engine_text.specs.declared.container.Container.{Container}
 use Rattle.engine_text.specs.declared.owner.Owner.{Owner}
 use Rattle.engine_text.specs.declared.owner.Owner.TheVariants.{Container as OfContainer, Exec as OfExec}
 use Rattle.engine_text.specs.declared.step.DueAction.{DueAction}
-use Rattle.container_table.specs.Timers.{is_before, nearer, least_of}
+use Rattle.container_table.specs.Timers.{least}
+use Rattle.container_table.proofs.LeastLemmas.{IsIn, IsLeastOf, least_of_these}
 use Rattle.proc_kernel.specs.Processes.{Process, next_due}
 use Rattle.proc_kernel.specs.Tables.{Entry, process_of, begun}
 use Rattle.machine_model.specs.State.{owner_number}
@@ -17,28 +18,6 @@ use Rattle.container_machine.specs.Dues.{actions_of}
 use Rattle.container_machine.specs.Kept.{HasContainer}
 use Rattle.container_machine.proofs.Updates.{decide}
 use Rattle.container_machine.proofs.Tables.{none_of, owner_is}
-
-abbrev IsIn : DueAction → List DueAction → Type 0
-IsIn d [] = ⊥
-IsIn d (x ∷ xs) = (x ≡ d) ⊎ IsIn d xs
-
-nearer_in : (best : Option DueAction) (x d : DueAction) → nearer best x ≡ Some d → (best ≡ Some d) ⊎ (x ≡ d)
-nearer_in None x d e = inr (some_is x d e)
-  where
-    some_is : (a b : DueAction) → Some a ≡ Some b → a ≡ b
-    some_is a b e = cc
-nearer_in (Some b) x d e = chosen (is_before x b) e
-  where
-    chosen : (t : Bool) → Some (if t then x else b) ≡ Some d → (Some b ≡ Some d) ⊎ (x ≡ d)
-    chosen true e = inr (cc)
-    chosen false e = inl e
-
-least_in : (best : Option DueAction) (ds : List DueAction) (d : DueAction) → least_of best ds ≡ Some d → (best ≡ Some d) ⊎ IsIn d ds
-least_in best [] d e = inl e
-least_in best (x ∷ xs) d e = elim (least_in (nearer best x) xs d e) [
-  | inl h ↦ elim (nearer_in best x d h) [ inl a ↦ inl a | inr b ↦ inr (inl b) ]
-  | inr h ↦ inr (inr h)
-]
 
 -- the process of the container with the action's number, whose op is due then
 pub record Due (ps : List Entry) (d : DueAction) : Type 0 where
@@ -89,11 +68,8 @@ due_of cs (e ∷ ps) d has single h = elim (split_in (owner_number e.owner) (nex
   | inr q ↦ there cs e.owner e.process ps d has.0 single.0 (due_of cs ps d has.1 single.1 q)
 ]
 
-pub least_process : (cs : List Container) (ps : List Entry) (d : DueAction) → AllByRecursion (λ e. HasContainer cs e.owner) ps → AreDistinct (map (λ e. e.owner) ps) → least_of None (actions_of ps) ≡ Some d → Due ps d
-least_process cs ps d has single e = elim (least_in None (actions_of ps) d e) [
-  | inl h ↦ absurd (cc)
-  | inr h ↦ due_of cs ps d has single h
-]
+pub least_process : (cs : List Container) (ps : List Entry) (d : DueAction) → AllByRecursion (λ e. HasContainer cs e.owner) ps → AreDistinct (map (λ e. e.owner) ps) → least (actions_of ps) ≡ Some d → Due ps d
+least_process cs ps d has single e = due_of cs ps d has single (subst (IsLeastOf (actions_of ps)) e (least_of_these (actions_of ps))).0
 
 -- its container stands
 pub container_of : (cs : List Container) (ps : List Entry) (n : ℕ) (p : Process) → AllByRecursion (λ e. HasContainer cs e.owner) ps → process_of (OfContainer n) ps ≡ Some p → (c : Container) × (find (λ x. x.number == n) cs ≡ Some c)

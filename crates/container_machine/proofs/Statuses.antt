@@ -20,7 +20,6 @@ use Rattle.engine_text.specs.declared.container.Found.{Found}
 use Rattle.engine_text.specs.declared.reply.Reply.{Reply}
 use Rattle.engine_text.specs.declared.reply.Reply.TheVariants.{Answer}
 use Rattle.engine_text.specs.declared.status.Status.{Status}
-use Rattle.container_machine.specs.Built.{is_built}
 use Rattle.container_machine.specs.Laws.{is_status_of, BuiltStatusLaw}
 
 -- the reply is an answer of the call's

@@ -1,7 +1,7 @@
 -- What is due of the processes, one after the other (own).
-use Rattle.std.specs.Prelude.{ℕ, List, Option, Some, None}
+use Rattle.std.specs.Prelude.{ℕ, if◌then◌else◌, List, Option, Some, None}
 use Rattle.std.specs.List.{filter_map}
-use Rattle.container_table.specs.Timers.{nearer}
+use Rattle.container_table.specs.Timers.{is_before}
 use Rattle.proc_kernel.specs.Processes.{next_due}
 use Rattle.proc_kernel.specs.Tables.{Entry}
 use Rattle.machine_model.specs.State.{owner_number}
@@ -14,6 +14,11 @@ action_of e = action_at (owner_number e.owner) (next_due e.process)
 
 abbrev pub actions_of : List Entry → List DueAction
 actions_of = filter_map action_of
+
+-- the lesser of the best so far and another
+abbrev pub nearer : Option DueAction → DueAction → Option DueAction
+nearer None d = Some d
+nearer (Some best) d = Some (if is_before d best then d else best)
 
 -- the best so far, after one more process
 abbrev pub further_at : Option DueAction → Option Owner → Option ℕ → Option DueAction

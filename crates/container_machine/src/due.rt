@@ -1,8 +1,8 @@
 // The least of what is due.
 ghost use Rattle.std.specs.Prelude.{◌≡◌, ℕ, ◌+◌, ◌<◌, ◌==◌, List, take, Option, Some, None, length};
-ghost use Rattle.container_table.specs.Timers.{is_before, nearer, least_of};
+ghost use Rattle.container_table.specs.Timers.{is_before, least};
 ghost use Rattle.machine_model.specs.State.{owner_number};
-ghost use Rattle.container_machine.specs.Dues.{actions_of, further_at};
+ghost use Rattle.container_machine.specs.Dues.{actions_of, nearer, further_at};
 
 use engine_text::{DueAction, Owner};
 use proc_kernel::Kernel;
@@ -48,7 +48,7 @@ fn further(best: Option<DueAction>, owner: Option<Owner>, due: Option<u64>) -> O
 
 /// The least of what is due of the processes.
 pub fn least_of(kernel: &Kernel) -> Option<DueAction>
-    ensures { result ≡ least_of None (actions_of kernel.now.processes) }
+    ensures { result ≡ least (actions_of kernel.now.processes) }
 {
     let mut best = None;
     for i in 0..kernel.len() {

@@ -1,1 +1,2 @@
 pub mod TimerFacts
+pub mod LeastLemmas

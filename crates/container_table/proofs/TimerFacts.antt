@@ -1,5 +1,5 @@
 -- Timers by moment, rank and number, worked by hand (own: the timers of this project).
-use Rattle.std.specs.Prelude.{◌≡◌, ℕ, List, [], ◌∷◌, Some, None, refl}
+use Rattle.std.specs.Prelude.{◌≡◌, ℕ, [], ◌∷◌, Some, None, refl}
 use Rattle.engine_text.specs.declared.step.DueAction.{DueAction}
 use Rattle.container_table.specs.Timers.{timer_in, cleared, with_timer, least}
 
@@ -15,6 +15,10 @@ rank_second = refl
 
 number_last : least (timer 5 1 3 ∷ timer 5 1 2 ∷ []) ≡ Some (timer 5 1 2)
 number_last = refl
+
+-- of two that are the same neither comes before the other
+same_twice : least (timer 6 0 0 ∷ timer 5 1 2 ∷ timer 5 1 2 ∷ []) ≡ Some (timer 5 1 2)
+same_twice = refl
 
 none_due : least [] ≡ None
 none_due = refl

@@ -3,7 +3,6 @@ use Rattle.std.specs.Prelude.{ℕ, List, [], ◌∷◌, Option, Some, None, find
 use Rattle.engine_text.specs.Texts.{same_bytes, begins_with, without_slash}
 use Rattle.engine_text.specs.declared.container.Container.{Container}
 use Rattle.engine_text.specs.declared.container.Found.{Found}
-use Rattle.engine_text.specs.declared.container.Found.TheVariants as Found
 
 -- The only one of these, None where there is none, Many where there are several.
 abbrev pub only : List Container → Found

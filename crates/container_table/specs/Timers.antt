@@ -1,5 +1,6 @@
 -- Timers of containers, and the least of what is due (own: in order of moment, rank and number).
-use Rattle.std.specs.Prelude.{ℕ, ◌==◌, ◌&&◌, ◌||◌, nat_lt, List, [], ◌∷◌, ◌++◌, Bool, if◌then◌else◌, Option, Some, None, find}
+use Rattle.std.specs.Prelude.{ℕ, ◌==◌, ◌&&◌, ◌||◌, not, nat_lt, List, [], ◌∷◌, ◌++◌, Bool, Option, find}
+use Rattle.std.specs.List.{list_any}
 use Rattle.container_table.specs.Lists.{remove_first}
 use Rattle.engine_text.specs.declared.step.DueAction.{DueAction}
 
@@ -26,16 +27,6 @@ is_before a b =
     nat_lt a.moment b.moment
     || ((a.moment == b.moment) && (nat_lt a.rank b.rank || ((a.rank == b.rank) && nat_lt a.number b.number)))
 
--- The lesser of the best so far and another.
-abbrev pub nearer : Option DueAction → DueAction → Option DueAction
-nearer None d = Some d
-nearer (Some best) d = Some (if is_before d best then d else best)
-
--- The least of these and the best so far.
-abbrev pub least_of : Option DueAction → List DueAction → Option DueAction
-least_of best [] = best
-least_of best (d ∷ ds) = least_of (nearer best d) ds
-
--- The least of these, found by comparing all.
+-- The least of these: one that none of them comes before.
 abbrev pub least : List DueAction → Option DueAction
-least timers = least_of None timers
+least ds = find (λ d. not (list_any (λ e. is_before e d) ds)) ds

@@ -1,15 +1,14 @@
 -- What a step keeps of a consistent state, whatever its effect: the moment, the tickets, the counts.
-use Rattle.std.specs.Prelude.{◌≡◌, ℕ, ◌+◌, ◌^◌, ◌<◌, ◌≤◌, Bool, true, false, if◌then◌else◌, IsTrue, List, [], ◌∷◌, Option, Some, None, map, length, refl}
+use Rattle.std.specs.Prelude.{◌≡◌, ℕ, suc, ◌+◌, ◌^◌, ◌<◌, ◌≤◌, false, IsTrue, List, [], ◌∷◌, Option, Some, None, map, length, refl}
 use Rattle.std.specs.List.{AllByRecursion}
-use Rattle.std.proofs.Common.{ap, sym, arith, subst}
+use Rattle.std.proofs.Common.{ap, sym, ◌∙◌, arith, subst}
 use Rattle.std.proofs.lemmas.List.{length-map}
 use Rattle.std.proofs.lemmas.Bool.{leb-false}
-use Rattle.std.proofs.lemmas.Bool.Decides.{nat_tests}
 use Rattle.std.proofs.Math.Nat.{min-le_right}
-use Rattle.container_table.specs.Timers.{is_before, nearer, least_of}
+use Rattle.container_table.proofs.LeastLemmas.{least_from}
 use Rattle.machine_model.specs.State.{State, container_numbered}
 use Rattle.machine_model.specs.Chain.{Died}
-use Rattle.machine_model.specs.Due.{due_actions, least_due}
+use Rattle.machine_model.specs.Due.{due_actions}
 use Rattle.machine_model.specs.Step.{at_moment, counted}
 use Rattle.machine_model.specs.History.{greatest_moment, is_by, is_due, IsTimely}
 use Rattle.machine_model.specs.Effects.Settle.{settled, settle_tickets, reply_by}
@@ -17,7 +16,6 @@ use Rattle.machine_model.specs.Consistency.{AreDistinct, is_there, HasNames, Has
 use Rattle.machine_model.proofs.ListLemmas.{all_weaken}
 use Rattle.engine_text.specs.declared.event.Event.{Event}
 use Rattle.engine_text.specs.declared.reply.Reply.{Reply}
-use Rattle.engine_text.specs.declared.step.DueAction.{DueAction}
 use Rattle.engine_text.specs.declared.ticket.Ticket.{Ticket}
 
 -- ---- tickets
@@ -104,39 +102,9 @@ finished-consistent s events calls died names processes timers volumes tickets l
 
 -- ---- the beginning of a step
 
--- the action, if there is one, is due later
-abbrev pub IsLater : Option DueAction → ℕ → Type 0
-IsLater None t = Unit {0}
-IsLater (Some d) t = t < d.moment
-
-before_moment : (d b : DueAction) → is_before d b ≡ true → d.moment ≤ b.moment
-before_moment d b e = grind (arith, nat_tests, e)
-
-not_before_moment : (d b : DueAction) → is_before d b ≡ false → b.moment ≤ d.moment
-not_before_moment d b e = grind (arith, nat_tests, e)
-
-nearer_by : (x : Bool) (d b : DueAction) (t : ℕ) → is_before d b ≡ x → t < (if x then d else b).moment → (t < b.moment) × (t < d.moment)
-nearer_by true d b t e low = (omega (arith, before_moment d b e, low), low)
-nearer_by false d b t e low = (low, omega (arith, not_before_moment d b e, low))
-
-nearer_later : (best : Option DueAction) (d : DueAction) (t : ℕ) → IsLater (nearer best d) t → IsLater best t × (t < d.moment)
-nearer_later None d t low = (tt, low)
-nearer_later (Some b) d t low = nearer_by (is_before d b) d b t refl low
-
-least_later : (ds : List DueAction) (best : Option DueAction) (t : ℕ) → IsLater (least_of best ds) t → IsLater best t × AllByRecursion (λ d. t < d.moment) ds
-least_later [] best t low = (low, tt)
-least_later (d ∷ ds) best t low =
-    let rest = least_later ds (nearer best d) t low in
-    let both = nearer_later best d t rest.0 in
-    (both.0, (both.1, rest.1))
-
-is_later : (o : Option DueAction) (t : ℕ) → is_by o t ≡ false → IsLater o t
-is_later None t e = tt
-is_later (Some d) t e = leb-false d.moment t e
-
 -- where nothing is due at or before a moment, each due moment lies behind it
 pub dues_later : (s : State) (t : ℕ) → is_due s t ≡ false → AllByRecursion (λ d. t < d.moment) (due_actions s)
-dues_later s t e = (least_later (due_actions s) None t (is_later (least_due s) t e)).1
+dues_later s t e = least_from (suc t) (due_actions s) (λ d is. leb-false d.moment t (ap (λ o. is_by o t) (sym is) ∙ e))
 
 pub moved-limits : (s : State) (t : ℕ) → IsWithinLimits s → IsTimely s t → IsWithinLimits (at_moment t s)
 moved-limits s t h timely = record {
