@@ -1,10 +1,11 @@
 -- The lines of events (Docker Engine API v1.43, SystemEvents, definition EventMessage; own: the bound of moments).
-use Rattle.std.specs.Prelude.{◌≡◌, ◌≢◌, ℕ, ◌/◌, ◌*◌, ◌≤◌, List, codes, Option, true, option_map, option_and_then, IsUtf8, ⊤}
+use Rattle.std.specs.Prelude.{◌≡◌, ◌≢◌, ℕ, ◌/◌, ◌*◌, ◌≤◌, List, codes, Option, Some, true, option_map, option_and_then, IsUtf8, ⊤}
 use Rattle.serde_json.specs.Data.{Data, object, no_members, member, Members}
 use Rattle.serde_json.specs.Find.{get, as_str, as_object, as_number, as_u64}
 use Rattle.json_laws.specs.Sound.{line_text}
 use Rattle.engine_text.specs.Pairs.{ArePairsUtf8}
 use Rattle.engine_text.specs.declared.event.Event.{Event}
+use Rattle.engine_text.specs.declared.pairs.Pair.{Pair}
 pub use Rattle.api_json.specs.EventRules.{kind_word, action_word}
 use Rattle.api_json.specs.EventRules.{kind_of, action_of, attributes_fit}
 use Rattle.api_json.specs.Lists.{pairs_of_members}
@@ -48,18 +49,29 @@ abbrev pub IsLineRefusal : List ℕ → Refused → Type 0
 IsLineRefusal line (BadBody fault) = (fault ≡ BadEventLine) × ((e : Event) → IsLine e → event_line_text e ≢ line)
 IsLineRefusal line NoMemory = ⊤
 
--- the event of data
+-- what comes of a part, where it is there
+abbrev pub if_there : {A B : Type 0} → Option A → (A → Option B) → Option B
+if_there part next = option_and_then next part
+
+-- the text at a key
+abbrev pub text_at : List ℕ → Data → Option (List ℕ)
+text_at key d = option_and_then as_str (get key d)
+
+-- the attributes that an actor tells
+abbrev pub attributes_at : Data → Option (List Pair)
+attributes_at actor = option_and_then pairs_of_members (option_and_then as_object (get (codes "Attributes") actor))
+
+-- the moment of an event, told in nanoseconds
+abbrev pub moment_at : Data → Option ℕ
+moment_at d = option_map (λ nanos. nanos / 1_000_000) (option_and_then as_u64 (option_and_then as_number (get (codes "timeNano") d)))
+
+-- the event that data tells: its action, its actor's attributes and id, its kind and its moment, none of them absent
 abbrev pub event_of : Data → Option Event
 event_of d =
-    option_and_then (λ action.
-    option_and_then (λ actor.
-    option_and_then (λ attributes.
-    option_and_then (λ id.
-    option_and_then (λ kind.
-    option_map (λ nanos. record { kind = kind; action = action; id = id; attributes = attributes; moment = nanos / 1_000_000 })
-    (option_and_then as_u64 (option_and_then as_number (get (codes "timeNano") d))))
-    (option_and_then kind_of (option_and_then as_str (get (codes "Type") d))))
-    (option_and_then as_str (get (codes "ID") actor)))
-    (option_and_then pairs_of_members (option_and_then as_object (get (codes "Attributes") actor))))
-    (get (codes "Actor") d))
-    (option_and_then action_of (option_and_then as_str (get (codes "Action") d)))
+    if_there (option_and_then action_of (text_at (codes "Action") d)) (λ action.
+    if_there (get (codes "Actor") d) (λ actor.
+    if_there (attributes_at actor) (λ attributes.
+    if_there (text_at (codes "ID") actor) (λ id.
+    if_there (option_and_then kind_of (text_at (codes "Type") d)) (λ kind.
+    if_there (moment_at d) (λ moment.
+    Some (record { kind = kind; action = action; id = id; attributes = attributes; moment = moment })))))))
