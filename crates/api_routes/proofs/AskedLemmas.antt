@@ -1,6 +1,7 @@
 -- A call that is asked and served is a create, a start or an inspect, and what its request says.
 use Rattle.std.proofs.Common.{◌≡◌, ℕ, List, [], ◌∷◌, Bool, true, false, cond, not, true≢false, codes, unwrap_or, Result, Ok, Err, Option, Some, None, refl, sym, ap, subst, ◌∙◌, ◌&&◌}
 use Rattle.engine_text.specs.Name.{is_name}
+use Rattle.engine_text.specs.Policy.{is_no}
 use Rattle.engine_text.specs.declared.call.Call.{Call}
 use Rattle.engine_text.specs.declared.call.Call.TheVariants as call
 use Rattle.engine_text.specs.declared.call.CreateSpec.{CreateSpec}
@@ -20,7 +21,7 @@ use Rattle.api_json.specs.VolumeCreate.{volume_of}
 use Rattle.api_routes.specs.Query.{value_or_empty}
 use Rattle.api_routes.specs.Path.{query_of}
 use Rattle.api_routes.specs.RouteClass.{Asked, route_class, ask, in_chunks, takeover, exec_start_class}
-use Rattle.api_routes.specs.Built.{is_built, is_built_create, is_no_policy, has_none}
+use Rattle.api_routes.specs.Built.{is_built, is_built_create, has_none}
 use Rattle.api_routes.specs.Class.{class_of}
 use Rattle.api_routes.specs.Sound.{IsWithin}
 use Rattle.api_routes.specs.Laws.{IsAsked, IsAskedCreate, IsFor, IsNamed}
@@ -140,7 +141,7 @@ no-mounts : (mounts : List Mount) → has_none mounts ≡ true → mounts ≡ []
 no-mounts [] h = refl
 no-mounts (m ∷ ms) h = absurd (true≢false (sym h))
 
-no-policy : (policy : Policy) → is_no_policy policy ≡ true → policy ≡ No
+no-policy : (policy : Policy) → is_no policy ≡ true → policy ≡ No
 no-policy No h = refl
 no-policy Always h = absurd (true≢false (sym h))
 no-policy UnlessStopped h = absurd (true≢false (sym h))
@@ -177,8 +178,8 @@ read-create r c h served =
     let spec : CreateSpec = record b.0 { name = n.0 } in
     let same : call.Create spec ≡ c = cc in
     let built : is_built_create spec ≡ true = ap is_built same ∙ served in
-    let p = both (has_none spec.mounts && is_no_policy spec.policy) (not spec.open_stdin) built in
-    let q = both (has_none spec.mounts) (is_no_policy spec.policy) p.0 in
+    let p = both (has_none spec.mounts && is_no spec.policy) (not spec.open_stdin) built in
+    let q = both (has_none spec.mounts) (is_no spec.policy) p.0 in
     let asked : IsAskedCreate r spec = record {
       given = b.0;
       body = of-read _ b.0 b.1;

@@ -1,29 +1,23 @@
 -- Which calls are served (own: a call that isn't is answered 501 "not built").
 use Rattle.std.specs.Prelude.{Bool, true, false, ◌&&◌, not, List, [], ◌∷◌, Result, Ok, Err, if◌then◌else◌}
+use Rattle.engine_text.specs.Policy.{is_no}
 use Rattle.engine_text.specs.declared.call.Call.{Call}
 use Rattle.engine_text.specs.declared.call.Call.TheVariants as call
 use Rattle.engine_text.specs.declared.call.CreateSpec.{CreateSpec}
 use Rattle.engine_text.specs.declared.mounts.Mount.{Mount}
-use Rattle.engine_text.specs.declared.policy.Policy.{Policy}
-use Rattle.engine_text.specs.declared.policy.Policy.TheVariants.{No, Always, UnlessStopped, OnFailure}
 use Rattle.api_routes.specs.declared.class.Class.{Class}
 use Rattle.api_routes.specs.declared.class.Class.TheVariants.{Direct, Ask, Stream}
 use Rattle.api_routes.specs.declared.fault.Fault.{Fault}
 use Rattle.api_routes.specs.declared.fault.Fault.TheVariants.{NotBuilt}
 
-abbrev pub is_no_policy : Policy → Bool
-is_no_policy No = true
-is_no_policy Always = false
-is_no_policy UnlessStopped = false
-is_no_policy (OnFailure most) = false
-
+-- it has no mounts
 abbrev pub has_none : List Mount → Bool
 has_none [] = true
 has_none (mount ∷ mounts) = false
 
 -- without mounts, restart policy and open standard input
 abbrev pub is_built_create : CreateSpec → Bool
-is_built_create spec = has_none spec.mounts && is_no_policy spec.policy && not spec.open_stdin
+is_built_create spec = has_none spec.mounts && is_no spec.policy && not spec.open_stdin
 
 abbrev pub is_built : Call → Bool
 is_built (call.Create spec) = is_built_create spec

@@ -5,23 +5,13 @@ ghost use Rattle.api_routes.specs.Reading.{Reads};
 
 use crate::refused::Refused;
 use crate::{Class, Fault};
-use engine_text::{Call, CreateSpec, Policy};
-
-// Whether it is the policy that never restarts.
-fn is_no_policy(policy: &Policy) -> bool
-    ensures { result ≡ built.is_no_policy policy.now }
-{
-    match policy {
-        Policy::No => true,
-        Policy::Always | Policy::UnlessStopped | Policy::OnFailure(_) => false,
-    }
-}
+use engine_text::{Call, CreateSpec};
 
 // Whether a create is served.
 fn is_built_create(spec: &CreateSpec) -> bool
     ensures { result ≡ built.is_built_create spec.now }
 {
-    spec.mounts.as_slice().is_empty() && is_no_policy(&spec.policy) && !spec.open_stdin
+    spec.mounts.as_slice().is_empty() && spec.policy.is_no() && !spec.open_stdin
 }
 
 // Whether a call is served.

@@ -4,12 +4,13 @@ use Rattle.machine_model.specs.State.{State}
 use Rattle.machine_model.specs.EventTexts.{plain_event}
 use Rattle.machine_model.specs.Soundness.{is_full}
 use Rattle.machine_model.specs.Calls.Create.{add}
+use Rattle.engine_text.specs.Policy.{is_no}
 use Rattle.engine_text.specs.declared.container.Container.{Container}
 use Rattle.engine_text.specs.declared.event.Event.{Event}
 use Rattle.engine_text.specs.declared.event.Action.TheVariants.{Create}
 use Rattle.engine_text.specs.declared.call.CreateSpec.{CreateSpec}
 use Rattle.container_machine.specs.Prepared.{with_bare}
-use Rattle.container_machine.specs.Built.{is_built_create, is_no_policy}
+use Rattle.container_machine.specs.Built.{is_built_create}
 
 pub added : (c : Container) (s : State) (e : Event) → c.life.mounts ≡ [] → e ≡ plain_event Create c s.clock
     → record { state = with_bare c s; events = e ∷ []; died = [] } ≡ add c s
@@ -20,4 +21,4 @@ empty [] b h = refl
 empty (x ∷ xs) b h = absurd (cc)
 
 pub no_mounts : (spec : CreateSpec) → IsTrue (is_built_create spec) → spec.mounts ≡ []
-no_mounts spec h = empty spec.mounts (is_no_policy spec.policy) h
+no_mounts spec h = empty spec.mounts (is_no spec.policy) h

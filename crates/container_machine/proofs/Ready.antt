@@ -2,6 +2,7 @@
 use Rattle.std.proofs.Common.{◌≡◌, ℕ, ◌+◌, ◌==◌, Bool, true, false, List, [], ◌∷◌, if◌then◌else◌, Option, Some, None, IsTrue, refl, ap, sym, ◌∙◌, subst, arith, ◌&&◌, find, inl, inr}
 use Rattle.std.proofs.lemmas.Bool.Decides.{nat_tests, eqb_tells}
 use Rattle.std.specs.List.{AllByRecursion}
+use Rattle.engine_text.specs.Policy.{is_no}
 use Rattle.engine_text.specs.Scripts.{Program}
 use Rattle.proc_kernel.specs.Catalogue.{program_of}
 use Rattle.proc_kernel.specs.Processes.{Process, next_due}
@@ -30,7 +31,7 @@ use Rattle.engine_text.specs.declared.event.Action.TheVariants.{Create, Start}
 use Rattle.engine_text.specs.declared.owner.Owner.TheVariants.{Container as OfContainer}
 use Rattle.engine_text.specs.declared.policy.Policy.{Policy}
 use Rattle.engine_text.specs.declared.status.Status.{Status}
-use Rattle.container_machine.specs.Built.{is_built, is_built_create, is_no_policy}
+use Rattle.container_machine.specs.Built.{is_built, is_built_create}
 use Rattle.container_machine.specs.Kept.{IsKept, IsKeptContainer, IsKeptMain, HasMain, is_idle, IsUndue}
 use Rattle.container_machine.specs.Launched.{launched_in}
 use Rattle.container_machine.specs.Memory.{Memory, IsRoomy}
@@ -49,7 +50,7 @@ KeepsBy o = IsKept (finished 1 o.effect).state
 pub kept_same : (s : State) (t : ℕ) → IsKept s → IsNext s t → IsKept (finished 1 (record { state = at_moment t s; events = []; died = [] })).state
 kept_same s t k n = finish 1 (record { state = at_moment t s; events = []; died = [] }) (omega arith) (tables_at s t k n) (may_count s t 0 (omega arith) k n)
 
-no_policy : (p : Policy) → is_no_policy p ≡ true → p ≡ Policy.No
+no_policy : (p : Policy) → is_no p ≡ true → p ≡ Policy.No
 no_policy Policy.No e = refl
 no_policy Policy.Always e = absurd (cc)
 no_policy Policy.UnlessStopped e = absurd (cc)

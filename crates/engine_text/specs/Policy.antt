@@ -1,9 +1,16 @@
 -- Restart policies by their names (Docker Engine API v1.43, definition RestartPolicy).
-use Rattle.std.specs.Prelude.{ℕ, ℤ, pos, negsuc, ◌==◌, nat_le, List, codes, Result, Ok, Err, if◌then◌else◌, ◌||◌}
+use Rattle.std.specs.Prelude.{ℕ, ℤ, pos, negsuc, Bool, true, false, ◌==◌, nat_le, List, codes, Result, Ok, Err, if◌then◌else◌, ◌||◌}
 use Rattle.engine_text.specs.declared.policy.Policy.{Policy}
 use Rattle.engine_text.specs.declared.policy.Policy.TheVariants.{No, Always, UnlessStopped, OnFailure}
 use Rattle.engine_text.specs.declared.policy.Bad.{Bad}
 use Rattle.engine_text.specs.Texts.{same_bytes}
+
+-- the policy that never restarts
+abbrev pub is_no : Policy → Bool
+is_no No = true
+is_no Always = false
+is_no UnlessStopped = false
+is_no (OnFailure most) = false
 
 -- neither name nor maximum is another
 abbrev pub bad : Bad
