@@ -3,6 +3,7 @@ ghost use Rattle.std.specs.Prelude.{◌≡◌, ◌==◌, false, refl, IsFalse, I
 ghost use Rattle.session_model.specs.Pass.{IsConnection};
 ghost use Rattle.session_model.specs.Turning.{Turn};
 ghost use Rattle.engine_serve.specs.Passing.{whole_pass};
+ghost use Rattle.engine_serve.proofs.DaemonLemmas.{stands};
 ghost use Rattle.engine_conformance.specs.Other.{nameless};
 
 use engine_serve::daemon::{Daemon, Turns};
@@ -76,7 +77,7 @@ impl Turns for Crowd {
         self.daemon.turn(alloc, conn, handed, call)
     }
 
-    ghost sound = { λ a. a.daemon.legal };
+    ghost sound = { λ a. (stands a.daemon).legal };
 
     ghost counted = { λ a. refl };
 }
