@@ -1,7 +1,9 @@
--- What adapters over a reader and a writer do (own: where these tell their bytes, as the standard
--- library's readers and writers in memory do).
-use Rattle.std.specs.Prelude.{ℕ, List, [], take, Option, None, Result, Ok, Err}
+-- What adapters over a reader, a writer and the system's clock do (own: where reader and writer tell their
+-- bytes, as the standard library's readers and writers in memory do).
+use Rattle.std.specs.Prelude.{ℕ, ◌-◌, ◌/◌, ◌^◌, min, List, [], take, Option, None, Result, Ok, Err}
 use Rattle.std.specs.Io.KnownBytes.{Appends, Consumes, Keeps, IsAtEnd}
+use Rattle.std.specs.Time.{system_time_nanos}
+use Rattle.std.specs.declared.time.SystemTime.{SystemTime}
 use Rattle.engine_ports.specs.Source.{SourceView}
 use Rattle.engine_ports.specs.Sink.{SinkView, IsFront}
 use Rattle.engine_ports.specs.declared.adapters.input.ReadSource.{ReadSource}
@@ -34,3 +36,9 @@ ReaderGave got.Failed into left left' = Keeps left left'
 abbrev pub WriterTook : Result (Unit {0}) Failed → List ℕ → Option (List ℕ) → Option (List ℕ) → Type 0
 WriterTook (Ok x) piece held held' = Appends held held' piece
 WriterTook (Err x) piece held held' = (part : List ℕ) × IsFront part piece × Appends held held' part
+
+-- the moment of what the system answered, in whole milliseconds since 1970, as far as 64 bits tell them;
+-- where it has no answer, the moment before
+abbrev pub moment_of : {E : Type 0} → Result SystemTime E → ℕ → ℕ
+moment_of (Ok now) before = min (system_time_nanos now / 1_000_000) (2 ^ 64 - 1)
+moment_of (Err error) before = before

@@ -1,10 +1,11 @@
 // The clock of the system.
 ghost use Rattle.std.specs.Prelude.{◌≡◌};
+ghost use Rattle.engine_ports.specs.Adapters.{moment_of};
 ghost use Rattle.engine_ports.specs.Clock.{untold_clock};
 
 use crate::{Clock, Pause};
-use std::thread;
 use std::time::{self, Duration, SystemTime, UNIX_EPOCH};
+use std::{io, thread};
 
 /// The system's clock, in milliseconds since 1970. It tells no moments and never stops.
 #[derive(Drop)]
@@ -12,6 +13,19 @@ pub struct SystemClock<C> {
     clock: C,
     last: u64,
     stops: u64,
+}
+
+// The moment of what the system answered; where it has no answer, the moment before.
+fn moment_of(answer: io::Result<SystemTime>, before: u64) -> u64
+    ensures { result ≡ moment_of answer before }
+{
+    let Ok(now) = answer else {
+        return before;
+    };
+    match now.duration_since(UNIX_EPOCH) {
+        Ok(since) => u64::try_from(since.as_millis()).unwrap_or(u64::MAX),
+        Err(_) => before,
+    }
 }
 
 impl<C: time::Clock + Copy + Send> SystemClock<C> {
@@ -32,13 +46,8 @@ impl<C: time::Clock + Copy + Send> Clock for SystemClock<C> {
 
     ghost times = { λ s. record { moments = None; stops = s.stops } };
 
-    // Where the system has no answer, the moment before.
     fn now(&mut self) -> u64 {
-        if let Ok(now) = SystemTime::now(&self.clock)
-            && let Ok(since) = now.duration_since(UNIX_EPOCH)
-        {
-            self.last = u64::try_from(since.as_millis()).unwrap_or(u64::MAX);
-        }
+        self.last = moment_of(SystemTime::now(&self.clock), self.last);
         self.last
     }
 
