@@ -1,4 +1,4 @@
--- A call that is asked and served is a create, a start or an inspect, and what its request says.
+-- A call that is asked and served is a create, a start, an inspect or a list, and what its request says.
 use Rattle.std.proofs.Common.{◌≡◌, ℕ, List, [], ◌∷◌, Bool, true, false, cond, not, true≢false, codes, unwrap_or, Result, Ok, Err, Option, Some, None, refl, sym, ap, subst, ◌∙◌, ◌&&◌}
 use Rattle.engine_text.specs.Name.{is_name}
 use Rattle.engine_text.specs.Policy.{is_no}
@@ -15,7 +15,7 @@ use Rattle.http_edge.specs.Message.{Request}
 use Rattle.http_edge.specs.Asks.{asks_upgrade}
 use Rattle.api_routes.specs.Fault.{and_then}
 use Rattle.api_routes.specs.Keys.{flag, create_name, optional_name, new_name, signal_in, kill_signal, seconds_in, limit_in, condition_in}
-use Rattle.api_routes.specs.Calls.{of_body, filters_in, create_call, logs_call, attach_ask, events_call, list_keys}
+use Rattle.api_routes.specs.Calls.{of_body, filters_in, create_call, list_call, logs_call, attach_ask, events_call, list_keys}
 use Rattle.api_json.specs.ExecCreate.{exec_of, exec_start_of}
 use Rattle.api_json.specs.VolumeCreate.{volume_of}
 use Rattle.api_routes.specs.Query.{value_or_empty}
@@ -24,7 +24,7 @@ use Rattle.api_routes.specs.RouteClass.{Asked, route_class, ask, in_chunks, take
 use Rattle.api_routes.specs.Built.{is_built, is_built_create, has_none}
 use Rattle.api_routes.specs.Class.{class_of}
 use Rattle.api_routes.specs.Sound.{IsWithin}
-use Rattle.api_routes.specs.Laws.{IsAsked, IsAskedCreate, IsFor, IsNamed}
+use Rattle.api_routes.specs.Laws.{IsAsked, IsAskedCreate, IsAskedList, IsFor, IsNamed}
 use Rattle.api_json.proofs.CreateLemmas.{create_signal, create_seconds, create_labels_rise}
 use Rattle.api_routes.specs.declared.class.Class.{Class}
 use Rattle.api_routes.specs.declared.class.Class.TheVariants.{Ask, Stream}
@@ -37,6 +37,7 @@ use Rattle.api_routes.specs.declared.route.Route.TheVariants as to
 use Rattle.api_routes.specs.Routes.{method_of}
 use Rattle.api_routes.proofs.ClassLemmas.{went-on, asked-by, IsReadAs}
 use Rattle.api_routes.proofs.ParameterLemmas.{has_name, name-given}
+use Rattle.api_routes.proofs.ListLemmas.{list-within}
 
 -- a call of these parts isn't served
 one-more : {A : Type 0} (e : Result A Fault) (f : A → Call) (c : Call) → ((x : A) → is_built (f x) ≡ false) → and_then e (λ x. Ok (f x)) ≡ Ok c → is_built c ≡ false
@@ -74,52 +75,52 @@ abbrev pub IsReadBy : Route → Asked → Call → Type 0
 IsReadBy to.Create a c = create_call a.query a.body ≡ Ok c
 IsReadBy to.Start a c = call.Start a.name ≡ c
 IsReadBy to.Inspect a c = call.Inspect a.name ≡ c
+IsReadBy to.List a c = list_call a.query ≡ Ok c
 IsReadBy route a c = ⊥
 
 -- no other route asks for one
-pub only-three : (route : Route) (a : Asked) (c : Call) → route_class route a ≡ Ok (Ask c) → is_built c ≡ true → IsReadBy route a c
-only-three to.Create a c h b = asked (create_call a.query a.body) c h
-only-three to.Ping a c h b = cc
-only-three to.PingHead a c h b = cc
-only-three to.Version a c h b = cc
-only-three to.List a c h b =
-    absurd (never c (two-more (limit_in a.query) (filters_in list_keys a.query) (λ limit filter. call.List (flag (codes "all") a.query) limit filter) c (λ x y. refl) (asked _ c h)) b)
-only-three to.Inspect a c h b = cc
-only-three to.Start a c h b = cc
-only-three to.Stop a c h b =
+pub only-built : (route : Route) (a : Asked) (c : Call) → route_class route a ≡ Ok (Ask c) → is_built c ≡ true → IsReadBy route a c
+only-built to.Create a c h b = asked (create_call a.query a.body) c h
+only-built to.Ping a c h b = cc
+only-built to.PingHead a c h b = cc
+only-built to.Version a c h b = cc
+only-built to.List a c h b = asked (list_call a.query) c h
+only-built to.Inspect a c h b = cc
+only-built to.Start a c h b = cc
+only-built to.Stop a c h b =
     absurd (never c (two-more (seconds_in a.query) (signal_in a.query) (λ wait signal. call.Stop a.name wait signal) c (λ x y. refl) (asked _ c h)) b)
-only-three to.Restart a c h b =
+only-built to.Restart a c h b =
     absurd (never c (two-more (seconds_in a.query) (signal_in a.query) (λ wait signal. call.Restart a.name wait signal) c (λ x y. refl) (asked _ c h)) b)
-only-three to.Kill a c h b =
+only-built to.Kill a c h b =
     absurd (never c (one-more (signal_in a.query) (λ signal. call.Kill a.name (unwrap_or signal kill_signal)) c (λ x. refl) (asked _ c h)) b)
-only-three to.Pause a c h b = let same : call.Pause a.name ≡ c = cc in absurd (never c (ap is_built (sym same)) b)
-only-three to.Unpause a c h b = let same : call.Unpause a.name ≡ c = cc in absurd (never c (ap is_built (sym same)) b)
-only-three to.Rename a c h b = absurd (never c (one-more (new_name a.query) (λ name. call.Rename a.name name) c (λ x. refl) (asked _ c h)) b)
-only-three to.Wait a c h b = absurd (never c (one-more (condition_in a.query) (λ until. call.Wait a.name until) c (λ x. refl) (asked _ c h)) b)
-only-three to.Remove a c h b = absurd (never c (by (flag (codes "link") a.query) (asked _ c h)) b)
+only-built to.Pause a c h b = let same : call.Pause a.name ≡ c = cc in absurd (never c (ap is_built (sym same)) b)
+only-built to.Unpause a c h b = let same : call.Unpause a.name ≡ c = cc in absurd (never c (ap is_built (sym same)) b)
+only-built to.Rename a c h b = absurd (never c (one-more (new_name a.query) (λ name. call.Rename a.name name) c (λ x. refl) (asked _ c h)) b)
+only-built to.Wait a c h b = absurd (never c (one-more (condition_in a.query) (λ until. call.Wait a.name until) c (λ x. refl) (asked _ c h)) b)
+only-built to.Remove a c h b = absurd (never c (by (flag (codes "link") a.query) (asked _ c h)) b)
   where
     by : (v : Bool) → cond v (Err LinksLeftOut) (Ok (call.Remove a.name (flag (codes "force") a.query))) ≡ Ok c → is_built c ≡ false
     by true e = let no : ⊥ = cc in absurd no
     by false e = let same : call.Remove a.name (flag (codes "force") a.query) ≡ c = cc in ap is_built (sym same)
-only-three to.Logs a c h b = absurd (chunks (logs_call a.name a.query) c h)
-only-three to.Attach a c h b = absurd (streams (call.Attach a.name (attach_ask a.query)) c (takeover a.upgrade) h)
-only-three to.ExecCreate a c h b =
+only-built to.Logs a c h b = absurd (chunks (logs_call a.name a.query) c h)
+only-built to.Attach a c h b = absurd (streams (call.Attach a.name (attach_ask a.query)) c (takeover a.upgrade) h)
+only-built to.ExecCreate a c h b =
     absurd (never c (one-more (of_body (exec_of a.body)) (λ exec. call.ExecCreate a.name exec.words exec.stdin exec.out exec.err) c (λ x. refl) (asked _ c h)) b)
-only-three to.ExecStart a c h b =
+only-built to.ExecStart a c h b =
     let w = went-on (of_body (exec_start_of a.body)) _ (Ask c) h in
     absurd (never c (by w.0 (same-class _ _ w.2)) b)
   where
     by : (detach : Bool) → exec_start_class a.name a.upgrade detach ≡ Ask c → is_built c ≡ false
     by true e = let same : call.ExecStart a.name true ≡ c = cc in ap is_built (sym same)
     by false e = absurd (is-stream _ _ _ e)
-only-three to.ExecInspect a c h b = let same : call.ExecInspect a.name ≡ c = cc in absurd (never c (ap is_built (sym same)) b)
-only-three to.VolumeList a c h b = absurd (never c (one-more (filters_in (key.Name ∷ []) a.query) (λ filter. call.VolumeList filter) c (λ x. refl) (asked _ c h)) b)
-only-three to.VolumeCreate a c h b =
+only-built to.ExecInspect a c h b = let same : call.ExecInspect a.name ≡ c = cc in absurd (never c (ap is_built (sym same)) b)
+only-built to.VolumeList a c h b = absurd (never c (one-more (filters_in (key.Name ∷ []) a.query) (λ filter. call.VolumeList filter) c (λ x. refl) (asked _ c h)) b)
+only-built to.VolumeCreate a c h b =
     absurd (never c (one-more (of_body (volume_of a.body)) (λ volume. call.VolumeCreate volume.name volume.labels) c (λ x. refl) (asked _ c h)) b)
-only-three to.VolumeInspect a c h b = let same : call.VolumeInspect a.name ≡ c = cc in absurd (never c (ap is_built (sym same)) b)
-only-three to.VolumeRemove a c h b = let same : call.VolumeRemove a.name ≡ c = cc in absurd (never c (ap is_built (sym same)) b)
-only-three to.Events a c h b = absurd (chunks (events_call a.query) c h)
-only-three to.Journal a c h b = absurd (streams call.JournalRead c takes.None h)
+only-built to.VolumeInspect a c h b = let same : call.VolumeInspect a.name ≡ c = cc in absurd (never c (ap is_built (sym same)) b)
+only-built to.VolumeRemove a c h b = let same : call.VolumeRemove a.name ≡ c = cc in absurd (never c (ap is_built (sym same)) b)
+only-built to.Events a c h b = absurd (chunks (events_call a.query) c h)
+only-built to.Journal a c h b = absurd (streams call.JournalRead c takes.None h)
 
 -- what a name that was read is
 pub name-read : (query name : List ℕ) → create_name query ≡ Ok (Some name) → is_name name ≡ true
@@ -204,6 +205,24 @@ read-name r c w has = record {
   given = name-given (method_of r.method) w.path w.route w.name has w.fits w.named;
 }
 
+-- a list that is read
+read-list : (r : Request) (c : Call) (w : IsReadAs r.method r.target r.body (asks_upgrade r) (Ask c)) → w.route ≡ to.List
+    → list_call (query_of r.target) ≡ Ok c → IsAsked r c
+read-list r c w is h =
+    let l = went-on (limit_in (query_of r.target)) _ c h in
+    let f = went-on (filters_in list_keys (query_of r.target)) _ c l.2 in
+    let same : call.List (flag (codes "all") (query_of r.target)) l.0 f.0 ≡ c = cc in
+    let asked : IsAskedList r (flag (codes "all") (query_of r.target)) l.0 f.0 = record {
+      path = w.path;
+      behind = w.behind;
+      fits = w.fits ∙ ap Some is;
+      told_all = refl;
+      told_limit = l.1;
+      told_filter = f.1;
+      within = list-within (query_of r.target) l.0 f.0 l.1 (of-read _ f.0 f.1);
+    } in
+    subst (IsAsked r) same asked
+
 -- what a call that is asked and served is
 asked-as : (r : Request) (c : Call) (w : IsReadAs r.method r.target r.body (asks_upgrade r) (Ask c)) (route : Route) → w.route ≡ route
     → IsReadBy route (record { name = w.name; query = query_of r.target; body = r.body; upgrade = asks_upgrade r }) c
@@ -213,10 +232,11 @@ asked-as r c w to.Start is h served =
     subst (IsAsked r) h (subst (λ route. IsFor r route w.name) is (read-name r c w (ap has_name is)))
 asked-as r c w to.Inspect is h served =
     subst (IsAsked r) h (subst (λ route. IsFor r route w.name) is (read-name r c w (ap has_name is)))
+asked-as r c w to.List is h served = read-list r c w is h
 asked-as r c w route is h served = absurd h
 
 -- each call that is asked
 pub asked-call : (r : Request) (c : Call) → class_of r ≡ Ask c → IsAsked r c
 asked-call r c h =
     let w = asked-by r c h in
-    asked-as r c w.0 w.0.route refl (only-three w.0.route _ c w.0.reads w.1) w.1
+    asked-as r c w.0 w.0.route refl (only-built w.0.route _ c w.0.reads w.1) w.1

@@ -23,6 +23,7 @@ abbrev pub is_built : Call → Bool
 is_built (call.Create spec) = is_built_create spec
 is_built (call.Start target) = true
 is_built (call.Inspect target) = true
+is_built (call.List all limit filter) = true
 is_built _ = false
 
 -- a class whose call is served

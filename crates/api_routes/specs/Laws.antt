@@ -1,9 +1,10 @@
 -- What the class of a request tells of its call (own).
-use Rattle.std.specs.Prelude.{◌≡◌, ◌≢◌, ◌==◌, ◌||◌, ℕ, Bool, IsTrue, List, [], false, Option, Some, None, Ok}
+use Rattle.std.specs.Prelude.{◌≡◌, ◌≢◌, ◌==◌, ◌||◌, ℕ, Bool, IsTrue, List, [], codes, false, Option, Some, None, Ok}
 use Rattle.engine_text.specs.Name.{is_name}
 use Rattle.engine_text.specs.declared.call.Call.{Call}
 use Rattle.engine_text.specs.declared.call.Call.TheVariants as call
 use Rattle.engine_text.specs.declared.call.CreateSpec.{CreateSpec}
+use Rattle.engine_text.specs.declared.filter.FilterRow.{FilterRow}
 use Rattle.engine_text.specs.declared.policy.Policy.TheVariants.{No}
 use Rattle.api_json.specs.Create.{create_of}
 use Rattle.http_edge.specs.Message.{Request}
@@ -11,9 +12,10 @@ use Rattle.route_laws.specs.Segments.{segments}
 use Rattle.api_routes.specs.Routes.{method_of, route_for}
 use Rattle.api_routes.specs.Path.{path_of, query_of, parameter_of}
 use Rattle.api_routes.specs.Version.{behind_version}
-use Rattle.api_routes.specs.Keys.{create_name}
+use Rattle.api_routes.specs.Keys.{flag, limit_in, create_name}
+use Rattle.api_routes.specs.Calls.{filters_in, list_keys}
 use Rattle.api_routes.specs.Built.{is_built}
-use Rattle.api_routes.specs.Sound.{IsWithin}
+use Rattle.api_routes.specs.Sound.{IsWithin, IsListWithin}
 use Rattle.api_routes.specs.Class.{class_of}
 use Rattle.api_routes.specs.declared.class.Class.TheVariants.{Direct, Ask, Stream}
 use Rattle.api_routes.specs.declared.class.DirectAnswer.{DirectAnswer}
@@ -53,11 +55,22 @@ pub record IsFor (r : Request) (route : Route) (target : List ℕ) : Type 0 wher
   pub read : parameter_of path ≡ Ok target
   pub given : target ≢ []
 
--- a call that is asked is a create, a start or an inspect, and what its request says
+-- a list that is asked is what the query of a request for the list says: whether all are shown, its limit and its filter
+pub record IsAskedList (r : Request) (all : Bool) (limit : Option ℕ) (filter : List FilterRow) : Type 0 where
+  pub path : List (List ℕ)
+  pub behind : behind_version (segments (path_of r.target)) ≡ Ok path
+  pub fits : route_for (method_of r.method) path ≡ Some to.List
+  pub told_all : flag (codes "all") (query_of r.target) ≡ all
+  pub told_limit : limit_in (query_of r.target) ≡ Ok limit
+  pub told_filter : filters_in list_keys (query_of r.target) ≡ Ok filter
+  pub within : IsListWithin limit filter
+
+-- a call that is asked is a create, a start, an inspect or a list, and what its request says
 abbrev pub IsAsked : Request → Call → Type 0
 IsAsked r (call.Create spec) = IsAskedCreate r spec
 IsAsked r (call.Start target) = IsFor r to.Start target
 IsAsked r (call.Inspect target) = IsFor r to.Inspect target
+IsAsked r (call.List all limit filter) = IsAskedList r all limit filter
 IsAsked r _ = ⊥
 
 abbrev pub AsksAreKnown : Type 0

@@ -20,7 +20,7 @@ fn is_built(call: &Call) -> bool
 {
     match call {
         Call::Create(create) => is_built_create(create),
-        Call::Start { .. } | Call::Inspect { .. } => true,
+        Call::Start { .. } | Call::Inspect { .. } | Call::List { .. } => true,
         _ => false,
     }
 }

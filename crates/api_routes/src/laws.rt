@@ -7,7 +7,7 @@ pub fn law_served_calls()
     ensures streams { StreamsAreServed }
 {}
 
-/// A call that is asked is a create, a start or an inspect, and what its request says.
+/// A call that is asked is a create, a start, an inspect or a list, and what its request says.
 pub fn law_asked_calls()
     ensures { AsksAreKnown }
 {}

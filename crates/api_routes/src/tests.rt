@@ -1,7 +1,7 @@
 // What no clause says: the printed texts, and requests written out.
 use crate::{Class, DirectAnswer, DirectKind, Routes};
 use engine_ports::MemSource;
-use engine_text::{Call, NoMemory};
+use engine_text::{Call, Filter, FilterKey, NoMemory};
 use http_edge::{Next, RequestReader};
 use std::alloc::Global;
 use std::test::Fail;
@@ -217,6 +217,48 @@ fn an_inspect_is_asked_of_the_container_that_its_path_names(rt: HostRuntime) -> 
     let routes = Routes::new(alloc)?;
     let class = routes.class_of(alloc, "GET", "/containers/%2Fweb/json", b"", false)?;
     assert!(rt; is_inspect(&class, "/web"));
+    Ok(())
+}
+
+// Whether a filter has the one row of this name.
+fn is_named(filter: &Filter, name: &str) -> bool {
+    match filter.as_slice() {
+        [row] => match row.values.as_slice() {
+            [value] => row.key == FilterKey::Name && value.as_str() == name,
+            _ => false,
+        },
+        _ => false,
+    }
+}
+
+#[test]
+fn a_list_is_asked_as_its_query_says(rt: HostRuntime) -> Result<(), Fail> {
+    let alloc = rt.alloc();
+    let routes = Routes::new(alloc)?;
+    let target = "/v1.43/containers/json?all=1&limit=2&filters={%22name%22:[%22web%22]}";
+    let class = routes.class_of(alloc, "GET", target, b"", false)?;
+    let told = match &class {
+        Class::Ask(Call::List { all, limit, filter }) => {
+            *all && *limit == Some(2) && is_named(filter, "web")
+        }
+        _ => false,
+    };
+    assert!(rt; told);
+    Ok(())
+}
+
+#[test]
+fn a_list_without_a_query_is_of_what_is_up(rt: HostRuntime) -> Result<(), Fail> {
+    let alloc = rt.alloc();
+    let routes = Routes::new(alloc)?;
+    let class = routes.class_of(alloc, "GET", "/containers/json", b"", false)?;
+    let told = match &class {
+        Class::Ask(Call::List { all, limit, filter }) => {
+            !*all && limit.is_none() && filter.as_slice().is_empty()
+        }
+        _ => false,
+    };
+    assert!(rt; told);
     Ok(())
 }
 
