@@ -3,6 +3,6 @@ mod ValueLemmas
 mod FloatLemmas
 mod DecimalLemmas
 mod EventLemmas
-mod RiseLemmas
+pub mod RiseLemmas
 pub mod CreateLemmas
 mod StandardFacts

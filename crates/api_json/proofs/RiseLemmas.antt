@@ -197,7 +197,7 @@ pub then_unless : (o : Option Data) → IfOrdered o → IfOrdered (option_and_th
 then_unless None h = tt
 then_unless (Some d) h = unless d h
 
-abbrev names : Members → List (List ℕ)
+abbrev pub names : Members → List (List ℕ)
 names no_members = []
 names (member k d ms) = k ∷ names ms
 
@@ -207,6 +207,9 @@ names_rise (member k d no_members) h = refl
 names_rise (member k d (member l e ms)) h =
     let parts = and_parts (is_lt (slice_cmp nat_cmp k l)) (do_rise (member l e ms)) h in
     both_true _ _ parts.0 (names_rise (member l e ms) parts.1)
+
+pub object_rises : (text : List ℕ) (ms : Members) → data_of text ≡ Some (object ms) → are_rising (names ms) ≡ true
+object_rises text ms e = names_rise ms (subst IfOrdered e (data_ordered text)).0
 
 abbrev keys_in : Option (List Pair) → List (List ℕ)
 keys_in None = []

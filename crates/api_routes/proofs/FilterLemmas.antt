@@ -13,7 +13,7 @@ use Rattle.api_json.specs.CreateLaws.{are_rising}
 use Rattle.api_json.specs.Fault.{or_fault}
 use Rattle.api_json.specs.Filters.{filter_word, key_among, values_in, rows_in, filter_of}
 use Rattle.api_json.specs.declared.fault.BodyFault.TheVariants.{InvalidFilter}
-use Rattle.api_routes.proofs.ObjectLemmas.{names, object-rises}
+use Rattle.api_json.proofs.RiseLemmas.{names, object_rises}
 
 -- ---- a key that is found is among the keys, and has the name
 
@@ -84,7 +84,7 @@ of-data keys text (Some (string s)) rows e h = let no : ⊥ = cc in absurd no
 of-data keys text (Some (array ds)) rows e h = let no : ⊥ = cc in absurd no
 of-data keys text (Some (object ms)) rows e h =
     let are = rows-of keys ms rows h in
-    (are.0, ap are_rising are.1 ∙ object-rises text ms e)
+    (are.0, ap are_rising are.1 ∙ object_rises text ms e)
 
 pub filter-read : (keys : List FilterKey) (text : List ℕ) (rows : List FilterRow) → filter_of keys text ≡ Ok rows → IsFilter keys rows
 unfolding filter_of

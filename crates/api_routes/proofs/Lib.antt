@@ -4,7 +4,6 @@ pub mod NumeralLemmas
 pub mod VersionLemmas
 pub mod ClassLemmas
 pub mod ParameterLemmas
-pub mod ObjectLemmas
 pub mod FilterLemmas
 pub mod ListLemmas
 pub mod AskedLemmas
