@@ -1,5 +1,5 @@
 -- What a daemon's turn does to its whole history.
-use Rattle.std.proofs.Common.{◌≡◌, ◌≤◌, ◌==◌, ◌||◌, ℕ, List, [], ◌∷◌, ◌++◌, refl, subst, sym, ◌∙◌, ap, append-nil, append_assoc, Bool, true, false, Option, Some, None, max, min, arith, Result, Ok, Err, IfOk}
+use Rattle.std.proofs.Common.{◌≡◌, ◌≤◌, ◌==◌, ℕ, List, [], ◌∷◌, ◌++◌, refl, subst, sym, ◌∙◌, ap, append-nil, append_assoc, true, false, Option, Some, None, arith, Result, Ok, Err, IfOk}
 use Rattle.std.specs.Prelude.{IsTrue, OnErr}
 use Rattle.std.proofs.lemmas.Bool.{false≢true}
 use Rattle.std.specs.List.{filter}
@@ -13,7 +13,7 @@ use Rattle.engine_text.specs.declared.step.Step.{Step}
 use Rattle.machine_model.specs.State.{State}
 use Rattle.machine_model.specs.Room.{HasRoom, has_room}
 use Rattle.machine_model.specs.Soundness.{IsSound}
-use Rattle.machine_model.specs.History.{Charter, IsLegal, IsLawful, AreLawful, state_after, state_from, moment_used, latest, greatest_moment, acts_by, calls_of, bears, is_drop, DuesUntil, SomeDues, reply_of}
+use Rattle.machine_model.specs.History.{Charter, IsLegal, IsLawful, AreLawful, state_after, state_from, moment_used, latest, greatest_moment, acts_by, calls_of, bears, DuesUntil, SomeDues, reply_of}
 use Rattle.machine_model.proofs.Histories.{run_append, legal_append}
 use Rattle.session_model.specs.declared.turned.Turned.{Turned}
 use Rattle.session_model.specs.declared.turned.Turned.TheVariants as T
