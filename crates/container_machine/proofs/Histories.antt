@@ -41,6 +41,7 @@ call_later : (s : State) (connection t : ℕ) (c : Call) → IsTrue (is_built c)
 call_later s connection t (Call.Create spec) built lawful = lawful.1.0.0
 call_later s connection t (Call.Start target) built lawful = lawful.1.0.0
 call_later s connection t (Call.Inspect target) built lawful = lawful.1.0.0
+call_later s connection t (Call.List all limit filter) built lawful = lawful.1.0.0
 call_later s connection t c built lawful = absurd (cc)
 
 step_call : (s : State) (connection t : ℕ) (c : Call) → IdsDiffer → IsKept s → IsTrue (is_built c) → IsLawful s (Step.Call connection t c) → IsStep s (Step.Call connection t c)

@@ -4,6 +4,8 @@ pub mod Tables
 pub mod TextLemmas
 pub mod HeldLemmas
 pub mod FindLemmas
+pub mod FilterLemmas
+pub mod ListedLemmas
 pub mod NameLemmas
 pub mod CreateLemmas
 pub mod Moments

@@ -158,6 +158,7 @@ kept_outcome s connection t (Call.Start target) k n built =
     kept_found s t (container_by s.containers target) target (λ c. start.by_status c.life.status c) k n (λ m c found. kept_by_status s t c c.life.status k n (stands_of s m c k found) refl)
 kept_outcome s connection t (Call.Inspect target) k n built =
     kept_found s t (container_by s.containers target) target (λ c r. answers 200 (container_body c) r) k n (λ m c found. kept_same s t k n)
+kept_outcome s connection t (Call.List all limit filter) k n built = kept_same s t k n
 kept_outcome s connection t c k n built = absurd (cc)
 
 timely_next : (s : State) (t : ℕ) → IsKept s → IsTimely s t → IsTrue (has_steps s) → IsNext s t
@@ -175,6 +176,7 @@ pub next_of : (s : State) (connection t : ℕ) (c : Call) → IsKept s → IsTru
 next_of s connection t (Call.Create spec) k built lawful = timely_next s t k lawful.1.0 lawful.1.1
 next_of s connection t (Call.Start target) k built lawful = timely_next s t k lawful.1.0 lawful.1.1
 next_of s connection t (Call.Inspect target) k built lawful = timely_next s t k lawful.1.0 lawful.1.1
+next_of s connection t (Call.List all limit filter) k built lawful = timely_next s t k lawful.1.0 lawful.1.1
 next_of s connection t c k built lawful = absurd (cc)
 
 pub kept_call : (s : State) (connection t : ℕ) (c : Call) → IsKept s → IsTrue (is_built c) → IsLawful s (Step.Call connection t c) → IsKept (call_outcome connection t c s).effect.state

@@ -80,4 +80,5 @@ status_law s connection moment (Call.Start target) built =
 status_law s connection moment (Call.Inspect target) built =
     found (Call.Inspect target) (container_by s.containers target) target (λ d r. answers 200 (container_body d) r) (at_moment moment s) refl refl
     (λ d. fits (Call.Inspect target) 200 _ refl)
+status_law s connection moment (Call.List all limit filter) built = fits (Call.List all limit filter) 200 _ refl
 status_law s connection moment c built = absurd (false≢true built)

@@ -150,4 +150,5 @@ told_call s connection t (Call.Start target) differ k built =
     told_found s t (container_by s.containers target) target (λ c. start.by_status c.life.status c) (λ m c found. told_by_status s t c c.life.status differ k (stands_of s m c k found) refl)
 told_call s connection t (Call.Inspect target) differ k built =
     told_found s t (container_by s.containers target) target (λ c r. answers 200 (container_body c) r) (λ m c found. told_same s t)
+told_call s connection t (Call.List all limit filter) differ k built = told_same s t
 told_call s connection t c differ k built = absurd (cc)

@@ -13,4 +13,5 @@ abbrev pub is_built : Call → Bool
 is_built (Call.Create spec) = is_built_create spec
 is_built (Call.Start target) = true
 is_built (Call.Inspect target) = true
+is_built (Call.List all limit filter) = true
 is_built _ = false

@@ -7,7 +7,7 @@ use Rattle.machine_model.specs.History.{Charter, state_after, events_of, reply_o
 use Rattle.machine_model.specs.Laws.{NeverFall}
 use Rattle.machine_model.specs.Summary.{fold_of, inspect_summary}
 use Rattle.engine_text.specs.declared.call.Call.{Call}
-use Rattle.engine_text.specs.declared.call.Call.TheVariants.{Create, Start, Inspect}
+use Rattle.engine_text.specs.declared.call.Call.TheVariants.{Create, Start, Inspect, List as Listing}
 use Rattle.engine_text.specs.declared.reply.Reply.TheVariants.{Answer}
 use Rattle.engine_text.specs.declared.step.Step.{Step}
 use Rattle.container_machine.specs.Built.{is_built}
@@ -35,6 +35,7 @@ abbrev pub is_status_of : Call → ℕ → Bool
 is_status_of (Create spec) status = status == 201 || status == 404 || status == 409
 is_status_of (Start target) status = status == 204 || status == 304 || status == 400 || status == 404 || status == 409
 is_status_of (Inspect target) status = status == 200 || status == 400 || status == 404
+is_status_of (Listing all limit filter) status = status == 200
 is_status_of c status = false
 
 -- in every state a built call is answered whole, by one of its own statuses: so 500 and 503 are none of the machine's

@@ -8,5 +8,6 @@ pub mod Dues
 pub mod Prepared
 pub mod Inside
 pub mod Further
+pub mod Limits
 pub mod Ran
 pub mod Laws

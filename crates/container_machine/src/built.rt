@@ -17,6 +17,11 @@ pub fn is_built(call: &Call) -> bool
     match call {
         Call::Create(spec) => is_built_create(spec),
         Call::Start { target: _ } | Call::Inspect { target: _ } => true,
+        Call::List {
+            all: _,
+            limit: _,
+            filter: _,
+        } => true,
         _ => false,
     }
 }

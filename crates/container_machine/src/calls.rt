@@ -1,3 +1,4 @@
 mod create;
 mod inspect;
+mod list;
 mod start;

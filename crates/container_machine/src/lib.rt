@@ -6,6 +6,7 @@ mod built;
 mod calls;
 mod due;
 mod events;
+mod filters;
 mod find;
 mod held;
 pub mod laws;

@@ -13,7 +13,7 @@ ghost use Rattle.machine_model.specs.Step.{call_outcome, due_step};
 ghost use Rattle.machine_model.specs.History.{IsLawful, greatest_moment, is_due};
 ghost use Rattle.machine_model.specs.Ready.{is_ready};
 ghost use Rattle.container_machine.specs.Built.{is_built};
-ghost use Rattle.container_machine.specs.Held.{container_in};
+ghost use Rattle.container_machine.specs.Held.{container_in, containers_in};
 ghost use Rattle.container_machine.specs.Memory.{IsRoomy};
 ghost use Rattle.container_machine.specs.Kept.{IsKept};
 ghost use Rattle.container_machine.specs.Prepared.{Makes, prepared_effect, IsReady, IsFor, IsCommitted, end_event, code_due, IsRoomyDue, IsReadyDue, IsStepped};
@@ -160,6 +160,13 @@ impl Machine {
         (self.events.len() as u64, self.held.len() as u64)
     }
 
+    /// The containers, oldest first.
+    pub fn held(&self) -> &[Held]
+        ensures { containers_in result.now ≡ self.now.state.containers }
+    {
+        self.held.as_slice()
+    }
+
     /// The container that a reference names.
     pub fn find(&self, reference: &str) -> Found
         ensures { result ≡ container_by self.now.state.containers reference.now }
@@ -215,6 +222,9 @@ impl Machine {
             Call::Create(asked) => self.prepare_create(alloc, moment, asked),
             Call::Start { target } => self.prepare_start(alloc, moment, target.as_str()),
             Call::Inspect { target } => self.prepare_inspect(alloc, moment, target.as_str()),
+            Call::List { all, limit, filter } => {
+                self.prepare_list(alloc, moment, *all, *limit, filter)
+            }
             _ => unreachable!(),
         }
     }

@@ -2,6 +2,8 @@
 ghost use Rattle.std.specs.Prelude.{◌≡◌, ◌+◌, ◌<◌, ◌≤◌, ◌^◌, IfOk};
 ghost use Rattle.machine_model.specs.History.{greatest_moment};
 
+mod lists;
+
 use super::Machine;
 use engine_text::{
     Call, CreateSpec, Found, Mounts, NoMemory, Pairs, Policy, Reply, Signal, Text, Words, is_name,

@@ -1,12 +1,12 @@
 // Create: the image first, then the name.
 ghost use Rattle.std.specs.Prelude.{◌≡◌, ◌++◌, [], codes, IfOk, IsTrue};
-ghost use Rattle.machine_model.specs.Filters.{is_image};
 ghost use Rattle.machine_model.specs.Calls.Create as spec;
 ghost use Rattle.container_machine.specs.Built.{is_built_create};
 ghost use Rattle.container_machine.specs.Prepared.{Makes};
 
 use crate::answers::refuse;
 use crate::events::plain_event;
+use crate::filters::is_image;
 use crate::held::Held;
 use crate::machine::Machine;
 use crate::names::chosen_name;
@@ -17,12 +17,6 @@ use engine_text::{
     Action, Container, CreateSpec, Goal, Life, Log, NoMemory, Reply, Status, Text, Words,
 };
 use std::alloc::Global;
-
-fn is_image(image: &Text) -> bool
-    ensures { result ≡ is_image image.now }
-{
-    image.is("engine/tools:latest") || image.is("engine/tools")
-}
 
 // Empty words stand for `hello`.
 fn words_or_hello(alloc: Global, words: &Words) -> Result<Words, NoMemory>
