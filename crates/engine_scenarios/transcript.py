@@ -7,6 +7,7 @@ written out from docs/API.md. Run it here after a change, and look at the differ
 import json
 import os
 import struct
+import urllib.parse
 
 HERE = os.path.dirname(os.path.abspath(__file__))
 PHRASES = {200: "OK", 201: "Created", 204: "No Content", 304: "Not Modified", 400: "Bad Request", 404: "Not Found",
@@ -114,6 +115,19 @@ def shown(n, name, words, status, code=0, pid=0, started=NEVER, finished=NEVER):
                   "StartedAt": started, "Status": status}}))
 
 
+def item(n, name, words, status, text, labels=None):
+    return {"Command": " ".join(words), "Created": 1700000000, "Id": id_of(n), "Image": "engine/tools:latest",
+            "Labels": labels or {}, "Mounts": [], "Names": [f"/{name}"], "Ports": [], "State": status, "Status": text}
+
+
+def listed(*items):
+    return answer(200, compact(list(items)))
+
+
+def filtered(filters):
+    return get("/containers/json?filters=" + urllib.parse.quote(compact(filters)))
+
+
 # ---- scenarios: the file, its requests, how they come, the words, the status, and what is written
 
 SCENARIOS = []
@@ -165,6 +179,34 @@ FIRSTS = [id_of(n)[0] for n in range(17)]
 TWICE = next(digit for digit in FIRSTS if FIRSTS.count(digit) > 1)
 scenario("prefix_of_two", [create()] * 17 + [get(f"/containers/{TWICE}/json")],
          [created(n) for n in range(17)] + [message(400, f"multiple IDs found with provided prefix: {TWICE}")])
+
+# a container that was created, one that runs, and one that has exited
+TIER = {"tier": "one", "zone": "a"}
+WEB_ITEM = item(0, "web", ["hello"], "created", "Created", TIER)
+DB_ITEM = item(1, "db", ["deaf", "a b"], "running", "Up")
+JOB_ITEM = item(2, "job", ["exit", "7"], "exited", "Exited (7)", {"tier": "one"})
+THREE = [create("web", body=compact({"Image": "engine/tools", "Labels": TIER})), create("db", ["deaf", "a b"]),
+         create("job", body=compact({"Image": "engine/tools:latest", "Cmd": ["exit", "7"], "Labels": {"tier": "one"}})),
+         post("/containers/db/start"), post("/containers/job/start")]
+THREE_ANSWERS = [created(0), created(1), created(2), answer(204), answer(204)]
+scenario("list", [get("/v1.43/containers/json?all=1")] + THREE + [
+    get("/containers/json"), get("/v1.43/containers/json?all=1"), get("/containers/json?all=1&limit=2"),
+    get("/containers/json?limit=1"), get("/containers/json?limit=0"), get("/containers/json?limit=-1&all=0")],
+    [listed()] + THREE_ANSWERS + [
+    listed(DB_ITEM), listed(JOB_ITEM, DB_ITEM, WEB_ITEM), listed(JOB_ITEM, DB_ITEM), listed(JOB_ITEM), listed(DB_ITEM),
+    listed(DB_ITEM)], comings=("pieces=1", "pieces=4096"))
+scenario("list_filters", THREE + [
+    filtered({"status": ["created", "exited"]}), filtered({"exited": ["7"]}), filtered({"exited": ["7"], "status": ["exited"]}),
+    filtered({"status": ["exited"], "exited": ["0"]}), filtered({"name": ["d", "web"]}), filtered({"name": {"we": True, "db": False}}),
+    get("/containers/json?all=1&filters=" + urllib.parse.quote(compact({"label": ["tier=one"]}))),
+    get("/containers/json?all=1&filters=" + urllib.parse.quote(compact({"label": ["tier", "zone=a"]}))),
+    get("/containers/json?all=1&limit=1&filters=" + urllib.parse.quote(compact({"name": ["we"]}))),
+    filtered({"id": [id_of(1)[:12]]}), filtered({"ancestor": ["engine/tools"]}), filtered({"ancestor": ["nginx"]}),
+    filtered({"volume": ["data"]}), filtered({"name": []}), filtered({}), filtered({"until": ["1h"]})],
+    THREE_ANSWERS + [
+    listed(JOB_ITEM, WEB_ITEM), listed(), listed(JOB_ITEM), listed(), listed(DB_ITEM), listed(), listed(JOB_ITEM, WEB_ITEM),
+    listed(WEB_ITEM), listed(WEB_ITEM), listed(DB_ITEM), listed(DB_ITEM), listed(), listed(), listed(), listed(DB_ITEM),
+    message(400, "invalid filter")])
 
 refused("too_long", "POST /v1.43/containers/create HTTP/1.1\r\nHost: x\r\nContent-Length: 1048577\r\n\r\n", 413)
 refused("without_host", "GET /_ping HTTP/1.1\r\n\r\n", 400)
