@@ -183,9 +183,9 @@ scenario("prefix_of_two", [create()] * 17 + [get(f"/containers/{TWICE}/json")],
 # a container that was created, one that runs, and one that has exited
 TIER = {"tier": "one", "zone": "a"}
 WEB_ITEM = item(0, "web", ["hello"], "created", "Created", TIER)
-DB_ITEM = item(1, "db", ["deaf", "a b"], "running", "Up")
+DB_ITEM = item(1, "db", ["sleep", "600000"], "running", "Up")
 JOB_ITEM = item(2, "job", ["exit", "7"], "exited", "Exited (7)", {"tier": "one"})
-THREE = [create("web", body=compact({"Image": "engine/tools", "Labels": TIER})), create("db", ["deaf", "a b"]),
+THREE = [create("web", body=compact({"Image": "engine/tools", "Labels": TIER})), create("db", ["sleep", "600000"]),
          create("job", body=compact({"Image": "engine/tools:latest", "Cmd": ["exit", "7"], "Labels": {"tier": "one"}})),
          post("/containers/db/start"), post("/containers/job/start")]
 THREE_ANSWERS = [created(0), created(1), created(2), answer(204), answer(204)]
