@@ -3,6 +3,7 @@ ghost use Rattle.std.specs.Prelude.{◌≡◌, ◌+◌, ◌<◌, ◌≤◌, ◌^
 ghost use Rattle.machine_model.specs.History.{greatest_moment};
 
 mod lists;
+mod refusals;
 
 use super::Machine;
 use engine_text::{
