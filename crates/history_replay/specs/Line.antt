@@ -1,0 +1,39 @@
+-- Which entries have a line of the journal, and which bytes are one (own: format 1).
+use Rattle.std.specs.Prelude.{◌≡◌, ℕ, ◌<◌, ◌^◌, ◌++◌, List, ⊤, ⊥}
+use Rattle.json_laws.specs.Sound.{IsCarried}
+use Rattle.machine_model.specs.JournalLines.{entry_value, journal_line}
+use Rattle.machine_model.specs.Soundness.{IsSound}
+use Rattle.engine_text.specs.declared.call.Call.{Call}
+use Rattle.engine_text.specs.declared.entry.Entry.{Entry}
+use Rattle.engine_text.specs.declared.reply.Reply.{Reply}
+use Rattle.engine_text.specs.declared.reply.Reply.TheVariants.{Answer, Begun, LogStream, EventStream, JournalStream, Fed, Dropped}
+
+-- Only a drop is answered so.
+abbrev pub IsDrop : Call → Type 0
+IsDrop (Call.Drop ticket) = ⊤
+IsDrop _ = ⊥
+
+-- A line tells of a stream where it begins, and no more: it is read as a journal's of that count.
+abbrev pub IsTold : Call → Reply → Type 0
+IsTold c (Answer status body) = status < 2 ^ 16
+IsTold c (Begun ticket) = ⊤
+IsTold c (LogStream spec) = ⊥
+IsTold c (EventStream first until filter) = ⊥
+IsTold c (JournalStream count) = ⊤
+IsTold c (Fed taken) = ⊤
+IsTold c Dropped = IsDrop c
+
+-- An entry that a line tells: of a call that a request can make, with numbers of 64 bits and texts of UTF-8.
+pub record HasLine (e : Entry) : Type 0 where
+  pub sound : IsSound e.call
+  pub told : IsTold e.call e.reply
+  pub conn : e.conn < 2 ^ 32
+  pub carried : IsCarried (entry_value e)
+
+-- The bytes are a line of a journal.
+abbrev pub IsLine : List ℕ → Type 0
+IsLine bytes = (e : Entry) × HasLine e × (journal_line e ≡ bytes)
+
+-- They begin with one.
+abbrev pub BeginsWithLine : List ℕ → Type 0
+BeginsWithLine bytes = (line : List ℕ) × (rest : List ℕ) × IsLine line × (line ++ rest ≡ bytes)
