@@ -1,6 +1,5 @@
 -- How many due steps stand before a call (own: a call stands where nothing is due at or before its moment).
-use Rattle.std.specs.Prelude.{◌≡◌, ℕ, ◌<◌, List, IsTrue, codes, ⊥, ◌⊎◌}
-use Rattle.std.specs.Fmt.{digits}
+use Rattle.std.specs.Prelude.{◌≡◌, ℕ, ◌<◌, List, IsTrue, codes, decimal, ◌⊎◌}
 use Rattle.machine_model.specs.State.{State}
 use Rattle.machine_model.specs.History.{state_from, AreLawful, IsTimely, has_steps}
 use Rattle.history_replay.specs.Stored.{due_steps}
@@ -32,4 +31,4 @@ HasNoDueCount s e = (n : ℕ) → IsDueCount s e n → ⊥
 -- The least count in decimal digits, or `none`.
 abbrev pub TellsDueCount : State → Entry → List ℕ → Type 0
 TellsDueCount s e text =
-    ((n : ℕ) × IsLeastDueCount s e n × (text ≡ digits n)) ⊎ (HasNoDueCount s e × (text ≡ codes "none"))
+    ((n : ℕ) × IsLeastDueCount s e n × (text ≡ decimal n)) ⊎ (HasNoDueCount s e × (text ≡ codes "none"))

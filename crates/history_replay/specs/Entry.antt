@@ -1,6 +1,5 @@
 -- What is right and what is wrong of an entry (own: its call is made again, and its reply compared as a text).
-use Rattle.std.specs.Prelude.{◌≡◌, ◌≢◌, ℕ, List, Bool, true, false, not, IsTrue, IsFalse, codes, ⊥}
-use Rattle.std.specs.Fmt.{digits}
+use Rattle.std.specs.Prelude.{◌≡◌, ◌≢◌, ℕ, List, Bool, false, not, IsTrue, IsFalse, codes, decimal}
 use Rattle.serde_json.specs.Written.{compact_text}
 use Rattle.machine_model.specs.State.{State}
 use Rattle.machine_model.specs.History.{state_from, has_ticket, reply_of}
@@ -33,7 +32,7 @@ can_answer s e = is_ready (behind_dues s e.dues) e.call
 pub data IsWrong (s : State) (e : Entry) : List ℕ → List ℕ → Type 0 where
   NoTicket : IsTrue (lacks_ticket s e.conn e.call) → IsWrong s e (kept_reply e) (codes "no ticket")
   OtherDues : (found : List ℕ) → IsFalse (lacks_ticket s e.conn e.call) → (IsDueCount s e e.dues → ⊥)
-      → TellsDueCount s e found → IsWrong s e (digits e.dues) found
+      → TellsDueCount s e found → IsWrong s e (decimal e.dues) found
   NotReady : IsFalse (lacks_ticket s e.conn e.call) → IsDueCount s e e.dues → IsFalse (can_answer s e)
       → IsWrong s e (kept_reply e) (codes "not ready")
   OtherReply : IsFalse (lacks_ticket s e.conn e.call) → IsDueCount s e e.dues → IsTrue (can_answer s e)

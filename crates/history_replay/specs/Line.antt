@@ -1,5 +1,5 @@
 -- Which entries have a line of the journal, and which bytes are one (own: format 1).
-use Rattle.std.specs.Prelude.{◌≡◌, ℕ, ◌<◌, ◌^◌, ◌++◌, List, ⊤, ⊥}
+use Rattle.std.specs.Prelude.{◌≡◌, ℕ, ◌<◌, ◌^◌, ◌++◌, List, ⊤}
 use Rattle.json_laws.specs.Sound.{IsCarried}
 use Rattle.machine_model.specs.JournalLines.{entry_value, journal_line}
 use Rattle.machine_model.specs.Soundness.{IsSound}

@@ -1,5 +1,5 @@
 -- What is said of a journal's text (own: its lines are read from the first on, and its calls are made again).
-use Rattle.std.specs.Prelude.{ℕ, ◌+◌, List, [], ◌++◌, ◌≢◌, ⊥}
+use Rattle.std.specs.Prelude.{ℕ, ◌+◌, List, [], ◌++◌, ◌≢◌}
 use Rattle.machine_model.specs.State.{State}
 use Rattle.machine_model.specs.History.{Charter, opening_state}
 use Rattle.machine_model.specs.JournalLines.{journal_line}

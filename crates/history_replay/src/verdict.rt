@@ -6,15 +6,7 @@ use engine_text::Text;
 /// machine gives.
 #[derive(Drop)]
 pub enum Verdict {
-    Legal {
-        steps: u64,
-    },
-    Illegal {
-        line: u64,
-        kept: Text,
-        found: Text,
-    },
-    BadLine {
-        line: u64,
-    },
+    Legal { steps: u64 },
+    Illegal { line: u64, kept: Text, found: Text },
+    BadLine { line: u64 },
 }
