@@ -11,7 +11,7 @@ pub mod CreateLemmas
 pub mod Moments
 pub mod Least
 pub mod Normal
-pub mod Consistent
+pub mod Orderly
 pub mod Kept
 pub mod Committed
 pub mod Ready
@@ -19,12 +19,3 @@ pub mod Ops
 pub mod Found
 pub mod DueKept
 pub mod DueCommitted
-pub mod Rows
-pub mod ProgramCodes
-pub mod Codes
-pub mod Told
-pub mod DueTold
-pub mod Histories
-pub mod Folded
-pub mod FoldFacts
-pub mod Statuses

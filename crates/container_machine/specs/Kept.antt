@@ -7,7 +7,7 @@ use Rattle.engine_text.specs.Moment.{IsMoment}
 use Rattle.proc_kernel.specs.Processes.{Process, is_frozen, next_due}
 use Rattle.proc_kernel.specs.Tables.{Entry, process_of}
 use Rattle.machine_model.specs.State.{State}
-use Rattle.machine_model.specs.Consistency.{AreDistinct, is_there}
+use Rattle.machine_model.specs.Consistency.{AreDistinct, is_there, HasNames, HasProcesses, HasTimers, HasVolumes, HasTickets, IsWithinLimits, HasCounts, HasNumbers, HasExecs}
 use Rattle.machine_model.specs.Effects.Launch.{log_size}
 use Rattle.machine_model.specs.History.{greatest_moment}
 use Rattle.engine_text.specs.declared.container.Container.{Container}
@@ -107,3 +107,15 @@ pub record IsKept (s : State) : Type 0 where
   pub next_ticket : s.next_ticket ≤ s.step_count
   pub next_pid : s.next_pid ≤ 1001 + s.step_count
   pub first_pid : 1001 ≤ s.next_pid
+
+-- what of a consistent state follows from that: all but the groups on programs, room, times and ranges
+pub record IsOrderly (s : State) : Type 0 where
+  pub names : HasNames s
+  pub processes : HasProcesses s
+  pub timers : HasTimers s
+  pub volumes : HasVolumes s
+  pub tickets : HasTickets s
+  pub limits : IsWithinLimits s
+  pub counts : HasCounts s
+  pub numbers : HasNumbers s
+  pub execs : HasExecs s

@@ -10,4 +10,3 @@ pub mod Inside
 pub mod Further
 pub mod Limits
 pub mod Ran
-pub mod Laws

@@ -9,7 +9,6 @@ mod events;
 mod filters;
 mod find;
 mod held;
-pub mod laws;
 mod lives;
 mod machine;
 mod names;

@@ -8,14 +8,13 @@ ghost use Rattle.machine_model.specs.State.{initial_state, container_numbered};
 ghost use Rattle.machine_model.specs.Names.{holder, chosen_name};
 ghost use Rattle.machine_model.specs.Call.{outcome_of};
 ghost use Rattle.machine_model.specs.Due.{least_due};
-ghost use Rattle.machine_model.specs.Consistency.{IsConsistent};
 ghost use Rattle.machine_model.specs.Step.{call_outcome, due_step};
 ghost use Rattle.machine_model.specs.History.{IsLawful, greatest_moment, is_due};
 ghost use Rattle.machine_model.specs.Ready.{is_ready};
 ghost use Rattle.container_machine.specs.Built.{is_built};
 ghost use Rattle.container_machine.specs.Held.{container_in, containers_in};
 ghost use Rattle.container_machine.specs.Memory.{IsRoomy};
-ghost use Rattle.container_machine.specs.Kept.{IsKept};
+ghost use Rattle.container_machine.specs.Kept.{IsKept, IsOrderly};
 ghost use Rattle.container_machine.specs.Prepared.{Makes, prepared_effect, IsReady, IsFor, IsCommitted, end_event, code_due, IsRoomyDue, IsReadyDue, IsStepped};
 
 use super::built::is_built;
@@ -154,7 +153,7 @@ impl Machine {
     pub fn counts(&self) -> (u64, u64)
         ensures events { result.0 ≡ self.now.state.event_count }
         ensures containers { result.1 ≡ length self.now.state.containers }
-        ensures consistent { IsConsistent self.now.state }
+        ensures orderly { IsOrderly self.now.state }
     {
         law_ids_differ();
         (self.events.len() as u64, self.held.len() as u64)

@@ -11,9 +11,8 @@ pub mod Histories
 pub mod ChainLemmas
 pub mod ListLemmas
 pub mod VolumeLemmas
-pub mod StepLemmas
-pub mod CreateLemmas
-pub mod InspectLemmas
+pub mod IdLemmas
+pub mod SettleLemmas
 pub mod SoundFacts
 pub mod JournalFacts
 pub mod StreamFacts

@@ -1,9 +1,12 @@
 -- What every state of a legal history keeps (own: what the laws of the machine need).
-use Rattle.std.specs.Prelude.{◌≡◌, ◌≢◌, ℕ, ◌+◌, ◌*◌, ◌^◌, ◌<◌, ◌≤◌, ◌==◌, not, List, [], ◌∷◌, ◌++◌, Bool, true, false, IsTrue, Option, Some, None, filter, map, length, sum_by}
+use Rattle.std.specs.Prelude.{◌≡◌, ◌≢◌, ℕ, ◌+◌, ◌*◌, ◌^◌, ◌<◌, ◌≤◌, ◌==◌, ◌||◌, not, List, [], ◌∷◌, ◌++◌, Bool, true, false, IsTrue, Option, Some, None, filter, map, length, sum_by}
 use Rattle.std.specs.List.{flat_map, AllByRecursion}
 use Rattle.engine_text.specs.Id.{id_of}
+use Rattle.proc_kernel.specs.Catalogue.{program_of}
 use Rattle.proc_kernel.specs.Processes.{Process, is_frozen}
 use Rattle.proc_kernel.specs.Tables.{process_of}
+use Rattle.proc_kernel.specs.Times.{IsTimely}
+use Rattle.machine_model.specs.Ranges.{IsInRange}
 use Rattle.machine_model.specs.State.{State, container_numbered, exec_numbered, timer_of, is_live}
 use Rattle.api_json.specs.Status.{is_paused, is_restarting}
 use Rattle.machine_model.specs.Due.{due_actions}
@@ -15,6 +18,7 @@ use Rattle.engine_text.specs.declared.owner.Owner.TheVariants.{Container as OfCo
 use Rattle.engine_text.specs.declared.container.Container.{Container}
 use Rattle.engine_text.specs.declared.container.Goal.{Goal}
 use Rattle.engine_text.specs.declared.exec.Exec.{Exec}
+use Rattle.engine_text.specs.declared.log.OwnedLog.{OwnedLog}
 use Rattle.engine_text.specs.declared.mounts.Mount.{Mount}
 use Rattle.engine_text.specs.declared.reply.Reply.{Reply}
 use Rattle.engine_text.specs.declared.volume.VolumeUse.{VolumeUse}
@@ -136,6 +140,10 @@ pub record TimerStands (s : State) (d : DueAction) : Type 0 where
 abbrev pub HasTimer : State → Container → Type 0
 HasTimer s c = is_there (timer_of 3 c.number s) ≡ is_restarting c.life.status
 
+-- A removal deadline stands only in removing: else it would make a paused container dead and leave its pause untold.
+abbrev pub HasRemoval : State → Container → Type 0
+HasRemoval s c = IsTrue (is_there (timer_of 2 c.number s)) → c.life.status ≡ Removing
+
 -- Two timers differ in rank or number.
 abbrev pub AreOther : DueAction → DueAction → Type 0
 AreOther d e = (d.rank ≡ e.rank) → d.number ≢ e.number
@@ -150,6 +158,7 @@ pub record HasTimers (s : State) : Type 0 where
   pub goals : AllByRecursion (HasGoal s) s.containers
   pub timers : AllByRecursion (TimerStands s) s.timers
   pub restarts : AllByRecursion (HasTimer s) s.containers
+  pub removals : AllByRecursion (HasRemoval s) s.containers
   pub single : AreSingle s.timers
 
 -- ---- volumes
@@ -205,15 +214,68 @@ pub record HasCounts (s : State) : Type 0 where
   pub tickets : length s.tickets ≤ s.step_count
   pub steps : length s.tickets + s.step_count ≤ 2 ^ 57
   pub events : s.event_count + length (live_execs s) ≤ 64 * s.step_count
-  pub next_number : s.next_number ≤ s.step_count
-  pub next_ticket : s.next_ticket ≤ s.step_count
-  pub next_pid : s.next_pid ≤ 1001 + s.step_count
+  pub calls : s.call_count ≤ s.step_count
   pub starts : AllByRecursion (λ c. c.life.starts ≤ s.step_count) s.containers
   pub restarts : AllByRecursion (λ c. c.life.restarts ≤ s.step_count) s.containers
 
+-- So are the next numbers; and the next process id isn't 0, which says that no process lives.
+pub record HasNumbers (s : State) : Type 0 where
+  pub next_number : s.next_number ≤ s.step_count
+  pub next_ticket : s.next_ticket ≤ s.step_count
+  pub next_pid : s.next_pid ≤ 1001 + s.step_count
+  pub first_pid : 1 ≤ s.next_pid
+
+-- ---- execs
+
+-- An exec's container stands: else nothing would end it.
+abbrev pub HasContainer : State → Exec → Type 0
+HasContainer s x = IsTrue (is_there (container_numbered x.container s))
+
+-- An exec that hasn't started has no process: else its start would give it a second one.
+abbrev pub IsUnstarted : State → Exec → Type 0
+IsUnstarted s x = x.started ≡ false → is_live (OfExec x.number) s ≡ false
+
+-- Nor has it written: else its process could write more than its output holds.
+abbrev pub HasNoOutput : State → Exec → Type 0
+HasNoOutput s x = x.started ≡ false → AllByRecursion (λ o. o.owner ≡ OfExec x.number → log_size o.log ≡ 0) s.outputs
+
+-- Execs are of containers that stand, each has one output, in their order, and one that hasn't started has done nothing.
+pub record HasExecs (s : State) : Type 0 where
+  pub containers : AllByRecursion (HasContainer s) s.execs
+  pub outputs : map (λ o. o.owner) s.outputs ≡ map (λ x. OfExec x.number) s.execs
+  pub unstarted : AllByRecursion (IsUnstarted s) s.execs
+  pub empty : AllByRecursion (HasNoOutput s) s.execs
+
+-- ---- what processes need to go on
+
+-- The words of a container that lives or restarts name a program: else a restart would launch nothing, in no status that fits.
+abbrev pub HasProgram : State → Container → Type 0
+HasProgram s c =
+    IsTrue (is_live (OfContainer c.number) s || is_restarting c.life.status) → IsTrue (is_there (program_of c.life.words 1))
+
+-- How many bytes a process may yet write.
+abbrev pub room_left : Option Process → ℕ
+room_left None = 0
+room_left (Some p) = p.room
+
+-- A log has room for all that its process may yet write: else a write would pass the log's limit.
+abbrev pub HasLogRoom : State → Container → Type 0
+HasLogRoom s c = log_size c.life.log + room_left (process_of (OfContainer c.number) s.processes) ≤ 4194304
+
+-- So it is with an exec's output.
+abbrev pub HasOutputRoom : State → OwnedLog → Type 0
+HasOutputRoom s o = log_size o.log + room_left (process_of o.owner s.processes) ≤ 1048576
+
+-- Restarts find their programs, writes their room, and no process's times lie behind the clock or more than a week ahead.
+pub record CanGoOn (s : State) : Type 0 where
+  pub programs : AllByRecursion (HasProgram s) s.containers
+  pub logs : AllByRecursion (HasLogRoom s) s.containers
+  pub outputs : AllByRecursion (HasOutputRoom s) s.outputs
+  pub times : AllByRecursion (λ e. IsTimely s.clock e.process) s.processes
+
 -- ---- all of these
 
--- A state in which a legal history can stand.
+-- A state in which a legal history can stand, and go on.
 pub record IsConsistent (s : State) : Type 0 where
   pub names : HasNames s
   pub processes : HasProcesses s
@@ -222,3 +284,7 @@ pub record IsConsistent (s : State) : Type 0 where
   pub tickets : HasTickets s
   pub limits : IsWithinLimits s
   pub counts : HasCounts s
+  pub numbers : HasNumbers s
+  pub execs : HasExecs s
+  pub going : CanGoOn s
+  pub ranges : IsInRange s

@@ -22,5 +22,7 @@ pub mod LogStream
 pub mod EventLines
 pub mod JournalLines
 pub mod Room
+pub mod Ranges
 pub mod Consistency
+pub mod Statuses
 pub mod Laws

@@ -1,4 +1,4 @@
--- What the machine keeps makes a state consistent.
+-- What the machine keeps makes a state orderly.
 use Rattle.std.proofs.Common.{◌≡◌, ◌≢◌, ℕ, ◌<◌, ◌≤◌, ◌^◌, ◌==◌, Bool, true, false, not, List, [], ◌∷◌, length, map, append-nil, refl, ap, sym, ◌∙◌, arith, Option, Some, None, inl, inr}
 use Rattle.std.proofs.lemmas.Bool.Decides.{eqb_tells}
 use Rattle.std.specs.List.{AllByRecursion, flat_map}
@@ -16,8 +16,8 @@ use Rattle.api_json.specs.Status.{is_paused, is_restarting}
 use Rattle.machine_model.specs.State.{State, is_process}
 use Rattle.machine_model.specs.Effects.Launch.{log_size}
 use Rattle.machine_model.specs.Consistency as cons
-use Rattle.machine_model.specs.Consistency.{IsConsistent, AreDistinct, FitsStatus, IsFrozenAs, GoalStands, HasOwner, uses_of}
-use Rattle.container_machine.specs.Kept.{IsKept, IsKeptContainer, IsKeptMain, HasMain, HasContainer, IsCalm, IsUndue, is_idle}
+use Rattle.machine_model.specs.Consistency.{AreDistinct, FitsStatus, IsFrozenAs, GoalStands, HasOwner, uses_of}
+use Rattle.container_machine.specs.Kept.{IsKept, IsOrderly, IsKeptContainer, IsKeptMain, HasMain, HasContainer, IsCalm, IsUndue, is_idle}
 use Rattle.container_machine.proofs.Lists.{All-imp, All-map, of_none}
 use Rattle.container_machine.proofs.Least.{actions_undue}
 
@@ -94,8 +94,8 @@ small_input e h = rw h (omega arith)
 
 -- ---- all of it
 
-pub consistent : (s : State) → IdsDiffer → IsKept s → IsConsistent s
-consistent s differ k =
+pub orderly : (s : State) → IdsDiffer → IsKept s → IsOrderly s
+orderly s differ k =
     let t = k.tables in
     let b = t.bare in
     let fit : s.next_number < 2 ^ 64 = omega (arith, k.next_number, k.steps) in
@@ -124,6 +124,7 @@ consistent s differ k =
         goals = All-imp (IsKeptContainer s.seed s.next_number s.step_count) (cons.HasGoal s) (λ c h. goals c.life.goal _ h.goal) s.containers t.containers;
         timers = of_none _ s.timers b.timers;
         restarts = All-imp (HasMain s.processes) (cons.HasTimer s) (λ c h. rw b.timers (rests _ c h)) s.containers t.mains;
+        removals = All-imp (IsKeptContainer s.seed s.next_number s.step_count) (cons.HasRemoval s) (λ c h. rw b.timers (λ there. absurd (cc))) s.containers t.containers;
         single = rw b.timers tt;
       };
       volumes = record {
@@ -142,10 +143,15 @@ consistent s differ k =
         tickets = rw b.tickets (omega arith);
         steps = rw b.tickets (omega (arith, k.steps));
         events = rw b.execs (omega (arith, k.events));
-        next_number = k.next_number;
-        next_ticket = k.next_ticket;
-        next_pid = k.next_pid;
+        calls = k.calls;
         starts = All-imp (IsKeptContainer s.seed s.next_number s.step_count) (λ (c : Container). c.life.starts ≤ s.step_count) (λ c h. h.starts) s.containers t.containers;
         restarts = All-imp (IsKeptContainer s.seed s.next_number s.step_count) (λ (c : Container). c.life.restarts ≤ s.step_count) (λ c h. omega (arith, h.restarts)) s.containers t.containers;
+      };
+      numbers = record { next_number = k.next_number; next_ticket = k.next_ticket; next_pid = k.next_pid; first_pid = omega (arith, k.first_pid) };
+      execs = record {
+        containers = of_none _ s.execs b.execs;
+        outputs = rw (b.outputs, b.execs) refl;
+        unstarted = of_none _ s.execs b.execs;
+        empty = of_none _ s.execs b.execs;
       };
     }

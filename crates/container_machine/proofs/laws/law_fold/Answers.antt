@@ -1,5 +1,0 @@
-use Rattle.container_machine.proofs.Folded.{fold_law}
-use Rattle.container_machine.proofs.laws.law_fold.Goals as goal
-
-pub returns : goal.returns
-returns c = fold_law c.law_ids_differ.ensures

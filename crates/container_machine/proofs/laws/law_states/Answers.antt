@@ -1,5 +1,0 @@
-use Rattle.container_machine.proofs.Histories.{states_law}
-use Rattle.container_machine.proofs.laws.law_states.Goals as goal
-
-pub returns : goal.returns
-returns c = states_law c.law_ids_differ.ensures
