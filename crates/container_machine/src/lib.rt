@@ -9,6 +9,7 @@ mod events;
 mod filters;
 mod find;
 mod held;
+pub mod laws;
 mod lives;
 mod machine;
 mod names;

@@ -1,0 +1,10 @@
+pub mod CountLemmas
+pub mod EventLemmas
+pub mod ExecLemmas
+pub mod NameLemmas
+pub mod PastLemmas
+pub mod ProcessLemmas
+pub mod TableLemmas
+pub mod TicketLemmas
+pub mod TimeLemmas
+pub mod VolumeLemmas

@@ -1,0 +1,4 @@
+pub mod CodeLemmas
+pub mod LimitLemmas
+pub mod PaceLemmas
+pub mod ProgramCodeLemmas
