@@ -7,3 +7,4 @@ pub mod MomentFacts
 pub mod StandardFacts
 pub mod QueryLemmas
 pub mod SignalLemmas
+pub mod PlaceLemmas
