@@ -8,3 +8,4 @@ pub mod StandardFacts
 pub mod QueryLemmas
 pub mod SignalLemmas
 pub mod PlaceLemmas
+pub mod PartLemmas

@@ -1,5 +1,6 @@
 // The records that processes write, and the logs of them (own).
-ghost use Rattle.std.specs.Prelude.{◌≡◌, [], ◌∷◌, ◌++◌, length, OnOk, OnErr};
+ghost use Rattle.std.specs.Prelude.{◌≡◌, ◌+◌, ◌-◌, ◌^◌, min, [], ◌∷◌, ◌++◌, length, OnOk, OnErr};
+ghost use Rattle.engine_text.specs.Logs.{told_size};
 
 use super::{Bytes, NoMemory, Owner, Stream};
 use std::alloc::Global;
@@ -14,19 +15,23 @@ pub struct LogRecord {
     pub moment: u64,
 }
 
-/// A log, seen as the list of its records.
+/// A log, seen as the list of its records. How many bytes they have is at hand.
 #[derive(Drop)]
 pub struct Log {
-    items: Vec<LogRecord>,
+    pub(super) items: Vec<LogRecord>,
+    pub(super) size: u64,
 }
 
 impl Model for Log {
-    ghost use Rattle.std.specs.Prelude.{List};
+    ghost use Rattle.std.specs.Prelude.{◌≡◌, List};
     ghost use Rattle.engine_text.specs.declared.log.LogRecord.{LogRecord as ARecord};
+    ghost use Rattle.engine_text.specs.Logs.{told_size};
 
     ghost Value = { List ARecord };
 
     ghost view = { λ l. l.items.items };
+
+    ghost invariant = { λ l. l.size ≡ told_size l.items.items };
 }
 
 /// The log of a container or the output of an exec.
@@ -58,6 +63,23 @@ pub struct KeptLogs {
     pub logs: OwnedLogs,
 }
 
+/// The size of a log of that size with one record more.
+pub(super) fn size_with(size: u64, item: &LogRecord) -> u64
+    ensures { result ≡ min (size + length item.now.payload) (2 ^ 64 - 1) }
+{
+    size.saturating_add(item.payload.len() as u64)
+}
+
+fn size_of(records: &[LogRecord]) -> u64
+    ensures { result ≡ told_size records.now }
+{
+    let mut size = 0;
+    for item in records {
+        size = size_with(size, item);
+    }
+    size
+}
+
 impl Log {
     /// No records; it takes no memory.
     pub fn new(alloc: Global) -> Log
@@ -65,21 +87,23 @@ impl Log {
     {
         Log {
             items: Vec::new(alloc),
+            size: 0,
         }
     }
 
-    /// The log of these records; it takes no memory.
+    /// The log of these records, whose bytes it counts; it takes no memory.
     pub fn from_vec(items: Vec<LogRecord>) -> Log
         ensures { result ≡ items.items }
     {
-        Log { items }
+        let size = size_of(items.as_slice());
+        Log { items, size }
     }
 
     /// The records as a vector; it takes no memory.
     pub fn into_vec(self) -> Vec<LogRecord>
         ensures { result.items ≡ self }
     {
-        let Log { items } = self;
+        let Log { items, .. } = self;
         items
     }
 
@@ -88,10 +112,19 @@ impl Log {
         ensures ok { OnOk result (self.new ≡ self.old ++ item ∷ []) }
         ensures err { OnErr result (self.new ≡ self.old) }
     {
-        match self.items.push(item) {
-            Ok(()) => Ok(()),
-            Err(_) => Err(NoMemory),
+        let size = size_with(self.size, &item);
+        if self.items.push(item).is_err() {
+            return Err(NoMemory);
         }
+        self.size = size;
+        Ok(())
+    }
+
+    /// How many bytes the records have, without a walk.
+    pub fn size(&self) -> u64
+        ensures { result ≡ told_size self.now }
+    {
+        self.size
     }
 
     /// The records, lent.
