@@ -81,11 +81,14 @@ fn texts_and_lists_are_built_and_copied(rt: HostRuntime) -> Result<(), Fail> {
 #[test]
 fn bytes_are_built_and_copied(rt: HostRuntime) -> Result<(), Fail> {
     let alloc = rt.alloc();
-    let mut bytes = Bytes::repeated(alloc, 7, 2)?;
-    bytes.add(alloc, b"ab")?;
-    assert_eq!(rt; bytes.copy(alloc)?.as_slice(), b"\x07\x07ab".as_slice());
+    let bytes = Bytes::of(alloc, b"cd")?;
+    assert_eq!(rt; bytes.copy(alloc)?.as_slice(), b"cd".as_slice());
     let buffer = Buffer::of(alloc, 2)?;
-    assert_eq!(rt; Bytes::within(buffer, b"cd").as_slice(), b"cd".as_slice());
+    assert_eq!(rt; bytes.copy_within(buffer).as_slice(), b"cd".as_slice());
+    assert_eq!(rt;
+        Bytes::lent(b"ef").copy(alloc)?.as_slice(),
+        b"ef".as_slice()
+    );
     Ok(())
 }
 
@@ -106,6 +109,7 @@ fn logs_numbers_and_scripts_grow(rt: HostRuntime) -> Result<(), Fail> {
         },
     )?;
     assert_eq!(rt; log.len(), 1);
+    assert_eq!(rt; log.size(), 1);
     let mut logs = OwnedLogs::new(alloc);
     let owner = Owner::Exec(3);
     logs.push(alloc, OwnedLog { owner, log })?;

@@ -1,6 +1,6 @@
 // A log that is written on: room for records is made before they come (own).
-ghost use Rattle.std.specs.Prelude.{◌≡◌, ◌≤◌, ◌<◌, ◌+◌, [], ◌∷◌, ◌++◌, length, OnOk, OnErr};
-ghost use Rattle.engine_text.specs.Logs.{told_size};
+ghost use Rattle.std.specs.Prelude.{◌≡◌, ◌≤◌, ◌<◌, ◌+◌, ◌-◌, [], ◌∷◌, ◌++◌, length, OnOk, OnErr};
+ghost use Rattle.engine_text.specs.Logs.{log_size, told_size};
 
 use super::log::size_with;
 use super::{Log, LogRecord, NoMemory};
@@ -90,6 +90,13 @@ impl OpenLog {
         ensures { result ≡ told_size self.now.records }
     {
         self.size
+    }
+
+    /// How many bytes more there may be below that limit.
+    pub fn bytes_left(&self, limit: u64) -> u64
+        ensures { result ≡ limit - log_size self.now.records }
+    {
+        limit.saturating_sub(self.size)
     }
 
     /// The records, lent.
