@@ -93,6 +93,24 @@ fn bytes_are_built_and_copied(rt: HostRuntime) -> Result<(), Fail> {
 }
 
 #[test]
+fn an_open_log_is_written_where_room_was_made(rt: HostRuntime) -> Result<(), Fail> {
+    let alloc = rt.alloc();
+    let mut log = OpenLog::new(alloc);
+    log.reserve(alloc, 1)?;
+    log.push_reserved(LogRecord {
+        run: 1,
+        stream: Stream::Stdout,
+        payload: Bytes::lent(b"abc"),
+        moment: 2,
+    });
+    assert_eq!(rt; log.bytes_left(10), 7);
+    let closed = log.close();
+    assert_eq!(rt; closed.size(), 3);
+    assert_eq!(rt; OpenLog::open(closed).len(), 1);
+    Ok(())
+}
+
+#[test]
 fn logs_numbers_and_scripts_grow(rt: HostRuntime) -> Result<(), Fail> {
     let alloc = rt.alloc();
     let mut log = Log::new(alloc);

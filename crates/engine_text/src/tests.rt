@@ -132,3 +132,13 @@ fn only_on_failure_has_a_maximum(rt: HostRuntime) {
         assert_eq!(rt; read_policy(name, maximum), Err(Bad), "{name} {maximum}");
     }
 }
+
+#[test]
+fn a_part_is_found_wherever_it_stands(rt: HostRuntime) {
+    for part in ["", "a", "ab", "bab", "abab", "b"] {
+        assert!(rt; has_part(b"abab", part.as_bytes()), "{part}");
+    }
+    for part in ["c", "ba ", "abb", "ababa"] {
+        assert!(rt; !has_part(b"abab", part.as_bytes()), "{part}");
+    }
+}
