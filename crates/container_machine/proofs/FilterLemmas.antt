@@ -1,6 +1,6 @@
--- Texts that are put together, and parts of texts.
-use Rattle.std.proofs.Common.{◌≡◌, ℕ, Bool, true, false, ◌&&◌, ◌||◌, List, [], ◌∷◌, ◌++◌, refl, ap, sym, ◌∙◌, take, drop, length, nat_eq}
-use Rattle.engine_text.specs.Texts.{same_bytes, begins_with, has_part}
+-- Texts that are put together.
+use Rattle.std.proofs.Common.{◌≡◌, ℕ, Bool, true, false, ◌&&◌, List, [], ◌∷◌, ◌++◌, refl, ap, sym, ◌∙◌, take, drop, length, nat_eq}
+use Rattle.engine_text.specs.Texts.{same_bytes}
 
 also : (a b : Bool) (c d : Bool) → c ≡ a && d → (b && c) ≡ (b && a) && d
 also a true c d e = e
@@ -19,10 +19,3 @@ joined t k w rest begins is = ap (λ r. same_bytes r w) is ∙ (sym (ap (λ b. b
 -- it begins otherwise
 pub unjoined : (t k w : List ℕ) → same_bytes (take (length k) t) k ≡ false → false ≡ same_bytes t (k ++ w)
 unjoined t k w begins = sym (ap (λ b. b && same_bytes (drop (length k) t) w) begins) ∙ sym (apart t k w)
-
--- the part doesn't stand here, so it stands further on or nowhere
-pub further_on : (c : ℕ) (rest part : List ℕ) → begins_with (c ∷ rest) part ≡ false → has_part (c ∷ rest) part ≡ has_part rest part
-further_on c rest part e = ap (λ b. b || has_part rest part) e
-
-pub here : (c : ℕ) (rest part : List ℕ) → begins_with (c ∷ rest) part ≡ true → has_part (c ∷ rest) part ≡ true
-here c rest part e = ap (λ b. b || has_part rest part) e

@@ -7,7 +7,7 @@ ghost use Rattle.container_machine.specs.Held.{container_in};
 
 use super::held::Held;
 use api_json::{IMAGE_NAME, status_word};
-use engine_text::{Filter, FilterKey, FilterRow, Mount, Pair, Status, Text};
+use engine_text::{Filter, FilterKey, FilterRow, Mount, Pair, Status, Text, has_part};
 
 /// Whether the name is one of the image's two.
 pub fn is_image(image: &Text) -> bool
@@ -20,20 +20,6 @@ fn is_exited(status: Status) -> bool
     ensures { result ≡ spec.is_exited status }
 {
     matches!(status, Status::Exited)
-}
-
-// Whether the part stands somewhere in the text.
-fn has_part(text: &[u8], part: &[u8]) -> bool
-    ensures { result ≡ has_part text.now part.now }
-{
-    let mut rest = text;
-    'rest: while let [_, more @ ..] = rest {
-        if rest.starts_with(part) {
-            return true;
-        }
-        rest = more;
-    }
-    rest.starts_with(part)
 }
 
 // Whether the text is the code in decimal.
