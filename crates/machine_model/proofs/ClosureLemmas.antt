@@ -1,5 +1,7 @@
 -- What effects run through: a relation between a state and an effect that each single change keeps is kept by every effect.
 use Rattle.std.proofs.Common.{◌≡◌, ℕ, ◌≤◌, Bool, List, [], ◌∷◌, Option, Some, None, map, refl, sym, subst}
+use Rattle.std.specs.Prelude.{IsTrue, false}
+use Rattle.std.specs.List.{AllByRecursion}
 use Rattle.engine_text.specs.Scripts.{Program}
 use Rattle.proc_kernel.specs.Processes.{Process}
 use Rattle.machine_model.specs.State.{State, container_numbered, change_container, change_exec, change_process, drop_process}
@@ -10,17 +12,15 @@ use Rattle.machine_model.specs.Effects.Destroy.{without}
 use Rattle.machine_model.specs.Effects.Meet.{logged, put_output}
 use Rattle.machine_model.specs.Tickets.{begun}
 use Rattle.machine_model.specs.Due.{time_out}
-use Rattle.std.specs.Prelude.{IsTrue, false}
-use Rattle.std.specs.List.{AllByRecursion}
 use Rattle.machine_model.specs.Names.{holder}
 use Rattle.machine_model.specs.Consistency.{is_there}
-use Rattle.engine_text.specs.declared.event.Action.TheVariants.{Create}
 use Rattle.machine_model.specs.Calls.Create.{volume_named, placed, new_volume, with_new, new_container}
 use Rattle.machine_model.specs.Calls.ExecCreate.{with_exec, new_exec}
 use Rattle.machine_model.specs.Calls.Rename.{named}
 use Rattle.machine_model.specs.Calls.Take.{end_ticket}
 use Rattle.machine_model.specs.Calls.Volumes.{without_volume, is_in_use}
 use Rattle.machine_model.proofs.Fold.RowLemmas.{found_number}
+use Rattle.engine_text.specs.declared.event.Action.TheVariants.{Create}
 use Rattle.engine_text.specs.declared.call.CreateSpec.{CreateSpec}
 use Rattle.engine_text.specs.declared.container.Container.{Container}
 use Rattle.engine_text.specs.declared.container.Life.{Life}

@@ -1,10 +1,13 @@
 -- What due steps obey: which containers they find, what they tell, and what they run through.
-use Rattle.std.proofs.Common.{◌≡◌, ◌≢◌, ℕ, ◌==◌, Bool, true, false, List, [], ◌∷◌, ◌++◌, Option, Some, None, find, map, if◌then◌else◌, not, refl, ap, sym, ◌∙◌, subst, arith, inl, inr}
+use Rattle.std.proofs.Common.{◌≡◌, ◌≢◌, ℕ, ◌==◌, Bool, true, false, List, [], ◌∷◌, ◌++◌, Option, Some, None, find, map, if◌then◌else◌, not, refl, ap, sym, ◌∙◌, subst, arith, inl, inr, codes, decimal}
 use Rattle.std.proofs.lemmas.Bool.{eqb-true, eq-eqb}
 use Rattle.std.proofs.lemmas.Bool.Decides.{eqb_tells}
 use Rattle.std.specs.List.{AllByRecursion, filter_map, list_any, cons_option}
 use Rattle.api_json.specs.Status.{is_paused, is_restarting}
 use Rattle.container_table.specs.Timers.{is_timer, timer_in, cleared, is_before}
+use Rattle.engine_text.specs.Owner.{same_owner}
+use Rattle.proc_kernel.specs.Processes.{Process, run_due, next_due, due_of, is_frozen}
+use Rattle.proc_kernel.specs.Tables.{Entry, process_of}
 use Rattle.machine_model.specs.State.{State, container_numbered, exec_numbered, owner_number, clear_timer, timer_of}
 use Rattle.machine_model.specs.Chain.{Effect, change, with_found, with_container}
 use Rattle.machine_model.specs.EventTexts.{kill_event, pair}
@@ -12,10 +15,8 @@ use Rattle.machine_model.specs.Due.{action_at, due_actions, least_due, op_effect
 use Rattle.machine_model.specs.Effects.Meet.{step_process}
 use Rattle.machine_model.specs.Consistency.{AreDistinct, is_there, HasOwner, IsFrozenAs, IsFrozenRight, TimerStands, HasTimer, HasRemoval, IsConsistent}
 use Rattle.machine_model.specs.Step.{at_moment}
-use Rattle.engine_text.specs.Owner.{same_owner}
-use Rattle.proc_kernel.specs.Processes.{Process, run_due, next_due, due_of, is_frozen}
-use Rattle.proc_kernel.specs.Tables.{Entry, process_of}
-use Rattle.machine_model.proofs.ListLemmas.{all_weaken, all_append}
+use Rattle.machine_model.specs.Summary.{summary_row}
+use Rattle.machine_model.proofs.ListLemmas.{all_weaken, all_append, all_back, all_of_mapped, all_both}
 use Rattle.machine_model.proofs.Processes.CodeLemmas.{coded_due}
 use Rattle.machine_model.proofs.Fold.RowLemmas.{RowsBut, Same, Is, found_number, nobody, pin, whole, weaker, exact, same_some}
 use Rattle.machine_model.proofs.Fold.TellLemmas.{Fit, Folded, Tells, folded_by, folded_still, tells_then, tells_from, tells_quiet, tells_apart, tells_with}
@@ -24,6 +25,7 @@ use Rattle.machine_model.proofs.ObeyLemmas.{found_all}
 use Rattle.machine_model.proofs.Effects.LaunchLemmas.{Awake, awake_same, tells_launch, runs_launch}
 use Rattle.machine_model.proofs.Effects.EndMainLemmas.{awake_renew, awake_mark}
 use Rattle.machine_model.proofs.Effects.MeetLemmas.{tells_meet, tells_main_step, tells_exec_step, runs_step, runs_meet}
+use Rattle.machine_model.proofs.OwnerLemmas.{owner_is, same_owner-refl}
 use Rattle.engine_text.specs.declared.container.Container.{Container}
 use Rattle.engine_text.specs.declared.owner.Owner.{Owner}
 use Rattle.engine_text.specs.declared.owner.Owner.TheVariants.{Container as OfContainer, Exec as OfExec}
@@ -32,8 +34,6 @@ use Rattle.engine_text.specs.declared.script.Pace.TheVariants.{Running, Frozen}
 use Rattle.engine_text.specs.declared.status.Status.{Status}
 use Rattle.engine_text.specs.declared.step.DueAction.{DueAction}
 use Rattle.engine_text.specs.declared.event.Action.TheVariants as Action
-use Rattle.std.proofs.Common.{codes, decimal}
-use Rattle.machine_model.proofs.OwnerLemmas.{owner_is, same_owner-refl}
 
 -- ---- what a due action finds
 
@@ -81,7 +81,7 @@ awake_main s n moment p h is due c found =
 -- no container has an exec's number
 apart_from : (P : ℕ → Type 0) (xs ys : List ℕ) → AreDistinct (xs ++ ys) → AllByRecursion (λ x. AllByRecursion (λ y. x ≢ y) ys) xs
 apart_from P [] ys h = tt
-apart_from P (x ∷ xs) ys h = (Rattle.machine_model.proofs.ListLemmas.all_back (λ y. x ≢ y) xs ys h.0, apart_from P xs ys h.1)
+apart_from P (x ∷ xs) ys h = (all_back (λ y. x ≢ y) xs ys h.0, apart_from P xs ys h.1)
 
 exec_there : {A : Type 0} (p : A → Bool) (Q : A → Type 0) (xs : List A) (o : Option A) → find p xs ≡ o → is_there o ≡ true → AllByRecursion Q xs → (x : A) × (find p xs ≡ Some x) × Q x
 exec_there p Q xs None e there all = absurd (cc)
@@ -100,9 +100,9 @@ exec_apart s n h there c found =
     let apart = apart_from (λ n. Unit {0}) (map (λ c. c.number) s.containers) (map (λ x. x.number) s.execs) h.names.numbers in
     let other : AllByRecursion (λ y. c.number ≢ y) (map (λ x. x.number) s.execs) =
     found_all (λ d. AllByRecursion (λ y. d.number ≢ y) (map (λ x. x.number) s.execs)) (λ d. d.number == n) c s.containers found
-    (Rattle.machine_model.proofs.ListLemmas.all_of_mapped (λ m. AllByRecursion (λ y. m ≢ y) (map (λ x. x.number) s.execs)) (λ c. c.number) s.containers apart) in
+    (all_of_mapped (λ m. AllByRecursion (λ y. m ≢ y) (map (λ x. x.number) s.execs)) (λ c. c.number) s.containers apart) in
     let x = exec_there (λ x. x.number == n) (λ x. c.number ≢ x.number) s.execs (exec_numbered n s) refl there
-    (Rattle.machine_model.proofs.ListLemmas.all_of_mapped (λ y. c.number ≢ y) (λ x. x.number) s.execs other) in
+    (all_of_mapped (λ y. c.number ≢ y) (λ x. x.number) s.execs other) in
     let number : x.0.number ≡ n = eqb-true x.0.number n (passes (λ x. x.number == n) x.0 s.execs x.1) in
     x.2 (found_number n c s.containers found ∙ sym number)
 
@@ -173,9 +173,9 @@ pub all_find_awake : (s : State) → IsConsistent s → AllByRecursion (FindsAwa
 all_find_awake s h =
     all_append (FindsAwake s) (filter_map (λ e. action_at (owner_number e.owner) (next_due e.process)) s.processes) s.timers
     (all_actions (FindsAwake s) s.processes
-    (Rattle.machine_model.proofs.ListLemmas.all_both (λ (e : Entry). HasOwner s e.owner) (λ (e : Entry). process_of e.owner s.processes ≡ Some e.process) _
+    (all_both (λ (e : Entry). HasOwner s e.owner) (λ (e : Entry). process_of e.owner s.processes ≡ Some e.process) _
     (λ e there is moment due other. awake_owner s e.owner moment e.process h there is due) s.processes h.processes.owners (own_process s.processes h.processes.single)))
-    (Rattle.machine_model.proofs.ListLemmas.all_both (TimerStands s) (λ d. is_there (timer_in d.rank d.number s.timers) ≡ true) (FindsAwake s)
+    (all_both (TimerStands s) (λ d. is_there (timer_in d.rank d.number s.timers) ≡ true) (FindsAwake s)
     (λ d stands there. awake_timer s d h stands there) s.timers h.timers.timers (all_there s.timers))
 
 pub least_finds : (s : State) (d : DueAction) → IsConsistent s → least_due s ≡ Some d → FindsAwake s d
@@ -214,14 +214,14 @@ least_goes s d h e =
     found_all (λ (d : DueAction). (d.rank ≡ 0) → Goes s d.number) (λ d. not (list_any (λ e. is_before e d) (due_actions s))) d (due_actions s) e
     (all_append (λ (d : DueAction). (d.rank ≡ 0) → Goes s d.number) (filter_map (λ e. action_at (owner_number e.owner) (next_due e.process)) s.processes) s.timers
     (all_actions (λ (d : DueAction). (d.rank ≡ 0) → Goes s d.number) s.processes
-    (Rattle.machine_model.proofs.ListLemmas.all_both (λ (e : Entry). HasOwner s e.owner) (λ (e : Entry). process_of e.owner s.processes ≡ Some e.process) _
+    (all_both (λ (e : Entry). HasOwner s e.owner) (λ (e : Entry). process_of e.owner s.processes ≡ Some e.process) _
     (λ e there is moment due zero. goes_from s e.owner e.process moment h there is due) s.processes h.processes.owners (own_process s.processes h.processes.single)))
-    (Rattle.machine_model.proofs.ListLemmas.all_weaken (TimerStands s) (λ (d : DueAction). (d.rank ≡ 0) → Goes s d.number) (λ d stands zero. absurd (omega (arith, zero, stands.least))) s.timers h.timers.timers))
+    (all_weaken (TimerStands s) (λ (d : DueAction). (d.rank ≡ 0) → Goes s d.number) (λ d stands zero. absurd (omega (arith, zero, stands.least))) s.timers h.timers.timers))
 
 -- ---- what it tells
 
 awake_by : (s : State) (n : ℕ) (o : Option Container) → container_numbered n s ≡ o → ((c : Container) → o ≡ Some c → is_paused c.life.status ≡ false) → Fit s
-    → RowsBut n Awake (map Rattle.machine_model.specs.Summary.summary_row s.containers) s.containers
+    → RowsBut n Awake (map summary_row s.containers) s.containers
 awake_by s n None e calm fit = nobody n Same Awake _ s.containers e (whole n s.containers)
 awake_by s n (Some c) e calm fit =
     weaker n (Is c Same) Awake (λ r d id h. (h.1, ap (λ (x : Container). is_paused x.life.status) h.0 ∙ calm c refl)) _ s.containers

@@ -1,25 +1,27 @@
 -- The laws of every legal history, and what a lawful step keeps.
-use Rattle.std.proofs.Common.{ℕ, ◌≤◌, List, [], ◌∷◌, refl, arith}
+use Rattle.std.proofs.Common.{ℕ, ◌≤◌, List, [], ◌∷◌, refl, arith, Some, ◌≡◌}
 use Rattle.std.specs.List.{AllByRecursion}
 use Rattle.proc_kernel.specs.Times as proc
+use Rattle.proc_kernel.specs.Tables.{Entry}
 use Rattle.machine_model.specs.State.{State}
 use Rattle.machine_model.specs.Consistency.{IsConsistent}
-use Rattle.machine_model.specs.Due.{due_actions}
-use Rattle.machine_model.specs.Step.{at_moment, call_outcome}
+use Rattle.machine_model.specs.Due.{due_actions, least_due}
+use Rattle.machine_model.specs.Step.{call_outcome}
 use Rattle.machine_model.specs.History.{Charter, IsCharter, IsLawful, AreLawful, greatest_moment, opening_state, state_from, state_after, after_step}
 use Rattle.machine_model.specs.Laws.{FoldLaw, LogGrowsLaw, PastLaw, StatesLaw, StatusesLaw}
 use Rattle.machine_model.proofs.Fold.HistoryLemmas.{ConsistencyLaw, fold_law as fold_law_by}
-use Rattle.machine_model.proofs.MomentLemmas.{never_fall}
+use Rattle.machine_model.proofs.MomentLemmas.{never_fall, call_later}
 use Rattle.machine_model.proofs.Logs.HistoryLemmas.{log_grows_law as logs_grow_law}
 use Rattle.machine_model.proofs.ReplyLemmas.{replies_law}
 use Rattle.machine_model.proofs.ListLemmas.{all_weaken}
 use Rattle.machine_model.proofs.Kept.TimeLemmas.{FitsAt}
 use Rattle.machine_model.proofs.Kept.PastLemmas.{removals_tied, events_counted}
-use Rattle.machine_model.proofs.Consistent.FormLemmas.{KeptForm, consistent}
+use Rattle.machine_model.proofs.Consistent.FormLemmas.{KeptForm, consistent, times_at}
 use Rattle.machine_model.proofs.Consistent.BackLemmas.{form_of}
-use Rattle.machine_model.proofs.Consistent.StepLemmas.{form_step, call_opens}
+use Rattle.machine_model.proofs.Consistent.StepLemmas.{form_step, call_opens, due_later, due_low, due_until}
 use Rattle.engine_text.specs.declared.call.Call.{Call}
 use Rattle.engine_text.specs.declared.step.Step.{Step}
+use Rattle.engine_text.specs.declared.step.DueAction.{DueAction}
 
 -- ---- lawful steps
 
@@ -35,13 +37,28 @@ kept_call s connection moment c h lawful = kept_step s (Step.Call connection mom
 pub kept_due : (s : State) → IsConsistent s → IsLawful s Step.Due → IsConsistent (after_step s Step.Due)
 kept_due s h lawful = kept_step s Step.Due h lawful
 
--- at a lawful call's moment, which isn't past the greatest, nothing is due before it, and each process's times lie within a week
-pub timely_call : (s : State) (connection moment : ℕ) (c : Call) → IsConsistent s → IsLawful s (Step.Call connection moment c)
-    → (moment ≤ greatest_moment) × AllByRecursion (λ d. moment ≤ d.moment) (due_actions s) × AllByRecursion (λ e. proc.IsTimely moment e.process) s.processes
+-- a moment that isn't past the greatest, before which nothing is due, and from which no process's times lie more than a week ahead
+pub record IsMomentOf (s : State) (moment : ℕ) : Type 0 where
+  pub later : s.clock ≤ moment
+  pub until : moment ≤ greatest_moment
+  pub dues : AllByRecursion (λ d. moment ≤ d.moment) (due_actions s)
+  pub times : AllByRecursion (λ e. proc.IsTimely moment e.process) s.processes
+
+near : (moment : ℕ) (es : List Entry) → AllByRecursion (FitsAt moment) es → AllByRecursion (λ e. proc.IsTimely moment e.process) es
+near moment es fits = all_weaken (FitsAt moment) (λ e. proc.IsTimely moment e.process) (λ e fit. fit.0) es fits
+
+-- such is a lawful call's
+pub timely_call : (s : State) (connection moment : ℕ) (c : Call) → IsConsistent s → IsLawful s (Step.Call connection moment c) → IsMomentOf s moment
 timely_call s connection moment c h lawful =
     let opens = call_opens s connection moment c lawful.1 (form_of s h) in
-    let at : State = at_moment moment s in
-    (opens.clock, opens.dues, all_weaken (FitsAt moment) (λ e. proc.IsTimely moment e.process) (λ e fits. fits.0) at.processes opens.times.0)
+    record { later = call_later s connection moment c lawful.1; until = opens.clock; dues = opens.dues; times = near moment s.processes opens.times.0 }
+
+-- and a due step's
+pub timely_due : (s : State) (d : DueAction) → IsConsistent s → IsLawful s Step.Due → least_due s ≡ Some d → IsMomentOf s d.moment
+timely_due s d h lawful is =
+    let form = form_of s h in
+    let later = due_later s d is form in
+    record { later = later; until = due_until s d is lawful.1; dues = due_low s d is; times = near d.moment s.processes (times_at s d.moment later (due_low s d is) form.times).0 }
 
 -- ---- legal histories
 

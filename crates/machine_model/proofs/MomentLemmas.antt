@@ -9,6 +9,7 @@ use Rattle.machine_model.specs.EventTexts.{mount_event}
 use Rattle.machine_model.specs.History.{Charter, opening_state, after_step, events_from, events_of, IsLawfulCall, IsLawful, AreLawful, IsLegal}
 use Rattle.machine_model.specs.Step.{at_moment, step_of, or_still, step_effect}
 use Rattle.machine_model.specs.Laws.{NeverFall}
+use Rattle.machine_model.specs.Call.{outcome_of}
 use Rattle.machine_model.proofs.ListLemmas.{all_append, all_weaken, all_mapped}
 use Rattle.machine_model.proofs.ClosureLemmas.{IsClosed}
 use Rattle.machine_model.proofs.ObeyLemmas.{found_all}
@@ -90,36 +91,12 @@ due_moves s (Some d) e dues =
 pub call_later : (s : State) (connection moment : ℕ) (c : Call) → IsLawfulCall s connection moment c → s.clock ≤ moment
 call_later s connection moment (Call.Drop ticket) h = omega (arith, h.0)
 call_later s connection moment (Call.Take ticket) h = h.0.0
-call_later s connection moment (Call.Create spec) h = h.0.0
-call_later s connection moment (Call.Start target) h = h.0.0
-call_later s connection moment (Call.Stop target wait signal) h = h.0.0
-call_later s connection moment (Call.Restart target wait signal) h = h.0.0
-call_later s connection moment (Call.Kill target signal) h = h.0.0
-call_later s connection moment (Call.Pause target) h = h.0.0
-call_later s connection moment (Call.Unpause target) h = h.0.0
-call_later s connection moment (Call.Rename target name) h = h.0.0
-call_later s connection moment (Call.Remove target force) h = h.0.0
-call_later s connection moment (Call.Wait target until) h = h.0.0
-call_later s connection moment (Call.Inspect target) h = h.0.0
-call_later s connection moment (Call.List all limit filter) h = h.0.0
-call_later s connection moment (Call.Logs target ask) h = h.0.0
-call_later s connection moment (Call.Attach target ask) h = h.0.0
-call_later s connection moment (Call.ExecCreate target words stdin out err) h = h.0.0
-call_later s connection moment (Call.ExecStart id detach) h = h.0.0
-call_later s connection moment (Call.ExecInspect id) h = h.0.0
-call_later s connection moment (Call.VolumeCreate name labels) h = h.0.0
-call_later s connection moment (Call.VolumeInspect name) h = h.0.0
-call_later s connection moment (Call.VolumeRemove name) h = h.0.0
-call_later s connection moment (Call.VolumeList filter) h = h.0.0
-call_later s connection moment (Call.Events since until filter) h = h.0.0
-call_later s connection moment Call.JournalRead h = h.0.0
-call_later s connection moment (Call.Feed owner run bytes) h = h.0.0
-call_later s connection moment (Call.FeedEnd owner run) h = h.0.0
+call_later s connection moment c h = h.0.0
 
 pub moves : (s : State) (x : Step) → AllByRecursion (λ d. s.clock ≤ d.moment) (due_actions s) → IsLawful s x → Moves s (step_effect x s)
 moves s Step.Due dues lawful = due_moves s (least_due s) refl dues
 moves s (Step.Call connection moment c) dues lawful =
-    let o = Rattle.machine_model.specs.Call.outcome_of c connection (at_moment moment s) in
+    let o = outcome_of c connection (at_moment moment s) in
     let all = moves_by s moment o.effect (call_later s connection moment c lawful.1) ((obeys c connection (at_moment moment s)).runs Stamped stamped_closed) in
     (all.0, all.1)
 

@@ -1,10 +1,9 @@
 -- When two owners are one.
-use Rattle.std.proofs.Common.{◌≡◌, true, refl, ap}
+use Rattle.std.proofs.Common.{◌≡◌, true, refl, ap, inl, inr}
+use Rattle.std.proofs.lemmas.Bool.Decides.{eqb_tells}
 use Rattle.engine_text.specs.Owner.{same_owner}
 use Rattle.engine_text.specs.declared.owner.Owner.{Owner}
 use Rattle.engine_text.specs.declared.owner.Owner.TheVariants.{Container as OfContainer, Exec as OfExec}
-use Rattle.std.proofs.lemmas.Bool.Decides.{eqb_tells}
-use Rattle.std.proofs.Common.{inl, inr}
 
 pub owner_is : (a b : Owner) → same_owner a b ≡ true → a ≡ b
 owner_is (OfContainer m) (OfContainer n) e = elim (eqb_tells m n) [ inl h ↦ ap OfContainer h.1 | inr h ↦ absurd (cc) ]

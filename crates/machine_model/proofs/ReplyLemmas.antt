@@ -9,6 +9,7 @@ use Rattle.machine_model.specs.Effects.Settle.{is_at_rest, has_died, reply_if, w
 use Rattle.machine_model.specs.Step.{at_moment, step_of, or_still}
 use Rattle.machine_model.specs.History.{Charter, opening_state, after_step, state_from, state_after}
 use Rattle.machine_model.specs.Statuses.{is_reply_of}
+use Rattle.machine_model.specs.Call.{outcome_of}
 use Rattle.machine_model.proofs.ListLemmas.{all_append}
 use Rattle.machine_model.proofs.ClosureLemmas.{IsClosed}
 use Rattle.machine_model.proofs.ObeyLemmas.{IsTicketReply, HaveReplies}
@@ -124,7 +125,7 @@ due_keeps s (Some d) h =
 pub step_keeps : (s : State) (x : Step) → HaveReplies s → HaveReplies (after_step s x)
 step_keeps s Step.Due h = due_keeps s (least_due s) h
 step_keeps s (Step.Call connection moment c) h =
-    let e : Effect = (Rattle.machine_model.specs.Call.outcome_of c connection (at_moment moment s)).effect in
+    let e : Effect = (outcome_of c connection (at_moment moment s)).effect in
     settle e.state e.died ((obeys c connection (at_moment moment s)).runs KeepsReplies replies_closed h)
 
 pub replies_from : (s : State) (h : List Step) → HaveReplies s → HaveReplies (state_from s h)

@@ -4,14 +4,14 @@ use Rattle.machine_model.specs.State.{State}
 use Rattle.machine_model.specs.Chain.{tell_of}
 use Rattle.machine_model.specs.Outcome.{replies}
 use Rattle.machine_model.specs.Call.{outcome_of}
+use Rattle.machine_model.specs.EventTexts.{plain_event}
+use Rattle.machine_model.specs.Calls.Attach.{attach_spec}
 use Rattle.machine_model.proofs.Fold.RowLemmas.{Same}
 use Rattle.machine_model.proofs.Fold.TellLemmas.{tells_from, tells_quiet}
 use Rattle.machine_model.proofs.ClosureLemmas.{runs_tell}
 use Rattle.machine_model.proofs.ObeyLemmas.{Obeys, obeys_found, obeys_at}
 use Rattle.engine_text.specs.declared.call.Call.{Call}
 use Rattle.engine_text.specs.declared.reply.Reply.{Reply}
-use Rattle.machine_model.specs.EventTexts.{plain_event}
-use Rattle.machine_model.specs.Calls.Attach.{attach_spec}
 use Rattle.engine_text.specs.declared.call.AttachAsk.{AttachAsk}
 use Rattle.engine_text.specs.declared.event.Action.TheVariants as Action
 

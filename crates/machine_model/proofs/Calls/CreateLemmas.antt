@@ -1,33 +1,28 @@
 -- What a create obeys.
-use Rattle.std.proofs.Common.{◌≡◌, ℕ, Bool, true, false, List, [], ◌∷◌, Option, Some, None, refl, ap, sym, ◌∙◌, subst}
-use Rattle.machine_model.specs.State.{State}
-use Rattle.machine_model.specs.Chain.{Effect, change, and_then, each}
-use Rattle.machine_model.specs.Call.{outcome_of}
-use Rattle.machine_model.proofs.Fold.RowLemmas.{Same}
-use Rattle.machine_model.proofs.Fold.TellLemmas.{Tells, Folded, tells_still, tells_at, tells_each}
-use Rattle.machine_model.proofs.ClosureLemmas.{IsClosed, Runs, runs_at, runs_each}
-use Rattle.machine_model.proofs.ObeyLemmas.{Stands, Obeys, obeys_answer, both_true, signal_range}
-use Rattle.engine_text.specs.declared.call.Call.{Call}
-use Rattle.engine_text.specs.declared.container.Container.{Container}
-use Rattle.std.proofs.Common.{map}
+use Rattle.std.proofs.Common.{◌≡◌, ℕ, Bool, true, false, List, [], ◌∷◌, Option, Some, None, refl, ap, sym, ◌∙◌, subst, map, arith}
 use Rattle.std.proofs.lemmas.List.{map_push}
+use Rattle.machine_model.specs.State.{State}
+use Rattle.machine_model.specs.Chain.{Effect, change, and_then, each, tell}
+use Rattle.machine_model.specs.Call.{outcome_of}
 use Rattle.machine_model.specs.EventTexts.{plain_event}
-use Rattle.machine_model.specs.Chain.{tell}
 use Rattle.machine_model.specs.Names.{holder, chosen_name}
 use Rattle.machine_model.specs.Filters.{is_image}
 use Rattle.machine_model.specs.Soundness.{is_create, is_signal}
 use Rattle.machine_model.specs.Summary.{fold_on, inspect_summary, summary_row}
 use Rattle.machine_model.specs.Calls.Create.{volume_named, make_missing, unless_it_stands, new_container, with_new, add, by_holder, by_image}
+use Rattle.machine_model.proofs.Fold.RowLemmas.{Same, exact, whole}
+use Rattle.machine_model.proofs.Fold.TellLemmas.{Tells, Folded, tells_still, tells_at, tells_each, LifeInRange, fold_append}
+use Rattle.machine_model.proofs.ClosureLemmas.{IsClosed, Runs, runs_at, runs_each}
+use Rattle.machine_model.proofs.ObeyLemmas.{Stands, Obeys, obeys_answer, both_true, signal_range}
 use Rattle.machine_model.proofs.ListLemmas.{all_append}
 use Rattle.machine_model.proofs.VolumeLemmas.{made as volumes_made, with_mounts, mounts_stand}
-use Rattle.machine_model.proofs.Fold.RowLemmas.{exact, whole}
-use Rattle.machine_model.proofs.Fold.TellLemmas.{LifeInRange, fold_append}
 use Rattle.machine_model.proofs.Calls.VolumesLemmas.{tells_make_volume, runs_make_volume}
+use Rattle.engine_text.specs.declared.call.Call.{Call}
+use Rattle.engine_text.specs.declared.container.Container.{Container}
 use Rattle.engine_text.specs.declared.call.CreateSpec.{CreateSpec}
 use Rattle.engine_text.specs.declared.mounts.Mount.{Mount}
 use Rattle.engine_text.specs.declared.volume.Volume.{Volume}
 use Rattle.engine_text.specs.declared.event.Action.TheVariants as Action
-use Rattle.std.proofs.Common.{arith}
 
 -- ---- volumes
 

@@ -1,28 +1,26 @@
 -- What an exec create obeys.
-use Rattle.std.proofs.Common.{◌≡◌, ℕ, Bool, List, [], ◌∷◌, Some, refl}
+use Rattle.std.proofs.Common.{◌≡◌, ℕ, Bool, List, [], ◌∷◌, Some, refl, codes}
 use Rattle.machine_model.specs.State.{State, container_numbered}
 use Rattle.machine_model.specs.Chain.{still, change, and_then, tell_of}
-use Rattle.machine_model.specs.Outcome.{Outcome, replies}
+use Rattle.machine_model.specs.Outcome.{Outcome, answers}
 use Rattle.machine_model.specs.Call.{outcome_of}
+use Rattle.machine_model.specs.EventTexts.{exec_event, pair}
+use Rattle.machine_model.specs.Calls.ExecCreate.{if_running, new_exec, with_exec, created}
 use Rattle.machine_model.proofs.Fold.RowLemmas.{Same}
-use Rattle.machine_model.proofs.Fold.TellLemmas.{Tells, tells_then, tells_quiet, tells_apart}
+use Rattle.machine_model.proofs.Fold.TellLemmas.{Tells, tells_then, tells_quiet, tells_apart, HasByte}
 use Rattle.machine_model.proofs.ClosureLemmas.{runs_tell}
 use Rattle.machine_model.proofs.ObeyLemmas.{Obeys, obeys_answer, obeys_apart, obeys_at}
+use Rattle.machine_model.proofs.ListLemmas.{all_append}
 use Rattle.engine_text.specs.declared.call.Call.{Call}
 use Rattle.engine_text.specs.declared.container.Container.{Container}
 use Rattle.engine_text.specs.declared.reply.Reply.{Reply}
 use Rattle.engine_text.specs.declared.status.Status.{Status}
-use Rattle.std.proofs.Common.{codes}
-use Rattle.machine_model.specs.EventTexts.{exec_event, pair}
-use Rattle.machine_model.specs.Calls.ExecCreate.{if_running, new_exec, with_exec, created}
 use Rattle.engine_text.specs.declared.exec.Exec.{Exec}
 use Rattle.engine_text.specs.declared.event.Action.TheVariants as Action
-use Rattle.machine_model.proofs.Fold.TellLemmas.{HasByte}
-use Rattle.machine_model.proofs.ListLemmas.{all_append}
 
 -- an exec needs a running container
 pub if_running_case : (k : Call) (s : State) (c : Container) (f : State → Outcome) (u : Status) → Obeys k s (f s)
-    → ((body : List ℕ) → Obeys k s (Rattle.machine_model.specs.Outcome.answers 409 body s)) → Obeys k s (if_running u c f s)
+    → ((body : List ℕ) → Obeys k s (answers 409 body s)) → Obeys k s (if_running u c f s)
 if_running_case k s c f Status.Running one refused = one
 if_running_case k s c f Status.Created one refused = refused _
 if_running_case k s c f Status.Exited one refused = refused _

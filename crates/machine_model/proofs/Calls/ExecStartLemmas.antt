@@ -1,42 +1,40 @@
 -- What an exec start and an exec inspect obey.
-use Rattle.std.proofs.Common.{◌≡◌, ℕ, ◌+◌, ◌==◌, Bool, true, false, not, List, [], ◌∷◌, Option, Some, None, refl, ap, sym, ◌∙◌, subst, arith}
-use Rattle.machine_model.specs.State.{State, container_numbered}
-use Rattle.machine_model.specs.Chain.{Effect, change}
-use Rattle.machine_model.specs.Outcome.{Outcome, replies}
-use Rattle.machine_model.specs.Call.{outcome_of}
-use Rattle.machine_model.proofs.Fold.RowLemmas.{Same}
-use Rattle.machine_model.proofs.Fold.TellLemmas.{Tells, tells_then, tells_still, tells_quiet, tells_apart}
-use Rattle.machine_model.proofs.ClosureLemmas.{IsClosed, Runs, runs_then, runs_at, runs_found, runs_tell}
-use Rattle.machine_model.proofs.ObeyLemmas.{Obeys, obeys_answer, obeys_apart}
-use Rattle.engine_text.specs.declared.call.Call.{Call}
-use Rattle.engine_text.specs.declared.container.Container.{Container}
-use Rattle.std.proofs.Common.{codes, find, ◌&&◌}
+use Rattle.std.proofs.Common.{ℕ, ◌==◌, Bool, true, false, not, List, [], ◌∷◌, Option, Some, None, refl, codes, find, ◌&&◌, IsTrue}
 use Rattle.engine_text.specs.Scripts.{Program}
 use Rattle.engine_text.specs.Texts.{same_bytes}
-use Rattle.machine_model.specs.Chain.{with_found}
-use Rattle.machine_model.specs.State.{change_exec}
-use Rattle.machine_model.specs.Effects.Launch.{spawn}
 use Rattle.proc_kernel.specs.Catalogue.{program_of}
+use Rattle.machine_model.specs.State.{State, container_numbered, change_exec}
+use Rattle.machine_model.specs.Chain.{Effect, change, with_found}
+use Rattle.machine_model.specs.Outcome.{Outcome, replies, answers}
+use Rattle.machine_model.specs.Call.{outcome_of}
+use Rattle.machine_model.specs.Effects.Launch.{spawn}
 use Rattle.machine_model.specs.EventTexts.{exec_event, pair}
 use Rattle.machine_model.specs.Calls.Start.{if_program}
 use Rattle.machine_model.specs.Calls.ExecCreate.{if_running}
 use Rattle.machine_model.specs.Calls.ExecStart.{with_both, with_exec, exec_room, started, spawn_exec, start_reply, run, unless_started}
+use Rattle.machine_model.specs.Statuses.{is_reply_of}
+use Rattle.machine_model.specs.Views.{exec_body}
+use Rattle.machine_model.proofs.Fold.RowLemmas.{Same}
+use Rattle.machine_model.proofs.Fold.TellLemmas.{Tells, tells_then, tells_still, tells_quiet, tells_apart, HasByte}
+use Rattle.machine_model.proofs.ClosureLemmas.{IsClosed, Runs, runs_then, runs_at, runs_found, runs_tell}
+use Rattle.machine_model.proofs.ObeyLemmas.{Obeys, obeys_answer, obeys_apart}
 use Rattle.machine_model.proofs.Processes.ProgramCodeLemmas.{OfProgram, program_coded}
 use Rattle.machine_model.proofs.Effects.LaunchLemmas.{tells_spawn}
 use Rattle.machine_model.proofs.Calls.ExecCreateLemmas.{if_running_case}
+use Rattle.machine_model.proofs.ChangeLemmas.{all_updated}
+use Rattle.engine_text.specs.declared.call.Call.{Call}
+use Rattle.engine_text.specs.declared.container.Container.{Container}
 use Rattle.engine_text.specs.declared.owner.Owner.TheVariants.{Exec as OfExec}
 use Rattle.engine_text.specs.declared.exec.Exec.{Exec}
 use Rattle.engine_text.specs.declared.event.Action.TheVariants as Action
-use Rattle.machine_model.proofs.Fold.TellLemmas.{HasByte}
-use Rattle.machine_model.proofs.ChangeLemmas.{all_updated}
 
 both_case : (k : Call) (s : State) (n : ℕ) (id : List ℕ) (f : Container → State → Outcome) (o : Option Container)
-    → ((body : List ℕ) → Obeys k s (Rattle.machine_model.specs.Outcome.answers 404 body s)) → ((c : Container) → Obeys k s (f c s)) → Obeys k s (with_both o id f s)
+    → ((body : List ℕ) → Obeys k s (answers 404 body s)) → ((c : Container) → Obeys k s (f c s)) → Obeys k s (with_both o id f s)
 both_case k s n id f None refused one = refused _
 both_case k s n id f (Some c) refused one = one c
 
 exec_case : (k : Call) (s : State) (id : List ℕ) (f : Exec → Container → State → Outcome) (o : Option Exec)
-    → ((body : List ℕ) → Obeys k s (Rattle.machine_model.specs.Outcome.answers 404 body s)) → ((x : Exec) (c : Container) → Obeys k s (f x c s)) → Obeys k s (with_exec o id f s)
+    → ((body : List ℕ) → Obeys k s (answers 404 body s)) → ((x : Exec) (c : Container) → Obeys k s (f x c s)) → Obeys k s (with_exec o id f s)
 exec_case k s id f None refused one = refused _
 exec_case k s id f (Some x) refused one = both_case k s x.container id (f x) (container_numbered x.container s) refused (one x)
 
@@ -58,7 +56,7 @@ runs_spawn_exec k o detach x =
     let spawns = runs_found k o (λ p. runs_at (λ s. change (spawn (OfExec x.number) p (x.stdin && not detach) exec_room)) (λ s. k.on_spawn s (OfExec x.number) p (x.stdin && not detach) exec_room)) in
     runs_then k starts (runs_then k spawns (runs_tell k Action.ExecStart (pair (codes "execID") x.id ∷ []) [] x.container))
 
-replied : (id : List ℕ) (detach : Bool) (x : Exec) → Rattle.std.proofs.Common.IsTrue (Rattle.machine_model.specs.Statuses.is_reply_of (Call.ExecStart id detach) (start_reply detach x))
+replied : (id : List ℕ) (detach : Bool) (x : Exec) → IsTrue (is_reply_of (Call.ExecStart id detach) (start_reply detach x))
 replied id true x = refl
 replied id false x = refl
 
@@ -84,5 +82,5 @@ exec_start_obeys id detach connection s =
 
 pub exec_inspect_obeys : (id : List ℕ) (connection : ℕ) (s : State) → Obeys (Call.ExecInspect id) s (outcome_of (Call.ExecInspect id) connection s)
 exec_inspect_obeys id connection s =
-    exec_case (Call.ExecInspect id) s id (λ x c s. Rattle.machine_model.specs.Outcome.answers 200 (Rattle.machine_model.specs.Views.exec_body s c x) s) (find (λ x. same_bytes x.id id) s.execs)
+    exec_case (Call.ExecInspect id) s id (λ x c s. answers 200 (exec_body s c x) s) (find (λ x. same_bytes x.id id) s.execs)
     (λ body. obeys_answer (Call.ExecInspect id) s 404 body refl) (λ x c. obeys_answer (Call.ExecInspect id) s 200 _ refl)

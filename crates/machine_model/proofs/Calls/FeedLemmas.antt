@@ -1,21 +1,20 @@
 -- What feeds obey.
 use Rattle.std.proofs.Common.{ℕ, Bool, true, false, List, Option, Some, None, refl}
-use Rattle.machine_model.specs.State.{State, container_numbered}
+use Rattle.proc_kernel.specs.Processes.{feed, feed_end}
+use Rattle.machine_model.specs.State.{State, container_numbered, change_process}
 use Rattle.machine_model.specs.Chain.{Effect}
 use Rattle.machine_model.specs.Call.{outcome_of}
+use Rattle.machine_model.specs.Streams.{RunState, Coming, Live, Over, run_state}
+use Rattle.machine_model.specs.Calls.Feed.{feed_process, end_input, feed_by, ends_if, ends_with, end_by_owner, feed_end_by}
 use Rattle.machine_model.proofs.Fold.RowLemmas.{Same}
 use Rattle.machine_model.proofs.Fold.TellLemmas.{Tells, tells_still, tells_at, tells_apart}
 use Rattle.machine_model.proofs.ClosureLemmas.{IsClosed, Runs, runs_still, runs_at, runs_process}
 use Rattle.machine_model.proofs.ObeyLemmas.{Obeys, obeys_reply, obeys_apart}
+use Rattle.machine_model.proofs.Processes.CodeLemmas.{all_changed, coded_feed, coded_feed_end}
 use Rattle.engine_text.specs.declared.call.Call.{Call}
 use Rattle.engine_text.specs.declared.container.Container.{Container}
 use Rattle.engine_text.specs.declared.event.FoldRow.{FoldRow}
 use Rattle.engine_text.specs.declared.reply.Reply.{Reply}
-use Rattle.machine_model.specs.State.{change_process}
-use Rattle.machine_model.specs.Streams.{RunState, Coming, Live, Over, run_state}
-use Rattle.machine_model.specs.Calls.Feed.{feed_process, end_input, feed_by, ends_if, ends_with, end_by_owner, feed_end_by}
-use Rattle.proc_kernel.specs.Processes.{feed, feed_end}
-use Rattle.machine_model.proofs.Processes.CodeLemmas.{all_changed, coded_feed, coded_feed_end}
 use Rattle.engine_text.specs.declared.owner.Owner.{Owner}
 use Rattle.engine_text.specs.declared.owner.Owner.TheVariants.{Container as OfContainer, Exec as OfExec}
 

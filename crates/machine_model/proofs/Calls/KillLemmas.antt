@@ -1,32 +1,29 @@
 -- What a kill obeys.
-use Rattle.std.proofs.Common.{◌≡◌, ℕ, ◌==◌, Bool, true, false, List, [], ◌∷◌, Option, Some, None, refl, ap, sym, ◌∙◌, subst, arith}
+use Rattle.std.proofs.Common.{◌≡◌, ℕ, ◌==◌, Bool, true, false, List, [], ◌∷◌, Option, Some, None, refl, ap, sym, ◌∙◌, subst, arith, ◌<◌, if◌then◌else◌, codes, decimal}
+use Rattle.proc_kernel.specs.Processes.{Process, ProcessStep, signal as signalled, is_frozen, lives, set_waiting}
+use Rattle.proc_kernel.specs.Tables.{effect_of, process_of}
+use Rattle.api_json.specs.Status.{is_paused}
 use Rattle.machine_model.specs.State.{State, container_numbered}
-use Rattle.machine_model.specs.Chain.{Effect, still, change, and_then, each, renew, tell_of}
+use Rattle.machine_model.specs.Chain.{Effect, still, change, and_then, each, renew, tell_of, after, tell, with_found}
 use Rattle.machine_model.specs.Call.{outcome_of}
-use Rattle.machine_model.proofs.Fold.RowLemmas.{Same}
-use Rattle.machine_model.proofs.Fold.TellLemmas.{Tells, Folded, Fit, tells_then, tells_from, tells_to, tells_still, tells_at, tells_row, tells_quiet, tells_renew, tells_apart, tells_each, folded_by, row_is}
-use Rattle.machine_model.proofs.ClosureLemmas.{IsClosed, Runs, runs_then, runs_tell, runs_renew}
-use Rattle.machine_model.proofs.ObeyLemmas.{Stands, Obeys, obeys_answer, obeys_found, obeys_at, both_true, low_signal, found_all}
-use Rattle.machine_model.proofs.Effects.LaunchLemmas.{Awake, awake_same}
-use Rattle.machine_model.proofs.Effects.MeetLemmas.{awake_if}
-use Rattle.engine_text.specs.declared.call.Call.{Call}
-use Rattle.engine_text.specs.declared.container.Container.{Container}
-use Rattle.engine_text.specs.declared.reply.Reply.{Reply}
-use Rattle.engine_text.specs.declared.status.Status.{Status}
-use Rattle.std.proofs.Common.{◌<◌, if◌then◌else◌, codes, decimal}
-use Rattle.machine_model.specs.Chain.{after, tell, with_found}
 use Rattle.machine_model.specs.EventTexts.{kill_event, pair}
 use Rattle.machine_model.specs.Consistency.{IsFrozenAs, IsFrozenRight}
 use Rattle.machine_model.specs.Effects.Cancel.{cancel_restart}
 use Rattle.machine_model.specs.Effects.Meet.{send, stepped, by_effect}
 use Rattle.machine_model.specs.Calls.Kill.{is_final, by_hand, deliver, kill_running, kill_restarting, by_status}
-use Rattle.proc_kernel.specs.Processes.{Process, ProcessStep, signal as signalled, is_frozen, lives, set_waiting}
-use Rattle.proc_kernel.specs.Tables.{effect_of, process_of}
-use Rattle.api_json.specs.Status.{is_paused}
+use Rattle.machine_model.proofs.Fold.RowLemmas.{Same}
+use Rattle.machine_model.proofs.Fold.TellLemmas.{Tells, Folded, tells_then, tells_from, tells_quiet, folded_at}
+use Rattle.machine_model.proofs.ClosureLemmas.{IsClosed, Runs, runs_then, runs_tell, runs_renew}
+use Rattle.machine_model.proofs.ObeyLemmas.{Stands, Obeys, obeys_answer, obeys_found, obeys_at, both_true, low_signal, found_all}
+use Rattle.machine_model.proofs.Effects.LaunchLemmas.{Awake, awake_same}
+use Rattle.machine_model.proofs.Effects.MeetLemmas.{awake_if, tells_send, tells_meet, runs_send, runs_meet}
 use Rattle.machine_model.proofs.Processes.CodeLemmas.{all_changed, coded_signal}
 use Rattle.machine_model.proofs.Effects.CancelLemmas.{tells_cancel, runs_cancel}
 use Rattle.machine_model.proofs.Effects.HaltLemmas.{same_mark}
-use Rattle.machine_model.proofs.Effects.MeetLemmas.{tells_send, tells_meet, runs_send, runs_meet}
+use Rattle.engine_text.specs.declared.call.Call.{Call}
+use Rattle.engine_text.specs.declared.container.Container.{Container}
+use Rattle.engine_text.specs.declared.reply.Reply.{Reply}
+use Rattle.engine_text.specs.declared.status.Status.{Status}
 use Rattle.engine_text.specs.declared.owner.Owner.TheVariants.{Container as OfContainer}
 use Rattle.engine_text.specs.declared.script.Effect.{Effect as ProcessEffect}
 use Rattle.engine_text.specs.declared.script.Effect.TheVariants.{Lives}
@@ -78,12 +75,12 @@ folded_kill : (s : State) (c : Container) (signal : Signal) (final paused : Bool
     → is_paused c.life.status ≡ paused → Folded s (the_kill signal c final s)
 folded_kill s c signal true paused low h found e =
     let marks : Tells c.number Same (renew c.number by_hand) Same = same_mark by_hand (λ l h. h) (λ c. refl) in
-    Rattle.machine_model.proofs.Fold.TellLemmas.folded_at c Awake (the_kill signal c true) s awake_same found
+    folded_at c Awake (the_kill signal c true) s awake_same found
     (tells_from (λ r d id h. h.1)
     (tells_then (tells_quiet c.number (kill_event signal.number) (λ c t rs. refl)) (tells_then marks (tells_meet signal.number c.number low)))) h.fit
 folded_kill s c signal false true low h found e = folded_waiting s c signal.number low h found e
 folded_kill s c signal false false low h found e =
-    Rattle.machine_model.proofs.Fold.TellLemmas.folded_at c Awake (the_kill signal c false) s awake_same found
+    folded_at c Awake (the_kill signal c false) s awake_same found
     (tells_from (λ r d id k. (k.1, ap (λ (x : Container). is_paused x.life.status) k.0 ∙ e))
     (tells_then (tells_quiet c.number (kill_event signal.number) (λ c t rs. refl)) (tells_send false signal.number c.number low))) h.fit
 

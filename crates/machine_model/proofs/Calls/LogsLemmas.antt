@@ -4,10 +4,10 @@ use Rattle.machine_model.specs.State.{State}
 use Rattle.machine_model.specs.Chain.{still}
 use Rattle.machine_model.specs.Outcome.{replies}
 use Rattle.machine_model.specs.Call.{outcome_of}
+use Rattle.machine_model.specs.Calls.Logs.{log_spec}
 use Rattle.machine_model.proofs.ObeyLemmas.{Obeys, obeys_reply, obeys_at}
 use Rattle.engine_text.specs.declared.call.Call.{Call}
 use Rattle.engine_text.specs.declared.reply.Reply.{Reply}
-use Rattle.machine_model.specs.Calls.Logs.{log_spec}
 use Rattle.engine_text.specs.declared.call.LogAsk.{LogAsk}
 
 pub logs_obey : (target : List ℕ) (ask : LogAsk) (connection : ℕ) (s : State) → Obeys (Call.Logs target ask) s (outcome_of (Call.Logs target ask) connection s)

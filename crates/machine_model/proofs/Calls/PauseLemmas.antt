@@ -1,23 +1,22 @@
 -- What a pause obeys.
 use Rattle.std.proofs.Common.{◌≡◌, ℕ, ◌==◌, true, not, List, [], Some, refl, ap, sym, arith}
-use Rattle.machine_model.specs.State.{State, container_numbered}
+use Rattle.api_json.specs.Status.{is_paused}
+use Rattle.proc_kernel.specs.Processes.{freeze}
+use Rattle.machine_model.specs.State.{State, container_numbered, change_process, running_execs}
 use Rattle.machine_model.specs.Chain.{Effect, each, renew, tell_of}
 use Rattle.machine_model.specs.Call.{outcome_of}
+use Rattle.machine_model.specs.EventTexts.{plain_event}
+use Rattle.machine_model.specs.Calls.Pause.{paused, freeze_process, freeze_execs, pause, by_status}
 use Rattle.machine_model.proofs.Fold.RowLemmas.{Same}
 use Rattle.machine_model.proofs.Fold.TellLemmas.{Tells, tells_then, tells_from, tells_at, tells_row, tells_renew, tells_apart, tells_each, row_is}
 use Rattle.machine_model.proofs.ClosureLemmas.{IsClosed, Runs, runs_then, runs_at, runs_each, runs_tell, runs_renew, runs_process}
 use Rattle.machine_model.proofs.ObeyLemmas.{Obeys, obeys_answer, obeys_found, obeys_at}
+use Rattle.machine_model.proofs.Processes.CodeLemmas.{all_changed, coded_freeze}
 use Rattle.engine_text.specs.declared.call.Call.{Call}
 use Rattle.engine_text.specs.declared.container.Container.{Container}
 use Rattle.engine_text.specs.declared.event.FoldRow.{FoldRow}
 use Rattle.engine_text.specs.declared.reply.Reply.{Reply}
 use Rattle.engine_text.specs.declared.status.Status.{Status}
-use Rattle.machine_model.specs.State.{change_process, running_execs}
-use Rattle.machine_model.specs.EventTexts.{plain_event}
-use Rattle.machine_model.specs.Calls.Pause.{paused, freeze_process, freeze_execs, pause, by_status}
-use Rattle.api_json.specs.Status.{is_paused}
-use Rattle.proc_kernel.specs.Processes.{freeze}
-use Rattle.machine_model.proofs.Processes.CodeLemmas.{all_changed, coded_freeze}
 use Rattle.engine_text.specs.declared.owner.Owner.{Owner}
 use Rattle.engine_text.specs.declared.owner.Owner.TheVariants.{Container as OfContainer, Exec as OfExec}
 use Rattle.engine_text.specs.declared.exec.Exec.{Exec}

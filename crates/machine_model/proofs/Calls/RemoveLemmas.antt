@@ -1,31 +1,28 @@
 -- What a remove obeys.
-use Rattle.std.proofs.Common.{◌≡◌, ℕ, ◌+◌, Bool, true, false, List, [], ◌∷◌, Some, refl, arith}
-use Rattle.machine_model.specs.State.{State, container_numbered}
+use Rattle.std.proofs.Common.{◌≡◌, ℕ, ◌+◌, Bool, true, false, List, [], ◌∷◌, Some, refl, arith, codes, decimal}
+use Rattle.container_table.specs.Timers.{with_timer}
+use Rattle.machine_model.specs.State.{State, container_numbered, is_live, set_timer}
 use Rattle.machine_model.specs.Chain.{Effect, and_then, renew}
 use Rattle.machine_model.specs.Outcome.{replies}
 use Rattle.machine_model.specs.Call.{outcome_of}
+use Rattle.machine_model.specs.EventTexts.{kill_event, pair}
+use Rattle.machine_model.specs.Effects.Cancel.{cancel_restart}
+use Rattle.machine_model.specs.Effects.Destroy.{destroy}
+use Rattle.machine_model.specs.Calls.Remove.{to_remove, removing, if_it_lives, kill_to_remove, remove_running, remove_restarting, remove_dead, by_status}
 use Rattle.machine_model.proofs.Fold.RowLemmas.{Same, Is}
 use Rattle.machine_model.proofs.Fold.TellLemmas.{Tells, tells_then, tells_from, tells_still, tells_at, tells_quiet, tells_apart}
 use Rattle.machine_model.proofs.ClosureLemmas.{IsClosed, Runs, runs_still, runs_then, runs_at, runs_tell, runs_renew, runs_timers}
 use Rattle.machine_model.proofs.ObeyLemmas.{Obeys, obeys_answer, obeys_found, obeys_ticket, obeys_at}
 use Rattle.machine_model.proofs.Effects.LaunchLemmas.{Awake, awake_same}
-use Rattle.machine_model.proofs.Effects.MeetLemmas.{awake_if}
-use Rattle.engine_text.specs.declared.call.Call.{Call}
-use Rattle.engine_text.specs.declared.container.Container.{Container}
-use Rattle.engine_text.specs.declared.reply.Reply.{Reply}
-use Rattle.engine_text.specs.declared.status.Status.{Status}
-use Rattle.std.proofs.Common.{codes, decimal}
-use Rattle.container_table.specs.Timers.{with_timer}
-use Rattle.machine_model.specs.State.{is_live, set_timer}
-use Rattle.machine_model.specs.EventTexts.{kill_event, pair}
-use Rattle.machine_model.specs.Effects.Cancel.{cancel_restart}
-use Rattle.machine_model.specs.Effects.Destroy.{destroy}
-use Rattle.machine_model.specs.Calls.Remove.{to_remove, removing, if_it_lives, kill_to_remove, remove_running, remove_restarting, remove_dead, by_status}
+use Rattle.machine_model.proofs.Effects.MeetLemmas.{awake_if, tells_meet, runs_meet}
 use Rattle.machine_model.proofs.Effects.CancelLemmas.{tells_cancel, runs_cancel}
 use Rattle.machine_model.proofs.Effects.DestroyLemmas.{tells_destroy, runs_destroy}
 use Rattle.machine_model.proofs.Effects.EndMainLemmas.{awake_renew}
 use Rattle.machine_model.proofs.Effects.HaltLemmas.{same_mark}
-use Rattle.machine_model.proofs.Effects.MeetLemmas.{tells_meet, runs_meet}
+use Rattle.engine_text.specs.declared.call.Call.{Call}
+use Rattle.engine_text.specs.declared.container.Container.{Container}
+use Rattle.engine_text.specs.declared.reply.Reply.{Reply}
+use Rattle.engine_text.specs.declared.status.Status.{Status}
 use Rattle.engine_text.specs.declared.owner.Owner.TheVariants.{Container as OfContainer}
 use Rattle.engine_text.specs.declared.ticket.Asked.TheVariants as Asked
 use Rattle.engine_text.specs.declared.event.Action.TheVariants as Action

@@ -1,25 +1,21 @@
 -- What a rename obeys.
-use Rattle.std.proofs.Common.{◌≡◌, ℕ, Bool, true, false, List, [], ◌∷◌, Option, Some, None, refl, ap}
-use Rattle.machine_model.specs.State.{State, container_numbered}
+use Rattle.std.proofs.Common.{◌≡◌, ℕ, Bool, true, false, List, [], ◌∷◌, Option, Some, None, refl, ap, codes}
+use Rattle.engine_text.specs.Texts.{same_bytes, without_slash}
+use Rattle.machine_model.specs.State.{State, container_numbered, change_container}
 use Rattle.machine_model.specs.Chain.{Effect, still, change, tell_of}
 use Rattle.machine_model.specs.Call.{outcome_of}
-use Rattle.machine_model.proofs.Fold.RowLemmas.{Same}
-use Rattle.machine_model.proofs.Fold.TellLemmas.{Tells, Folded, Fit, tells_then, tells_from, tells_to, tells_still, tells_at, tells_row, tells_quiet, tells_renew, tells_apart, tells_each, folded_by, row_is}
+use Rattle.machine_model.specs.EventTexts.{rename_event, pair}
+use Rattle.machine_model.specs.Names.{holder}
+use Rattle.machine_model.specs.Summary.{summary_row}
+use Rattle.machine_model.specs.Calls.Rename.{named, rename, by_holder, by_own_name, by_status, rename_standing}
+use Rattle.machine_model.proofs.Fold.RowLemmas.{Same, changed}
+use Rattle.machine_model.proofs.Fold.TellLemmas.{Tells, tells_then, tells_from, tells_row, row_is, fit_changed, folded_at}
 use Rattle.machine_model.proofs.ClosureLemmas.{IsClosed, runs_tell}
 use Rattle.machine_model.proofs.ObeyLemmas.{Obeys, obeys_answer, obeys_at}
 use Rattle.engine_text.specs.declared.call.Call.{Call}
 use Rattle.engine_text.specs.declared.container.Container.{Container}
 use Rattle.engine_text.specs.declared.event.FoldRow.{FoldRow}
 use Rattle.engine_text.specs.declared.status.Status.{Status}
-use Rattle.engine_text.specs.Texts.{same_bytes, without_slash}
-use Rattle.machine_model.specs.State.{change_container}
-use Rattle.machine_model.specs.EventTexts.{rename_event, pair}
-use Rattle.machine_model.specs.Names.{holder}
-use Rattle.machine_model.specs.Summary.{summary_row}
-use Rattle.machine_model.specs.Calls.Rename.{named, rename, by_holder, by_own_name, by_status, rename_standing}
-use Rattle.machine_model.proofs.Fold.RowLemmas.{changed}
-use Rattle.machine_model.proofs.Fold.TellLemmas.{fit_changed}
-use Rattle.std.proofs.Common.{codes}
 use Rattle.engine_text.specs.declared.event.Action.TheVariants as Action
 
 -- before its rename is told
@@ -50,7 +46,7 @@ held : (target name : List ℕ) (s : State) (c : Container) (o : Option Containe
     → Obeys (Call.Rename target name) s (by_holder o (without_slash name) c s)
 held target name s c (Some other) found e = obeys_answer (Call.Rename target name) s 409 _ refl
 held target name s c None found e = record {
-  folds = λ h sound. Rattle.machine_model.proofs.Fold.TellLemmas.folded_at c Same (rename (without_slash name) c) s (λ r d id k. k) found
+  folds = λ h sound. folded_at c Same (rename (without_slash name) c) s (λ r d id k. k) found
       (tells_from (λ r d id k. k.1) (tells_rename (without_slash name) c)) h.fit;
   reply = λ h. refl;
   runs = λ R k. runs_rename R k (without_slash name) c s found e;

@@ -1,31 +1,29 @@
 -- What a restart obeys.
-use Rattle.std.proofs.Common.{◌≡◌, ℕ, List, [], Option, Some, None, refl, arith}
+use Rattle.std.proofs.Common.{◌≡◌, ℕ, List, [], Option, Some, None, refl, arith, ℤ}
+use Rattle.proc_kernel.specs.Catalogue.{program_of}
+use Rattle.engine_text.specs.Scripts.{Program}
 use Rattle.machine_model.specs.State.{State, container_numbered}
 use Rattle.machine_model.specs.Chain.{Effect, and_then}
 use Rattle.machine_model.specs.Call.{outcome_of}
-use Rattle.machine_model.proofs.Fold.RowLemmas.{Same, Is}
-use Rattle.machine_model.proofs.Fold.TellLemmas.{Tells, tells_then, tells_from, tells_quiet}
-use Rattle.machine_model.proofs.ClosureLemmas.{IsClosed, Runs, runs_then, runs_tell}
-use Rattle.machine_model.proofs.ObeyLemmas.{Obeys, obeys_answer, obeys_found, obeys_ticket, obeys_at, both_true, low_used, low_own}
-use Rattle.machine_model.proofs.Effects.LaunchLemmas.{Awake, awake_same}
-use Rattle.machine_model.proofs.Effects.MeetLemmas.{awake_if}
-use Rattle.engine_text.specs.declared.call.Call.{Call}
-use Rattle.engine_text.specs.declared.container.Container.{Container}
-use Rattle.engine_text.specs.declared.event.FoldRow.{FoldRow}
-use Rattle.engine_text.specs.declared.reply.Reply.{Reply}
-use Rattle.engine_text.specs.declared.status.Status.{Status}
-use Rattle.std.proofs.Common.{ℤ}
-use Rattle.proc_kernel.specs.Catalogue.{program_of}
-use Rattle.engine_text.specs.Scripts.{Program}
 use Rattle.machine_model.specs.EventTexts.{plain_event}
 use Rattle.machine_model.specs.Outcome.{done}
 use Rattle.machine_model.specs.Effects.Cancel.{cancel_restart}
 use Rattle.machine_model.specs.Effects.Halt.{halt}
 use Rattle.machine_model.specs.Calls.Start.{if_program}
 use Rattle.machine_model.specs.Calls.Restart.{to_restart, launch_again, by_status}
-use Rattle.machine_model.proofs.Effects.LaunchLemmas.{tells_launch_by_call, runs_launch_by_call}
+use Rattle.machine_model.proofs.Fold.RowLemmas.{Same, Is}
+use Rattle.machine_model.proofs.Fold.TellLemmas.{Tells, tells_then, tells_from, tells_quiet}
+use Rattle.machine_model.proofs.ClosureLemmas.{IsClosed, Runs, runs_then, runs_tell}
+use Rattle.machine_model.proofs.ObeyLemmas.{Obeys, obeys_answer, obeys_found, obeys_ticket, obeys_at, both_true, low_used, low_own}
+use Rattle.machine_model.proofs.Effects.LaunchLemmas.{Awake, awake_same, tells_launch_by_call, runs_launch_by_call}
+use Rattle.machine_model.proofs.Effects.MeetLemmas.{awake_if}
 use Rattle.machine_model.proofs.Effects.CancelLemmas.{tells_cancel, runs_cancel}
 use Rattle.machine_model.proofs.Effects.HaltLemmas.{tells_halt, runs_halt}
+use Rattle.engine_text.specs.declared.call.Call.{Call}
+use Rattle.engine_text.specs.declared.container.Container.{Container}
+use Rattle.engine_text.specs.declared.event.FoldRow.{FoldRow}
+use Rattle.engine_text.specs.declared.reply.Reply.{Reply}
+use Rattle.engine_text.specs.declared.status.Status.{Status}
 use Rattle.engine_text.specs.declared.signal.Signal.{Signal}
 use Rattle.engine_text.specs.declared.ticket.Asked.TheVariants as Asked
 use Rattle.engine_text.specs.declared.event.Action.TheVariants as Action

@@ -1,23 +1,22 @@
 -- What a start obeys.
 use Rattle.std.proofs.Common.{◌≡◌, ℕ, List, [], Option, Some, None, refl}
+use Rattle.proc_kernel.specs.Catalogue.{program_of}
+use Rattle.engine_text.specs.Scripts.{Program}
 use Rattle.machine_model.specs.State.{State, container_numbered}
 use Rattle.machine_model.specs.Call.{outcome_of}
+use Rattle.machine_model.specs.Outcome.{done}
+use Rattle.machine_model.specs.Calls.Start.{if_program, by_status}
+use Rattle.machine_model.specs.Effects.Launch.{launch_by_call}
 use Rattle.machine_model.proofs.Fold.RowLemmas.{Same, Is}
 use Rattle.machine_model.proofs.Fold.TellLemmas.{tells_from}
 use Rattle.machine_model.proofs.ObeyLemmas.{Obeys, obeys_answer, obeys_found, obeys_at}
-use Rattle.machine_model.proofs.Effects.LaunchLemmas.{Awake, awake_same}
+use Rattle.machine_model.proofs.Effects.LaunchLemmas.{Awake, awake_same, tells_launch_by_call, runs_launch_by_call}
 use Rattle.machine_model.proofs.Effects.MeetLemmas.{awake_if}
 use Rattle.engine_text.specs.declared.call.Call.{Call}
 use Rattle.engine_text.specs.declared.container.Container.{Container}
 use Rattle.engine_text.specs.declared.event.FoldRow.{FoldRow}
 use Rattle.engine_text.specs.declared.reply.Reply.{Reply}
 use Rattle.engine_text.specs.declared.status.Status.{Status}
-use Rattle.proc_kernel.specs.Catalogue.{program_of}
-use Rattle.engine_text.specs.Scripts.{Program}
-use Rattle.machine_model.specs.Outcome.{done}
-use Rattle.machine_model.specs.Calls.Start.{if_program, by_status}
-use Rattle.machine_model.specs.Effects.Launch.{launch_by_call}
-use Rattle.machine_model.proofs.Effects.LaunchLemmas.{tells_launch_by_call, runs_launch_by_call}
 
 ran : (target : List ℕ) (s : State) (c : Container) (o : Option Program) (u : Status) → container_numbered c.number s ≡ Some c → c.life.status ≡ u
     → ((r : FoldRow) (d : Container) → r.id ≡ d.id → Is c Same r d → Awake r d) → Obeys (Call.Start target) s (if_program o c.life.words (done (launch_by_call c.number)) s)

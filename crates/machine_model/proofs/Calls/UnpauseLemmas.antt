@@ -2,16 +2,16 @@
 use Rattle.std.proofs.Common.{◌≡◌, ℕ, List, [], Some, refl}
 use Rattle.machine_model.specs.State.{State, container_numbered}
 use Rattle.machine_model.specs.Call.{outcome_of}
+use Rattle.machine_model.specs.Effects.Meet.{thaw_container}
+use Rattle.machine_model.specs.Calls.Unpause.{by_status}
 use Rattle.machine_model.proofs.Fold.TellLemmas.{tells_from}
 use Rattle.machine_model.proofs.ObeyLemmas.{Obeys, obeys_answer, obeys_found, obeys_at}
 use Rattle.machine_model.proofs.Effects.LaunchLemmas.{Awake, awake_same}
+use Rattle.machine_model.proofs.Effects.MeetLemmas.{tells_thaw, runs_thaw}
 use Rattle.engine_text.specs.declared.call.Call.{Call}
 use Rattle.engine_text.specs.declared.container.Container.{Container}
 use Rattle.engine_text.specs.declared.reply.Reply.{Reply}
 use Rattle.engine_text.specs.declared.status.Status.{Status}
-use Rattle.machine_model.specs.Effects.Meet.{thaw_container}
-use Rattle.machine_model.specs.Calls.Unpause.{by_status}
-use Rattle.machine_model.proofs.Effects.MeetLemmas.{tells_thaw, runs_thaw}
 
 by : (target : List ℕ) (s : State) (c : Container) (u : Status) → container_numbered c.number s ≡ Some c → Obeys (Call.Unpause target) s (by_status u c s)
 by target s c Status.Paused found =

@@ -1,9 +1,13 @@
 -- What the calls of volumes obey.
 use Rattle.std.proofs.Common.{◌≡◌, ℕ, Bool, true, false, List, [], ◌∷◌, Option, Some, None, refl}
 use Rattle.machine_model.specs.State.{State}
-use Rattle.machine_model.specs.Chain.{Effect, still}
-use Rattle.machine_model.specs.Outcome.{Outcome, replies}
+use Rattle.machine_model.specs.Chain.{Effect, still, tell}
+use Rattle.machine_model.specs.Outcome.{answers}
 use Rattle.machine_model.specs.Call.{outcome_of}
+use Rattle.machine_model.specs.EventTexts.{volume_event}
+use Rattle.machine_model.specs.Calls.Create.{volume_named, make_volume, placed, new_volume}
+use Rattle.machine_model.specs.Calls.Volumes.{by_standing, with_volume, without_volume, remove_volume, is_in_use, unless_in_use}
+use Rattle.machine_model.specs.Views.{volume_body}
 use Rattle.machine_model.proofs.Fold.TellLemmas.{Tells, tells_then, tells_apart}
 use Rattle.machine_model.proofs.ClosureLemmas.{IsClosed}
 use Rattle.machine_model.proofs.ObeyLemmas.{Obeys, obeys_answer, obeys_apart}
@@ -11,10 +15,6 @@ use Rattle.engine_text.specs.declared.call.Call.{Call}
 use Rattle.engine_text.specs.declared.container.Container.{Container}
 use Rattle.engine_text.specs.declared.event.FoldRow.{FoldRow}
 use Rattle.engine_text.specs.declared.reply.Reply.{Reply}
-use Rattle.machine_model.specs.Chain.{tell}
-use Rattle.machine_model.specs.EventTexts.{volume_event}
-use Rattle.machine_model.specs.Calls.Create.{volume_named, make_volume, placed, new_volume}
-use Rattle.machine_model.specs.Calls.Volumes.{by_standing, with_volume, without_volume, remove_volume, is_in_use, unless_in_use}
 use Rattle.engine_text.specs.declared.filter.FilterRow.{FilterRow}
 use Rattle.engine_text.specs.declared.pairs.Pair.{Pair}
 use Rattle.engine_text.specs.declared.volume.Volume.{Volume}
@@ -42,7 +42,7 @@ pub volume_create_obeys : (name : List ℕ) (labels : List Pair) (connection : �
 volume_create_obeys name labels connection s = standing name labels s (volume_named name s) refl
 
 inspects : (name : List ℕ) (s : State) (o : Option Volume)
-    → Obeys (Call.VolumeInspect name) s (with_volume o name (λ v. Rattle.machine_model.specs.Outcome.answers 200 (Rattle.machine_model.specs.Views.volume_body v)) s)
+    → Obeys (Call.VolumeInspect name) s (with_volume o name (λ v. answers 200 (volume_body v)) s)
 inspects name s None = obeys_answer (Call.VolumeInspect name) s 404 _ refl
 inspects name s (Some v) = obeys_answer (Call.VolumeInspect name) s 200 _ refl
 

@@ -3,12 +3,12 @@ use Rattle.std.proofs.Common.{ℕ, List, refl}
 use Rattle.machine_model.specs.State.{State}
 use Rattle.machine_model.specs.Chain.{still}
 use Rattle.machine_model.specs.Call.{outcome_of}
+use Rattle.machine_model.specs.Tickets.{begins}
 use Rattle.machine_model.proofs.Fold.RowLemmas.{Same}
 use Rattle.machine_model.proofs.Fold.TellLemmas.{tells_from, tells_still}
 use Rattle.machine_model.proofs.ClosureLemmas.{runs_still}
 use Rattle.machine_model.proofs.ObeyLemmas.{Obeys, obeys_ticket, obeys_at}
 use Rattle.engine_text.specs.declared.call.Call.{Call}
-use Rattle.machine_model.specs.Tickets.{begins}
 use Rattle.engine_text.specs.declared.call.Until.{Until}
 use Rattle.engine_text.specs.declared.ticket.Asked.TheVariants as Asked
 

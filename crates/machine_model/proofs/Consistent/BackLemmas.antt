@@ -8,35 +8,33 @@ use Rattle.container_table.specs.Timers.{is_timer, timer_in}
 use Rattle.engine_text.specs.Owner.{same_owner}
 use Rattle.proc_kernel.specs.Processes.{Process, is_frozen, next_due}
 use Rattle.proc_kernel.specs.Tables.{Entry, process_of}
+use Rattle.proc_kernel.specs.Times as proc
 use Rattle.machine_model.specs.State.{State, container_numbered, exec_numbered, timer_of, is_process, is_live, owner_number}
 use Rattle.machine_model.specs.Due.{action_at}
-use Rattle.machine_model.specs.Consistency.{AreDistinct, is_there, HasMain, IsFrozenAs, IsFrozenRight, IsFrozenLike, FollowsMain, HasOwner, HasPid, HasExecPid, HasGoal, TimerStands, HasTimer, HasRemoval, IsConsistent, live_execs}
+use Rattle.machine_model.specs.Consistency.{AreDistinct, is_there, HasMain, IsFrozenAs, IsFrozenRight, IsFrozenLike, FollowsMain, HasOwner, HasPid, HasExecPid, HasGoal, TimerStands, HasTimer, HasRemoval, IsConsistent, live_execs, HasProgram, IsUnstarted, HasNoOutput, HasLogRoom, HasOutputRoom, room_left}
 use Rattle.machine_model.specs.Effects.Launch.{log_size}
-use Rattle.machine_model.proofs.ListLemmas.{all_front, all_back, all_weaken, all_both, all_of_mapped}
+use Rattle.machine_model.proofs.ListLemmas.{all_front, all_back, all_weaken, all_both, all_of_mapped, distinct_front, distinct_back}
 use Rattle.machine_model.proofs.Fold.RowLemmas.{found_number}
 use Rattle.machine_model.proofs.ObeyLemmas.{found_all, both_true}
 use Rattle.machine_model.proofs.DueLemmas.{owner_of, passes}
 use Rattle.machine_model.proofs.Kept.NameLemmas.{names_of}
 use Rattle.machine_model.proofs.Kept.TicketLemmas.{tickets_of}
-use Rattle.machine_model.proofs.Fits.LogRoomLemmas.{RoomBy, Rooms}
+use Rattle.machine_model.proofs.Fits.LogRoomLemmas.{RoomBy, Rooms, OutputFits, IsEmptyOf, exec_room_in}
 use Rattle.machine_model.proofs.Fits.PartLemmas.{parts_of, life_of, IsRanked, IcyAs, Watches, ExecBy}
 use Rattle.machine_model.proofs.Fits.LaunchLemmas.{Fine, OnBy}
 use Rattle.machine_model.proofs.Fits.CallLemmas.{PartsFit, names_of as program_names}
 use Rattle.machine_model.proofs.Kept.EventLemmas.{paid_for, execs_among}
 use Rattle.machine_model.proofs.Kept.TimeLemmas.{FitsAt}
+use Rattle.machine_model.proofs.OwnerLemmas.{owner_is}
+use Rattle.machine_model.proofs.Consistent.FormLemmas.{KeptForm, Counts, IsExecs, of_execs, same_room}
+use Rattle.machine_model.proofs.Processes.LimitLemmas.{size}
+use Rattle.machine_model.proofs.Tables.ProcessLemmas.{none_of}
 use Rattle.engine_text.specs.declared.container.Container.{Container}
 use Rattle.engine_text.specs.declared.exec.Exec.{Exec}
 use Rattle.engine_text.specs.declared.log.OwnedLog.{OwnedLog}
 use Rattle.engine_text.specs.declared.owner.Owner.{Owner}
 use Rattle.engine_text.specs.declared.owner.Owner.TheVariants.{Container as OfContainer, Exec as OfExec}
 use Rattle.engine_text.specs.declared.step.DueAction.{DueAction}
-use Rattle.machine_model.proofs.ListLemmas.{distinct_front, distinct_back}
-use Rattle.proc_kernel.specs.Times as proc
-use Rattle.machine_model.specs.Consistency.{HasProgram, IsUnstarted, HasNoOutput, HasLogRoom, HasOutputRoom, room_left}
-use Rattle.machine_model.proofs.OwnerLemmas.{owner_is}
-use Rattle.machine_model.proofs.Fits.LogRoomLemmas.{OutputFits, IsEmptyOf, exec_room_in}
-use Rattle.machine_model.proofs.Consistent.FormLemmas.{KeptForm, Counts, IsExecs, of_execs, same_room}
-use Rattle.machine_model.proofs.Processes.LimitLemmas.{size}
 
 -- ---- and back: execs
 
@@ -232,7 +230,7 @@ paid_cons : (o : Owner) (p : Process) (es : List Entry) (xs : List Exec) → Kno
 paid_cons (OfContainer n) p es xs known other h = h
 paid_cons (OfExec n) p es xs known other h =
     let x = exec_found (find (λ x. x.number == n) xs) known in
-    let none : process_of (OfExec n) es ≡ None = Rattle.machine_model.proofs.Tables.ProcessLemmas.none_of (OfExec n) es other in
+    let none : process_of (OfExec n) es ≡ None = none_of (OfExec n) es other in
     let more : 1 + length (filter (λ (x : Exec). is_process (process_of (OfExec x.number) es)) xs) ≤ length (filter (λ x. is_process (if same_owner (OfExec n) (OfExec x.number) then Some p else process_of (OfExec x.number) es)) xs) =
     one_passes (λ x. x.number == n) (λ x. is_process (process_of (OfExec x.number) es)) (λ x. is_process (if n == x.number then Some p else process_of (OfExec x.number) es)) x.0 xs x.1
     (λ y live. if_more (n == y.number) p (process_of (OfExec y.number) es) live)

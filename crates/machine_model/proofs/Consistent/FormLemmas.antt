@@ -1,50 +1,37 @@
 -- The form in which effects keep what holds of a state, and that a state in that form is consistent.
-use Rattle.std.proofs.Common.{◌≡◌, ℕ, ◌+◌, ◌*◌, ◌^◌, ◌<◌, ◌≤◌, ◌==◌, Bool, true, false, List, [], ◌∷◌, Option, Some, None, if◌then◌else◌, find, map, length, refl, sym, subst, arith}
-use Rattle.std.proofs.lemmas.Bool.{ltb-true}
+use Rattle.std.proofs.Common.{◌≡◌, ℕ, ◌+◌, ◌*◌, ◌^◌, ◌<◌, ◌≤◌, ◌==◌, Bool, true, false, List, [], ◌∷◌, Option, Some, None, if◌then◌else◌, find, map, length, refl, sym, subst, arith, suc, ap, ◌∙◌, ◌||◌}
+use Rattle.std.proofs.lemmas.Bool.{ltb-true, leb-false}
 use Rattle.std.proofs.Math.Nat.{min-le_right}
 use Rattle.std.specs.Prelude.{IsTrue}
 use Rattle.std.specs.List.{AllByRecursion, filter_map, cons_option}
 use Rattle.container_table.specs.Lists.{remove_first}
-use Rattle.proc_kernel.specs.Processes.{next_due}
-use Rattle.proc_kernel.specs.Tables.{Entry}
-use Rattle.machine_model.specs.State.{State, owner_number}
+use Rattle.proc_kernel.specs.Processes.{next_due, Process}
+use Rattle.proc_kernel.specs.Tables.{Entry, process_of}
+use Rattle.proc_kernel.specs.Times.{IsUndue}
+use Rattle.proc_kernel.proofs.TimeLemmas.{timely_later}
+use Rattle.container_table.proofs.LeastLemmas.{least_from}
+use Rattle.api_json.specs.Status.{is_restarting}
+use Rattle.engine_text.specs.Owner.{same_owner}
+use Rattle.proc_kernel.specs.Catalogue.{program_of}
+use Rattle.proc_kernel.specs.Times as proc
+use Rattle.machine_model.specs.State.{State, owner_number, container_numbered, exec_numbered, is_process, is_live}
 use Rattle.machine_model.specs.Due.{action_at, due_actions}
 use Rattle.machine_model.specs.Step.{at_moment}
 use Rattle.machine_model.specs.Ready.{is_ready}
 use Rattle.machine_model.specs.Tickets.{ticket_numbered}
-use Rattle.machine_model.specs.History.{greatest_moment, has_steps, IsTimely, is_begun_by, has_ticket}
-use Rattle.machine_model.specs.Consistency.{HasCounts, IsConsistent, live_execs}
-use Rattle.machine_model.proofs.ListLemmas.{all_front, all_back, all_of_mapped, all_weaken, all_both}
+use Rattle.machine_model.specs.History.{greatest_moment, has_steps, IsTimely, is_begun_by, has_ticket, is_by, is_due}
+use Rattle.machine_model.specs.Consistency.{HasCounts, IsConsistent, live_execs, is_there, HasProgram, IsUnstarted, HasNoOutput, HasLogRoom, HasOutputRoom, HasExecs, CanGoOn, room_left}
+use Rattle.machine_model.specs.Effects.Launch.{log_size}
+use Rattle.machine_model.proofs.ListLemmas.{all_front, all_back, all_of_mapped, all_weaken, all_both, all_mapped}
 use Rattle.machine_model.proofs.Kept.NameLemmas.{Names, has_names}
 use Rattle.machine_model.proofs.Kept.TableLemmas.{Volumes, has_volumes, Tickets}
 use Rattle.machine_model.proofs.Kept.TicketLemmas.{has_tickets}
 use Rattle.machine_model.proofs.Fits.CallLemmas.{PartsFit}
 use Rattle.machine_model.proofs.Fits.FreshLemmas.{Fresh}
-use Rattle.machine_model.proofs.Fits.StepLemmas.{has_timers}
-use Rattle.proc_kernel.specs.Times.{IsUndue}
-use Rattle.proc_kernel.proofs.TimeLemmas.{timely_later}
+use Rattle.machine_model.proofs.Fits.StepLemmas.{has_timers, own_container, all_fine}
 use Rattle.machine_model.proofs.Kept.EventLemmas.{Few, paid_for}
 use Rattle.machine_model.proofs.Kept.TimeLemmas.{FitsAt, Times}
 use Rattle.machine_model.proofs.Kept.ProcessLemmas.{has_processes, within_limits, live_paid}
-use Rattle.engine_text.specs.declared.container.Container.{Container}
-use Rattle.engine_text.specs.declared.exec.Exec.{Exec}
-use Rattle.engine_text.specs.declared.call.Call.{Call}
-use Rattle.engine_text.specs.declared.step.DueAction.{DueAction}
-use Rattle.engine_text.specs.declared.ticket.Ticket.{Ticket}
-use Rattle.std.proofs.Common.{suc, ap, ◌∙◌, ◌||◌}
-use Rattle.std.proofs.lemmas.Bool.{leb-false}
-use Rattle.container_table.proofs.LeastLemmas.{least_from}
-use Rattle.api_json.specs.Status.{is_restarting}
-use Rattle.engine_text.specs.Owner.{same_owner}
-use Rattle.proc_kernel.specs.Catalogue.{program_of}
-use Rattle.proc_kernel.specs.Processes.{Process}
-use Rattle.proc_kernel.specs.Tables.{process_of}
-use Rattle.proc_kernel.specs.Times as proc
-use Rattle.machine_model.specs.State.{container_numbered, exec_numbered, is_process, is_live}
-use Rattle.machine_model.specs.History.{is_by, is_due}
-use Rattle.machine_model.specs.Effects.Launch.{log_size}
-use Rattle.machine_model.specs.Consistency.{is_there, HasProgram, IsUnstarted, HasNoOutput, HasLogRoom, HasOutputRoom, HasExecs, CanGoOn, room_left}
-use Rattle.machine_model.proofs.ListLemmas.{all_mapped}
 use Rattle.machine_model.proofs.OwnerLemmas.{same_owner-refl}
 use Rattle.machine_model.proofs.Fold.TellLemmas.{Carried}
 use Rattle.machine_model.proofs.Kept.ExecLemmas.{Execs}
@@ -52,7 +39,11 @@ use Rattle.machine_model.proofs.Fits.ExecLoopLemmas.{own_exec}
 use Rattle.machine_model.proofs.Fits.LogRoomLemmas.{RoomBy, OutputFits, IsEmptyOf, exec_room_in, life_of}
 use Rattle.machine_model.proofs.Fits.PartLemmas.{parts_of, Watches, ExecBy}
 use Rattle.machine_model.proofs.Fits.LaunchLemmas.{Fine}
-use Rattle.machine_model.proofs.Fits.StepLemmas.{own_container, all_fine}
+use Rattle.engine_text.specs.declared.container.Container.{Container}
+use Rattle.engine_text.specs.declared.exec.Exec.{Exec}
+use Rattle.engine_text.specs.declared.call.Call.{Call}
+use Rattle.engine_text.specs.declared.step.DueAction.{DueAction}
+use Rattle.engine_text.specs.declared.ticket.Ticket.{Ticket}
 use Rattle.engine_text.specs.declared.container.Life.{Life}
 use Rattle.engine_text.specs.declared.log.OwnedLog.{OwnedLog}
 use Rattle.engine_text.specs.declared.owner.Owner.{Owner}

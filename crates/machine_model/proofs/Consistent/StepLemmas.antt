@@ -1,11 +1,12 @@
 -- Each lawful step keeps the form.
-use Rattle.std.proofs.Common.{◌≡◌, ℕ, ◌+◌, ◌^◌, ◌<◌, ◌≤◌, List, Option, Some, None, map, length, refl, ap, sym, ◌∙◌, subst, arith}
+use Rattle.std.proofs.Common.{◌≡◌, ℕ, ◌+◌, ◌^◌, ◌<◌, ◌≤◌, List, Option, Some, None, map, length, refl, ap, sym, ◌∙◌, subst, arith, not}
 use Rattle.std.proofs.lemmas.Bool.{leb-true}
 use Rattle.std.proofs.lemmas.List.{length-map}
 use Rattle.std.proofs.Math.Nat.{min-le_right}
 use Rattle.std.specs.Prelude.{IsTrue}
-use Rattle.std.specs.List.{AllByRecursion}
+use Rattle.std.specs.List.{AllByRecursion, list_any}
 use Rattle.container_table.proofs.LeastLemmas.{least_from}
+use Rattle.container_table.specs.Timers.{is_before}
 use Rattle.machine_model.specs.State.{State}
 use Rattle.machine_model.specs.Chain.{Effect}
 use Rattle.machine_model.specs.Call.{outcome_of}
@@ -29,6 +30,9 @@ use Rattle.machine_model.proofs.Kept.CountLemmas.{Counted, counted_priced}
 use Rattle.machine_model.proofs.Kept.EventLemmas.{Few, Paid, paid_priced, paid_for}
 use Rattle.machine_model.proofs.Kept.TimeLemmas.{Times, KeepsTimes, times_priced}
 use Rattle.machine_model.proofs.Consistent.FormLemmas.{Counts, KeptForm, consistent, fresh_of, times_at, Opens, timely_opens, drop_opens, one_less, StepsFit, few_steps}
+use Rattle.machine_model.proofs.ObeyLemmas.{found_all}
+use Rattle.machine_model.proofs.Fold.HistoryLemmas.{folded_step}
+use Rattle.machine_model.proofs.Kept.ExecLemmas.{Execs, KeepsExecs, execs_closed}
 use Rattle.engine_text.specs.declared.call.Call.{Call}
 use Rattle.engine_text.specs.declared.container.Container.{Container}
 use Rattle.engine_text.specs.declared.owner.Owner.{Owner}
@@ -36,12 +40,6 @@ use Rattle.engine_text.specs.declared.owner.Owner.TheVariants.{Container as OfCo
 use Rattle.engine_text.specs.declared.step.DueAction.{DueAction}
 use Rattle.engine_text.specs.declared.step.Step.{Step}
 use Rattle.engine_text.specs.declared.ticket.Ticket.{Ticket}
-use Rattle.std.proofs.Common.{not}
-use Rattle.std.specs.List.{list_any}
-use Rattle.container_table.specs.Timers.{is_before}
-use Rattle.machine_model.proofs.ObeyLemmas.{found_all}
-use Rattle.machine_model.proofs.Fold.HistoryLemmas.{folded_step}
-use Rattle.machine_model.proofs.Kept.ExecLemmas.{Execs, KeepsExecs, execs_closed}
 
 -- ---- counts
 
@@ -129,14 +127,14 @@ form_call s connection t c lawful h =
 
 -- ---- due steps
 
-due_low : (s : State) (d : DueAction) → least_due s ≡ Some d → AllByRecursion (λ e. d.moment ≤ e.moment) (due_actions s)
+pub due_low : (s : State) (d : DueAction) → least_due s ≡ Some d → AllByRecursion (λ e. d.moment ≤ e.moment) (due_actions s)
 due_low s d e = least_from d.moment (due_actions s) (λ x is. let same : d.moment ≡ x.moment = ap (λ (y : DueAction). y.moment) (same_some d x (sym e ∙ is)) in omega (arith, same))
 
-due_later : (s : State) (d : DueAction) → least_due s ≡ Some d → KeptForm s → s.clock ≤ d.moment
+pub due_later : (s : State) (d : DueAction) → least_due s ≡ Some d → KeptForm s → s.clock ≤ d.moment
 due_later s d e h =
     found_all (λ (x : DueAction). s.clock ≤ x.moment) (λ d. not (list_any (λ e. is_before e d) (due_actions s))) d (due_actions s) e (consistent s h).limits.dues
 
-due_until : (s : State) (d : DueAction) → least_due s ≡ Some d → IsTrue (is_due s (latest s)) → d.moment ≤ greatest_moment
+pub due_until : (s : State) (d : DueAction) → least_due s ≡ Some d → IsTrue (is_due s (latest s)) → d.moment ≤ greatest_moment
 due_until s d e due =
     let by : d.moment ≤ latest s = leb-true d.moment (latest s) (subst (λ o. IsTrue (is_by o (latest s))) e due) in
     omega (arith, by, min-le_right (s.clock + 604800000) greatest_moment)

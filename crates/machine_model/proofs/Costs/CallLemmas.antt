@@ -7,6 +7,8 @@ use Rattle.engine_text.specs.Texts.{same_bytes, without_slash}
 use Rattle.proc_kernel.specs.Catalogue.{program_of}
 use Rattle.proc_kernel.specs.Processes.{feed_end}
 use Rattle.proc_kernel.specs.Tables.{process_of, room_at}
+use Rattle.proc_kernel.specs.Times.{IsShortProgram}
+use Rattle.proc_kernel.proofs.ProgramTimes.{program_short}
 use Rattle.machine_model.specs.State.{State, container_numbered}
 use Rattle.machine_model.specs.Chain.{Effect, still, change, and_then, each, tell, tell_of}
 use Rattle.machine_model.specs.EventTexts.{plain_event, exec_event, volume_event}
@@ -34,10 +36,13 @@ use Rattle.machine_model.specs.Calls.Rename as rename
 use Rattle.machine_model.specs.Calls.Remove as remove
 use Rattle.machine_model.specs.Calls.Volumes as volumes
 use Rattle.machine_model.specs.Calls.Feed as feeds
+use Rattle.machine_model.specs.Calls.Take.{end_ticket}
 use Rattle.machine_model.proofs.ObeyLemmas.{both_true}
 use Rattle.machine_model.proofs.VolumeLemmas.{made as volumes_made, with_mounts}
 use Rattle.machine_model.proofs.Processes.LimitLemmas.{feed_end_fits}
 use Rattle.machine_model.proofs.Costs.CostLemmas.{Cost, none, tells, plus, most_of, IsPriced, Costs, costs_still, costs_then, costs_nothing, costs_tell}
+use Rattle.machine_model.proofs.Costs.AnswerLemmas.{full, idle, top, ticket, at}
+use Rattle.machine_model.proofs.Costs.StatusLemmas.{start_by, stop_by, restart_by, kill_by, pause_by, unpause_by, rename_by, remove_by}
 use Rattle.engine_text.specs.declared.call.Call.{Call}
 use Rattle.engine_text.specs.declared.call.CreateSpec.{CreateSpec}
 use Rattle.engine_text.specs.declared.container.Container.{Container}
@@ -50,10 +55,6 @@ use Rattle.engine_text.specs.declared.status.Status.{Status}
 use Rattle.engine_text.specs.declared.ticket.Asked.{Asked}
 use Rattle.engine_text.specs.declared.volume.Volume.{Volume}
 use Rattle.engine_text.specs.declared.event.Action.TheVariants as Action
-use Rattle.machine_model.proofs.Costs.AnswerLemmas.{full, idle, top, ticket, at}
-use Rattle.machine_model.proofs.Costs.StatusLemmas.{start_by, stop_by, restart_by, kill_by, pause_by, unpause_by, rename_by, remove_by}
-use Rattle.proc_kernel.specs.Times.{IsShortProgram}
-use Rattle.proc_kernel.proofs.ProgramTimes.{program_short}
 
 -- ---- create
 
@@ -196,7 +197,7 @@ end_by R k owner s Live = end_owner R k owner s
 end_by R k owner s Over = idle R k s
 end_by R k owner s Coming = idle R k s
 
-ends_ticket : (R : Cost → State → Effect → Type 0) → IsPriced R → (n : ℕ) (s : State) → R full s (change (Rattle.machine_model.specs.Calls.Take.end_ticket n) s)
+ends_ticket : (R : Cost → State → Effect → Type 0) → IsPriced R → (n : ℕ) (s : State) → R full s (change (end_ticket n) s)
 ends_ticket R k n s = k.on_more none full s _ (most_of none full refl) (k.on_end_ticket s n)
 
 -- ---- every call

@@ -7,6 +7,7 @@ use Rattle.engine_text.specs.Scripts.{Program}
 use Rattle.engine_text.specs.Texts.{same_bytes}
 use Rattle.proc_kernel.specs.Processes.{Process, ProcessStep, feed}
 use Rattle.proc_kernel.specs.Tables.{process_of, effect_of, room_at}
+use Rattle.proc_kernel.specs.Times.{AreShort}
 use Rattle.machine_model.specs.State.{State, container_numbered, change_container, change_exec, change_process, drop_process}
 use Rattle.machine_model.specs.Chain.{Effect, Died, still, change, after, and_then, each, with_found, with_container, tell, tell_of, tell_mounts, renew}
 use Rattle.machine_model.specs.EventTexts.{mount_event}
@@ -38,7 +39,6 @@ use Rattle.engine_text.specs.declared.script.Effect.{Effect as ProcessEffect}
 use Rattle.engine_text.specs.declared.script.Effect.TheVariants.{Lives, Wrote, Ended}
 use Rattle.engine_text.specs.declared.step.DueAction.{DueAction}
 use Rattle.engine_text.specs.declared.ticket.Asked.{Asked}
-use Rattle.proc_kernel.specs.Times.{AreShort}
 
 -- ---- costs
 

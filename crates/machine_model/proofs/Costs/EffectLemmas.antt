@@ -6,8 +6,8 @@ use Rattle.container_table.specs.Timers.{is_timer, cleared, with_timer}
 use Rattle.proc_kernel.specs.Catalogue.{program_of}
 use Rattle.proc_kernel.specs.Processes.{Process, ProcessStep, run_due, signal, thaw}
 use Rattle.proc_kernel.specs.Tables.{Entry, process_of, effect_of}
-use Rattle.restart_policy.specs.declared.decision.Decision.{Decision}
-use Rattle.restart_policy.specs.declared.decision.Decision.TheVariants.{Stay, Again}
+use Rattle.proc_kernel.specs.Times.{IsShortProgram}
+use Rattle.proc_kernel.proofs.ProgramTimes.{program_short}
 use Rattle.machine_model.specs.State.{State, container_numbered, owner_number, timer_of, running_execs, drop_process}
 use Rattle.machine_model.specs.Chain.{Effect, still, change, after, in_order, each, with_found, with_container, renew}
 use Rattle.machine_model.specs.EventTexts.{plain_event, die_event, kill_event}
@@ -24,6 +24,8 @@ use Rattle.machine_model.proofs.ObeyLemmas.{found_all}
 use Rattle.machine_model.proofs.Tables.ProcessLemmas.{changed_stands}
 use Rattle.machine_model.proofs.Processes.LimitLemmas.{IsStep, due_fits, thaw_fits, signal_fits}
 use Rattle.machine_model.proofs.Costs.CostLemmas.{Cost, none, tells, plus, IsMost, IsQuiet, write_part, AreFrom, IsPriced, Costs, costs_still, costs_then, costs_most, costs_at, costs_nothing, costs_with, costs_tell, costs_mounts, costs_renew, costs_timers, costs_each}
+use Rattle.restart_policy.specs.declared.decision.Decision.{Decision}
+use Rattle.restart_policy.specs.declared.decision.Decision.TheVariants.{Stay, Again}
 use Rattle.engine_text.specs.declared.container.Container.{Container}
 use Rattle.engine_text.specs.declared.container.Goal.{Goal}
 use Rattle.engine_text.specs.declared.container.Life.{Life}
@@ -36,8 +38,6 @@ use Rattle.engine_text.specs.declared.signal.Signal.{Signal}
 use Rattle.engine_text.specs.declared.status.Status.{Status}
 use Rattle.engine_text.specs.declared.step.DueAction.{DueAction}
 use Rattle.engine_text.specs.declared.event.Action.TheVariants.{Start, Mount, Unmount, Stop, Restart, Destroy, Unpause}
-use Rattle.proc_kernel.specs.Times.{IsShortProgram}
-use Rattle.proc_kernel.proofs.ProgramTimes.{program_short}
 
 -- ---- timers
 

@@ -1,12 +1,12 @@
 -- What the end of execs leaves as it is.
 use Rattle.std.proofs.Common.{◌≡◌, ℕ, ◌==◌, List, [], ◌∷◌, map, refl, sym, ◌∙◌, subst, inl, inr}
 use Rattle.std.specs.List.{AllByRecursion}
+use Rattle.proc_kernel.specs.Tables.{Entry}
 use Rattle.machine_model.specs.State.{State, running_execs}
 use Rattle.machine_model.specs.Chain.{each}
 use Rattle.machine_model.specs.Effects.EndMain.{end_exec, end_execs, exec_ended}
 use Rattle.machine_model.proofs.ChangeLemmas.{map_updated}
 use Rattle.machine_model.proofs.Tables.ProcessLemmas.{All_without}
-use Rattle.proc_kernel.specs.Tables.{Entry}
 use Rattle.machine_model.proofs.Fits.ExecLoopLemmas.{end_exec_state}
 use Rattle.engine_text.specs.declared.exec.Exec.{Exec}
 use Rattle.engine_text.specs.declared.owner.Owner.TheVariants.{Exec as OfExec}

@@ -26,6 +26,7 @@ use Rattle.machine_model.specs.Calls.Remove as remove
 use Rattle.machine_model.proofs.Processes.LimitLemmas.{freeze_fits}
 use Rattle.machine_model.proofs.Costs.CostLemmas.{Cost, none, tells, IsPriced, Costs, costs_still, costs_then, costs_most, costs_at, costs_tell, costs_renew, costs_timers, costs_each}
 use Rattle.machine_model.proofs.Costs.EffectLemmas.{set_from, launch_cost, costs_launch_by_call, costs_destroy, costs_thaw, costs_send, costs_meet, costs_halt, costs_cancel, meet_cost}
+use Rattle.machine_model.proofs.Costs.AnswerLemmas.{full, idle, top, ticket}
 use Rattle.engine_text.specs.declared.container.Container.{Container}
 use Rattle.engine_text.specs.declared.exec.Exec.{Exec}
 use Rattle.engine_text.specs.declared.owner.Owner.{Owner}
@@ -34,7 +35,6 @@ use Rattle.engine_text.specs.declared.signal.Signal.{Signal}
 use Rattle.engine_text.specs.declared.status.Status.{Status}
 use Rattle.engine_text.specs.declared.ticket.Asked.{Asked}
 use Rattle.engine_text.specs.declared.event.Action.TheVariants as Action
-use Rattle.machine_model.proofs.Costs.AnswerLemmas.{full, idle, top, ticket}
 
 -- ---- start, stop, restart
 

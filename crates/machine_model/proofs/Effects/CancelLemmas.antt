@@ -1,12 +1,10 @@
 -- What the end of a pending restart tells: nothing.
-use Rattle.std.proofs.Common.{arith}
-use Rattle.machine_model.specs.State.{State}
-use Rattle.machine_model.specs.Chain.{Effect}
+use Rattle.std.proofs.Common.{arith, ℕ, refl}
 use Rattle.container_table.specs.Timers.{cleared}
-use Rattle.machine_model.proofs.ClosureLemmas.{IsClosed, Runs, runs_then, runs_renew, runs_timers}
-use Rattle.std.proofs.Common.{ℕ, refl}
-use Rattle.machine_model.specs.State.{clear_timer}
+use Rattle.machine_model.specs.State.{State, clear_timer}
+use Rattle.machine_model.specs.Chain.{Effect}
 use Rattle.machine_model.specs.Effects.Cancel.{cancelled, cancel_restart}
+use Rattle.machine_model.proofs.ClosureLemmas.{IsClosed, Runs, runs_then, runs_renew, runs_timers}
 use Rattle.machine_model.proofs.Fold.TellLemmas.{Tells, tells_then, tells_apart}
 use Rattle.machine_model.proofs.Effects.LaunchLemmas.{Awake}
 use Rattle.machine_model.proofs.Effects.EndMainLemmas.{awake_renew}

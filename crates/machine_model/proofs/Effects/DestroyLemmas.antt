@@ -1,20 +1,18 @@
 -- What a destroy tells.
-use Rattle.machine_model.specs.Chain.{Effect}
-use Rattle.machine_model.proofs.ClosureLemmas.{IsClosed, Runs, runs_then, runs_with, runs_tell}
-use Rattle.std.proofs.Common.{◌≡◌, ℕ, ◌==◌, List, [], ◌∷◌, Option, Some, None, refl, sym, subst}
+use Rattle.std.proofs.Common.{◌≡◌, ℕ, ◌==◌, List, [], ◌∷◌, Option, Some, None, refl, sym, subst, not}
 use Rattle.container_table.specs.Lists.{remove_first}
+use Rattle.machine_model.specs.Chain.{Effect, and_then, change, tell, with_found, with_container}
 use Rattle.machine_model.specs.State.{State, container_numbered}
-use Rattle.machine_model.specs.Chain.{and_then, change, tell, with_found, with_container}
 use Rattle.machine_model.specs.EventTexts.{plain_event}
 use Rattle.machine_model.specs.Effects.Destroy.{without, destroy}
 use Rattle.machine_model.specs.Summary.{fold_on}
+use Rattle.machine_model.proofs.ClosureLemmas.{IsClosed, Runs, runs_then, runs_with, runs_tell}
 use Rattle.machine_model.proofs.Fold.RowLemmas.{RowsBut, found_number, nobody, gone}
 use Rattle.machine_model.proofs.Fold.TellLemmas.{Fit, LifeInRange, HasByte, Tells}
+use Rattle.machine_model.proofs.ChangeLemmas.{all_removed, distinct_removed, all_filtered}
 use Rattle.engine_text.specs.declared.container.Container.{Container}
 use Rattle.engine_text.specs.declared.event.FoldRow.{FoldRow}
 use Rattle.engine_text.specs.declared.event.Action.TheVariants.{Destroy}
-use Rattle.machine_model.proofs.ChangeLemmas.{all_removed, distinct_removed, all_filtered}
-use Rattle.std.proofs.Common.{not, ◌==◌}
 
 -- ---- one item less
 

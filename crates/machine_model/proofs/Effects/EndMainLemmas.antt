@@ -1,27 +1,25 @@
 -- What the ends of execs and of main processes tell.
 use Rattle.std.specs.Prelude.{codes, decimal}
-use Rattle.container_table.specs.Timers.{cleared, with_timer}
-use Rattle.machine_model.specs.EventTexts.{pair}
-use Rattle.engine_text.specs.declared.event.Action.TheVariants.{Die, ExecDie}
-use Rattle.machine_model.proofs.Effects.LaunchLemmas.{runs_launch_by_call}
-use Rattle.machine_model.proofs.Effects.DestroyLemmas.{runs_destroy}
-use Rattle.machine_model.proofs.ClosureLemmas.{IsClosed, Runs, runs_still, runs_then, runs_at, runs_each, runs_found, runs_with, runs_mounts, runs_tell, runs_renew, runs_timers}
-use Rattle.std.proofs.Common.{◌≡◌, ℕ, ◌+◌, ◌^◌, ◌<◌, ◌==◌, false, not, [], ◌∷◌, refl, ap, sym, ◌∙◌, arith}
+use Rattle.std.proofs.Common.{◌≡◌, ℕ, ◌+◌, ◌^◌, ◌<◌, ◌==◌, false, not, [], ◌∷◌, refl, ap, sym, ◌∙◌, arith, subst}
 use Rattle.std.proofs.lemmas.Fmt.{decimal_is_IsNumeral}
+use Rattle.container_table.specs.Timers.{cleared, with_timer}
+use Rattle.api_json.specs.Status.{is_paused}
+use Rattle.machine_model.specs.EventTexts.{pair, plain_event, die_event, exec_die_event}
 use Rattle.machine_model.specs.State.{State, set_timer, drop_process, exec_numbered, running_execs, change_exec}
 use Rattle.machine_model.specs.Chain.{Effect, each, change, renew, tell_of, with_found, with_container}
-use Rattle.machine_model.specs.EventTexts.{plain_event, die_event, exec_die_event}
 use Rattle.machine_model.specs.Effects.EndMain.{end_exec, end_execs, exec_ended, ended, die, clear_deadlines, exited, no_goal, restarting, follow, decision_at, by_goal, by_status, end_main}
 use Rattle.machine_model.specs.Summary.{summary_row, exit_code}
-use Rattle.api_json.specs.Status.{is_paused}
-use Rattle.restart_policy.specs.declared.decision.Decision.{Decision}
-use Rattle.restart_policy.specs.declared.decision.Decision.TheVariants.{Stay, Again}
+use Rattle.machine_model.specs.Ranges.{IsLifeInRange}
+use Rattle.machine_model.proofs.Effects.LaunchLemmas.{runs_launch_by_call, Awake, tells_launch_by_call}
+use Rattle.machine_model.proofs.Effects.DestroyLemmas.{runs_destroy, tells_destroy}
+use Rattle.machine_model.proofs.ClosureLemmas.{IsClosed, Runs, runs_still, runs_then, runs_at, runs_each, runs_found, runs_with, runs_mounts, runs_tell, runs_renew, runs_timers}
 use Rattle.machine_model.proofs.Processes.CodeLemmas.{all_without}
 use Rattle.machine_model.proofs.Fold.RowLemmas.{Is, made}
-use Rattle.machine_model.proofs.Fold.TellLemmas.{Tells, tells_then, tells_from, tells_still, tells_each, tells_found, tells_at, tells_with, tells_row, tells_quiet, tells_mounts, tells_renew, tells_apart, row_is}
-use Rattle.machine_model.proofs.Effects.LaunchLemmas.{Awake, tells_launch_by_call}
-use Rattle.machine_model.proofs.Effects.DestroyLemmas.{tells_destroy}
-use Rattle.std.proofs.Common.{subst}
+use Rattle.machine_model.proofs.Fold.TellLemmas.{Tells, tells_then, tells_from, tells_still, tells_each, tells_found, tells_at, tells_with, tells_row, tells_quiet, tells_mounts, tells_renew, tells_apart, row_is, HasByte}
+use Rattle.machine_model.proofs.ChangeLemmas.{all_updated}
+use Rattle.engine_text.specs.declared.event.Action.TheVariants.{Die, ExecDie, Stop, Restart, Unmount}
+use Rattle.restart_policy.specs.declared.decision.Decision.{Decision}
+use Rattle.restart_policy.specs.declared.decision.Decision.TheVariants.{Stay, Again}
 use Rattle.engine_text.specs.declared.owner.Owner.TheVariants.{Container as OfContainer, Exec as OfExec}
 use Rattle.engine_text.specs.declared.container.Container.{Container}
 use Rattle.engine_text.specs.declared.container.Goal.{Goal}
@@ -29,10 +27,6 @@ use Rattle.engine_text.specs.declared.container.Life.{Life}
 use Rattle.engine_text.specs.declared.event.FoldRow.{FoldRow}
 use Rattle.engine_text.specs.declared.exec.Exec.{Exec}
 use Rattle.engine_text.specs.declared.status.Status.{Status}
-use Rattle.engine_text.specs.declared.event.Action.TheVariants.{Stop, Restart, Unmount}
-use Rattle.machine_model.specs.Ranges.{IsLifeInRange}
-use Rattle.machine_model.proofs.Fold.TellLemmas.{HasByte}
-use Rattle.machine_model.proofs.ChangeLemmas.{all_updated}
 
 -- ---- execs
 

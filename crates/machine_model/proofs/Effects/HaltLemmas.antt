@@ -1,29 +1,23 @@
 -- What a halt tells.
 use Rattle.std.specs.Prelude.{codes, decimal, [], ◌∷◌}
-use Rattle.std.proofs.Common.{◌+◌, ◌*◌}
-use Rattle.machine_model.specs.State.{timer_of}
-use Rattle.machine_model.specs.Chain.{Effect}
-use Rattle.machine_model.specs.EventTexts.{pair}
-use Rattle.machine_model.specs.Effects.Halt.{lesser}
-use Rattle.engine_text.specs.declared.event.Action.TheVariants.{Kill}
+use Rattle.std.proofs.Common.{◌+◌, ◌*◌, ◌≡◌, ℕ, ◌<◌, ℤ, pos, negsuc, Option, refl, sym, ◌∙◌}
 use Rattle.container_table.specs.Timers.{with_timer}
-use Rattle.machine_model.proofs.Effects.MeetLemmas.{runs_meet}
-use Rattle.machine_model.proofs.ClosureLemmas.{IsClosed, IsMark, Runs, runs_then, runs_tell, runs_renew, runs_timers}
-use Rattle.std.proofs.Common.{◌≡◌, ℕ, ◌<◌, ℤ, pos, negsuc, Option, refl, sym, ◌∙◌}
-use Rattle.machine_model.specs.State.{State}
-use Rattle.machine_model.specs.Chain.{change, renew}
-use Rattle.machine_model.specs.EventTexts.{kill_event}
-use Rattle.machine_model.specs.Effects.Halt.{signal_used, seconds_used, set_deadline, halt}
+use Rattle.machine_model.specs.State.{timer_of, State}
+use Rattle.machine_model.specs.Chain.{Effect, change, renew}
+use Rattle.machine_model.specs.EventTexts.{pair, kill_event}
+use Rattle.machine_model.specs.Effects.Halt.{lesser, signal_used, seconds_used, set_deadline, halt}
 use Rattle.machine_model.specs.Summary.{summary_row}
+use Rattle.machine_model.specs.Ranges.{IsLifeInRange}
+use Rattle.machine_model.proofs.Effects.MeetLemmas.{runs_meet, tells_meet}
+use Rattle.machine_model.proofs.ClosureLemmas.{IsClosed, IsMark, Runs, runs_then, runs_tell, runs_renew, runs_timers}
 use Rattle.machine_model.proofs.Fold.RowLemmas.{Same, made}
 use Rattle.machine_model.proofs.Fold.TellLemmas.{Tells, tells_then, tells_quiet, tells_renew}
 use Rattle.machine_model.proofs.Effects.LaunchLemmas.{Awake}
-use Rattle.machine_model.proofs.Effects.MeetLemmas.{tells_meet}
+use Rattle.engine_text.specs.declared.event.Action.TheVariants.{Kill}
 use Rattle.engine_text.specs.declared.container.Container.{Container}
 use Rattle.engine_text.specs.declared.container.Life.{Life}
 use Rattle.engine_text.specs.declared.event.FoldRow.{FoldRow}
 use Rattle.engine_text.specs.declared.signal.Signal.{Signal}
-use Rattle.machine_model.specs.Ranges.{IsLifeInRange}
 
 -- a change that the summary doesn't see
 pub same_mark : {n : ℕ} (f : Life → Life) → ((l : Life) → IsLifeInRange l → IsLifeInRange (f l))

@@ -1,19 +1,18 @@
 -- What a launch tells.
-use Rattle.machine_model.specs.Chain.{Effect}
-use Rattle.machine_model.proofs.ClosureLemmas.{IsClosed, Runs, runs_still, runs_then, runs_at, runs_with, runs_mounts, runs_tell, runs_renew}
 use Rattle.std.proofs.Common.{◌≡◌, ℕ, ◌+◌, ◌==◌, ◌≤◌, Bool, true, false, not, [], Option, Some, None, refl, ap, sym, ◌∙◌, subst, arith}
-use Rattle.machine_model.specs.State.{State}
-use Rattle.machine_model.specs.Chain.{change, tell_of, renew}
-use Rattle.machine_model.specs.EventTexts.{plain_event}
-use Rattle.machine_model.specs.Effects.Launch.{spawn, launched, launch_program, launch, launch_by_call, afresh, container_room}
-use Rattle.machine_model.specs.Summary.{summary_row}
 use Rattle.std.proofs.lemmas.Bool.Decides.{nat_tests}
 use Rattle.api_json.specs.Status.{is_paused}
 use Rattle.proc_kernel.specs.Catalogue.{program_of}
 use Rattle.proc_kernel.specs.Processes.{spawn as spawned}
 use Rattle.engine_text.specs.Scripts.{Program}
-use Rattle.machine_model.proofs.Processes.ProgramCodeLemmas.{OfProgram, program_coded}
+use Rattle.machine_model.specs.Chain.{Effect, change, tell_of, renew}
+use Rattle.machine_model.specs.State.{State}
+use Rattle.machine_model.specs.EventTexts.{plain_event}
+use Rattle.machine_model.specs.Effects.Launch.{spawn, launched, launch_program, launch, launch_by_call, afresh, container_room}
+use Rattle.machine_model.specs.Summary.{summary_row}
 use Rattle.machine_model.specs.Ranges.{HaveCodes}
+use Rattle.machine_model.proofs.ClosureLemmas.{IsClosed, Runs, runs_still, runs_then, runs_at, runs_with, runs_mounts, runs_tell, runs_renew}
+use Rattle.machine_model.proofs.Processes.ProgramCodeLemmas.{OfProgram, program_coded}
 use Rattle.machine_model.proofs.Processes.CodeLemmas.{coded_spawn, all_begun}
 use Rattle.machine_model.proofs.Fold.RowLemmas.{Is}
 use Rattle.machine_model.proofs.Fold.TellLemmas.{Tells, tells_then, tells_from, tells_still, tells_with, tells_row, tells_mounts, tells_renew, tells_apart, row_is}

@@ -1,22 +1,20 @@
 -- What steps of processes, signals and thaws tell.
-use Rattle.machine_model.specs.Effects.Meet.{end_of}
-use Rattle.engine_text.specs.declared.script.Stream.{Stream}
-use Rattle.machine_model.proofs.Effects.EndMainLemmas.{runs_end_exec, runs_end_main}
-use Rattle.machine_model.proofs.ClosureLemmas.{IsClosed, Runs, runs_still, runs_then, runs_at, runs_each, runs_with, runs_tell, runs_renew, runs_process}
 use Rattle.std.proofs.Common.{◌≡◌, ℕ, ◌<◌, ◌==◌, Bool, true, false, not, List, [], refl, ap, ◌∙◌, arith}
-use Rattle.machine_model.specs.State.{State, running_execs}
-use Rattle.machine_model.specs.Chain.{Effect, and_then, in_order, each, change, renew, tell_of}
-use Rattle.machine_model.specs.EventTexts.{plain_event}
-use Rattle.machine_model.specs.Effects.Meet.{logged, put_output, write_record, by_effect, stepped, step_process, running, thaw_execs, wake_parts, thaw_container, send, woken, meet_signal}
 use Rattle.api_json.specs.Status.{is_paused}
 use Rattle.proc_kernel.specs.Processes.{Process, ProcessStep, signal, thaw}
 use Rattle.proc_kernel.specs.Tables.{effect_of, process_of}
-use Rattle.machine_model.proofs.Processes.CodeLemmas.{StepsCoded, EndsCoded, all_changed, ends_coded, coded_thaw, coded_signal}
+use Rattle.machine_model.specs.Effects.Meet.{end_of, logged, put_output, write_record, by_effect, stepped, step_process, running, thaw_execs, wake_parts, thaw_container, send, woken, meet_signal}
+use Rattle.machine_model.specs.State.{State, running_execs}
+use Rattle.machine_model.specs.Chain.{Effect, and_then, in_order, each, change, renew, tell_of}
+use Rattle.machine_model.specs.EventTexts.{plain_event}
 use Rattle.machine_model.specs.Ranges.{IsCoded}
+use Rattle.machine_model.proofs.Effects.EndMainLemmas.{runs_end_exec, runs_end_main, tells_end_exec, tells_end_main, awake_mark}
+use Rattle.machine_model.proofs.ClosureLemmas.{IsClosed, Runs, runs_still, runs_then, runs_at, runs_each, runs_with, runs_tell, runs_renew, runs_process}
+use Rattle.machine_model.proofs.Processes.CodeLemmas.{StepsCoded, EndsCoded, all_changed, ends_coded, coded_thaw, coded_signal}
 use Rattle.machine_model.proofs.Fold.RowLemmas.{Same, Is, made}
 use Rattle.machine_model.proofs.Fold.TellLemmas.{Tells, tells_then, tells_from, tells_still, tells_each, tells_at, tells_with, tells_row, tells_renew, tells_apart, row_is}
 use Rattle.machine_model.proofs.Effects.LaunchLemmas.{Awake}
-use Rattle.machine_model.proofs.Effects.EndMainLemmas.{tells_end_exec, tells_end_main, awake_mark}
+use Rattle.engine_text.specs.declared.script.Stream.{Stream}
 use Rattle.engine_text.specs.declared.owner.Owner.{Owner}
 use Rattle.engine_text.specs.declared.owner.Owner.TheVariants.{Container as OfContainer, Exec as OfExec}
 use Rattle.engine_text.specs.declared.container.Container.{Container}

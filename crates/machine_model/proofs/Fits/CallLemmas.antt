@@ -3,19 +3,19 @@ use Rattle.std.proofs.Common.{◌≡◌, ℕ, ◌==◌, Bool, true, false, not, 
 use Rattle.std.proofs.lemmas.Bool.Decides.{eqb_tells}
 use Rattle.api_json.specs.Status.{is_paused, is_restarting}
 use Rattle.container_table.specs.Reference.{container_by}
+use Rattle.proc_kernel.specs.Processes.{Process}
+use Rattle.proc_kernel.specs.Catalogue.{program_of, name_of, named, by_name, only_number, of_number, flaky_program}
+use Rattle.engine_text.specs.Scripts.{Program}
 use Rattle.machine_model.specs.State.{State, container_numbered, is_process}
 use Rattle.machine_model.specs.Chain.{Effect}
 use Rattle.machine_model.specs.Outcome.{Outcome, with_one, by_found, at_reference}
 use Rattle.machine_model.specs.Consistency.{is_there, FitsStatus, GoalStands}
-use Rattle.proc_kernel.specs.Processes.{Process}
-use Rattle.proc_kernel.specs.Catalogue.{program_of, name_of, named, by_name, only_number, of_number, flaky_program}
-use Rattle.proc_kernel.specs.declared.catalogue.Name.{Name}
-use Rattle.engine_text.specs.Scripts.{Program}
 use Rattle.machine_model.proofs.Fold.RowLemmas.{found_number}
 use Rattle.machine_model.proofs.Fits.PartLemmas.{Parts, parts_of, life_of, TablesFit, Steady, Leads, Stood}
 use Rattle.machine_model.proofs.Fits.LaunchLemmas.{Names, Fine, Up, Fallen, Bare, OnBy, On, Here, Local, on_weaker, on_here}
 use Rattle.machine_model.proofs.Fits.MeetLemmas.{Alive, Resting, Cancelled, no_process, off_if}
 use Rattle.machine_model.proofs.Fits.EndMainLemmas.{rests}
+use Rattle.proc_kernel.specs.declared.catalogue.Name.{Name}
 use Rattle.engine_text.specs.declared.container.Container.{Container}
 use Rattle.engine_text.specs.declared.container.Found.{Found}
 use Rattle.engine_text.specs.declared.container.Life.{Life}

@@ -3,28 +3,24 @@ use Rattle.std.proofs.Common.{◌≡◌, ℕ, ◌<◌, ◌==◌, Bool, true, fal
 use Rattle.std.proofs.lemmas.Bool.{eq-eqb}
 use Rattle.std.proofs.lemmas.Bool.Decides.{eqb_tells}
 use Rattle.api_json.specs.Status.{is_paused, is_restarting}
+use Rattle.proc_kernel.specs.Processes.{Process}
 use Rattle.machine_model.specs.State.{State, container_numbered, is_process}
 use Rattle.machine_model.specs.Names.{holder, chosen_name}
-use Rattle.machine_model.specs.Consistency.{AreDistinct, is_there, HasMain, IsFrozenRight, HasPid, HasGoal, TimerStands, HasTimer, HasRemoval, HasTimers, IsConsistent}
+use Rattle.machine_model.specs.Consistency.{AreDistinct, FitsStatus, IsFrozenAs, GoalStands}
 use Rattle.machine_model.specs.Calls.Create as create
 use Rattle.machine_model.specs.Calls.Create.{new_container, with_new, make_missing, volume_named}
-use Rattle.proc_kernel.specs.Processes.{Process}
-use Rattle.machine_model.proofs.ListLemmas.{all_weaken, distinct_more, found_nowhere, below_is_other}
+use Rattle.machine_model.proofs.ListLemmas.{all_weaken, distinct_more, found_nowhere, below_is_other, below_more, more_numbers}
 use Rattle.machine_model.proofs.VolumeLemmas.{made as volumes_made, with_mounts}
-use Rattle.machine_model.proofs.ListLemmas.{below_more, more_numbers}
 use Rattle.machine_model.proofs.Tables.NumberLemmas.{is_not}
-use Rattle.machine_model.proofs.Fits.LaunchLemmas.{pid_lives}
+use Rattle.machine_model.proofs.Fits.LaunchLemmas.{Fine, OnBy, Local, never}
 use Rattle.machine_model.proofs.Fits.LogRoomLemmas.{RoomBy, room_in}
-use Rattle.machine_model.proofs.Fits.PartLemmas.{roomed}
-use Rattle.machine_model.proofs.Fits.PartLemmas.{Watches, IcyAs, execs_moved, watched}
-use Rattle.machine_model.proofs.Fits.PartLemmas.{parts_of, life_of}
-use Rattle.machine_model.proofs.Fits.LaunchLemmas.{Calm, Fine, Up, OnBy, On, Here, Local, on_here, on_weaker}
+use Rattle.machine_model.proofs.Fits.PartLemmas.{roomed, Watches, IcyAs, execs_moved, watched, parts_of, life_of}
 use Rattle.machine_model.proofs.Fits.CallLemmas.{PartsFit}
+use Rattle.machine_model.proofs.Fits.FreshLemmas.{Fresh}
 use Rattle.engine_text.specs.declared.call.CreateSpec.{CreateSpec}
 use Rattle.engine_text.specs.declared.container.Container.{Container}
 use Rattle.engine_text.specs.declared.container.Life.{Life}
 use Rattle.engine_text.specs.declared.status.Status.{Status}
-use Rattle.machine_model.proofs.Fits.FreshLemmas.{Fresh}
 
 new_by : (b : Bool) (m : ℕ) (x : Container) (r t : Option Container) → life_of r ≡ life_of t → life_of (if b then Some x else r) ≡ life_of (if b then Some x else t)
 new_by true m x r t e = refl
@@ -47,16 +43,16 @@ new_itself n new (x ∷ cs) is e =
 fresh_look : (p : Option Process) (a b c : Bool) (l : Life) → l.status ≡ Status.Created → l.pid ≡ 0 → l.goal ≡ Rattle.engine_text.specs.declared.container.Goal.Goal.None → OnBy Fine None p a b c → Fine l p a b c
 fresh_look p a b c l status pid goal h = (
   record {
-    status = subst (λ u. Rattle.machine_model.specs.Consistency.FitsStatus u (is_process p)) (sym status) (ap is_process h.0);
-    frozen = subst (Rattle.machine_model.specs.Consistency.IsFrozenAs (is_paused l.status)) (sym h.0) tt;
+    status = subst (λ u. FitsStatus u (is_process p)) (sym status) (ap is_process h.0);
+    frozen = subst (IsFrozenAs (is_paused l.status)) (sym h.0) tt;
     pid = ap (λ n. not (n == 0)) pid ∙ sym (ap is_process h.0);
-    stop = λ e. Rattle.machine_model.proofs.Fits.LaunchLemmas.never a h.1 e;
-    removal = λ e. Rattle.machine_model.proofs.Fits.LaunchLemmas.never b h.2 e;
+    stop = λ e. never a h.1 e;
+    removal = λ e. never b h.2 e;
     restart = h.3 ∙ sym (ap is_restarting status);
-    program = λ e. Rattle.machine_model.proofs.Fits.LaunchLemmas.never (is_process p) (ap is_process h.0) e;
-    again = λ e. Rattle.machine_model.proofs.Fits.LaunchLemmas.never c h.3 e;
+    program = λ e. never (is_process p) (ap is_process h.0) e;
+    again = λ e. never c h.3 e;
   },
-  subst (λ g. Rattle.machine_model.specs.Consistency.GoalStands g (is_process p)) (sym goal) tt,
+  subst (λ g. GoalStands g (is_process p)) (sym goal) tt,
 )
 
 mains_new : (name : List ℕ) (spec : CreateSpec) (s : State) → Fresh s → PartsFit s → PartsFit (with_new (new_container name spec s) s)

@@ -2,23 +2,23 @@
 use Rattle.std.proofs.Common.{◌≡◌, ℕ, Bool, true, false, Option, Some, None, refl, ap, sym, ◌∙◌, subst}
 use Rattle.api_json.specs.Status.{is_paused, is_restarting}
 use Rattle.container_table.specs.Timers.{cleared}
+use Rattle.proc_kernel.specs.Processes.{Process, is_frozen, run_due}
+use Rattle.proc_kernel.specs.Tables.{process_of}
 use Rattle.machine_model.specs.State.{State, is_process}
 use Rattle.machine_model.specs.Chain.{change, with_container}
 use Rattle.machine_model.specs.EventTexts.{kill_event}
 use Rattle.machine_model.specs.Consistency.{FitsStatus, IsFrozenAs}
 use Rattle.machine_model.specs.Due.{time_out, died, restarted, stop_deadline, removal_deadline, restart_timer}
 use Rattle.machine_model.specs.Effects.Meet.{step_process}
-use Rattle.proc_kernel.specs.Processes.{Process, is_frozen, run_due}
-use Rattle.proc_kernel.specs.Tables.{process_of}
 use Rattle.machine_model.proofs.Processes.PaceLemmas.{due_goes}
-use Rattle.machine_model.proofs.Fits.PartLemmas.{parts_of, Steady, Leads, leads_then, leads_from, leads_to, leads_with, leads_tell}
+use Rattle.machine_model.proofs.Fits.PartLemmas.{parts_of, Steady, Leads, leads_then, leads_from, leads_to, leads_with, leads_tell, IcyAs, Watch}
 use Rattle.machine_model.proofs.Fits.TimerPartLemmas.{leads_clear_1, leads_clear_2, leads_clear_3}
 use Rattle.machine_model.proofs.Fits.LaunchLemmas.{Fine, Up, Fallen, OnBy, On, Local, on_renew, never, leads_launch}
-use Rattle.machine_model.proofs.Fits.MeetLemmas.{Alive, Halted, Resting, Loose, IsGoalMark, marked, loose, leads_meet, leads_send, leads_cancel, leads_going}
+use Rattle.machine_model.proofs.Fits.MeetLemmas.{leads_meet, leads_going, no_process, off_if}
 use Rattle.machine_model.proofs.Processes.LimitLemmas.{due_fits}
 use Rattle.machine_model.proofs.Fits.ExecLoopLemmas.{exec_step_steady}
-use Rattle.machine_model.proofs.Fits.PartLemmas.{IcyAs, Watch}
 use Rattle.machine_model.proofs.Fits.CallLemmas.{up_fine}
+use Rattle.machine_model.proofs.DueLemmas.{restarting_calm}
 use Rattle.engine_text.specs.declared.owner.Owner.TheVariants.{Container as OfContainer, Exec as OfExec}
 use Rattle.engine_text.specs.declared.container.Life.{Life}
 use Rattle.engine_text.specs.declared.status.Status.{Status}
@@ -100,12 +100,12 @@ falls (Some l) p a b c e h =
     let is : is_restarting l.status ≡ true = sym h.0.restart ∙ e in
     let dead : is_process p ≡ false = rests_so l.status (is_process p) is h.0.status in (
       h.0.pid ∙ dead,
-      Rattle.machine_model.proofs.Fits.MeetLemmas.no_process p dead,
-      Rattle.machine_model.proofs.Fits.MeetLemmas.off_if a (is_process p) dead h.0.stop,
-      Rattle.machine_model.proofs.Fits.MeetLemmas.off_if b (is_process p) dead (λ f. (h.0.removal f).0),
+      no_process p dead,
+      off_if a (is_process p) dead h.0.stop,
+      off_if b (is_process p) dead (λ f. (h.0.removal f).0),
       refl,
       h.0.again e,
-      Rattle.machine_model.proofs.DueLemmas.restarting_calm l.status is,
+      restarting_calm l.status is,
     )
   where
     rests_so : (u : Status) (live : Bool) → is_restarting u ≡ true → FitsStatus u live → live ≡ false

@@ -2,29 +2,27 @@
 use Rattle.std.proofs.Common.{◌≡◌, ℕ, ◌+◌, ◌==◌, Bool, true, false, not, Option, Some, None, refl, ap, sym, ◌∙◌, subst}
 use Rattle.api_json.specs.Status.{is_paused, is_restarting}
 use Rattle.container_table.specs.Timers.{cleared, with_timer}
+use Rattle.proc_kernel.specs.Processes.{Process}
 use Rattle.machine_model.specs.State.{State, is_process, drop_process}
 use Rattle.machine_model.specs.Chain.{change, and_then, with_container, renew, tell_of}
 use Rattle.machine_model.specs.EventTexts.{plain_event, die_event}
 use Rattle.machine_model.specs.Consistency.{FitsStatus, IsFrozenAs}
 use Rattle.machine_model.specs.Effects.EndMain.{end_execs, ended, die, exited, no_goal, restarting, follow, decision_at, by_goal, by_status, end_main}
-use Rattle.machine_model.proofs.Fits.PartLemmas.{Steady}
-use Rattle.restart_policy.specs.declared.decision.Decision.{Decision}
-use Rattle.restart_policy.specs.declared.decision.Decision.TheVariants.{Stay, Again}
-use Rattle.proc_kernel.specs.Processes.{Process}
-use Rattle.machine_model.proofs.Fits.PartLemmas.{Parts, Leads, leads_then, leads_from, leads_to, leads_still, leads_at, leads_with, leads_tell, leads_mounts, leads_renew, Stood}
+use Rattle.machine_model.proofs.Fits.PartLemmas.{Steady, Parts, Leads, leads_then, leads_from, leads_to, leads_still, leads_at, leads_with, leads_tell, leads_mounts, leads_renew, Stood}
 use Rattle.machine_model.proofs.Fits.MainPartLemmas.{drop_main, NoExecs}
 use Rattle.machine_model.proofs.Fits.TimerPartLemmas.{leads_clear_1, leads_clear_2, leads_set_3, timed}
 use Rattle.machine_model.proofs.Fits.LogRoomLemmas.{room_renewed}
 use Rattle.machine_model.proofs.Fits.ExecLoopLemmas.{told_state}
 use Rattle.machine_model.proofs.Fits.ExecPhaseLemmas.{end_all}
-use Rattle.machine_model.specs.State.{State}
+use Rattle.machine_model.proofs.Fits.LaunchLemmas.{Names, Calm, Up, CalmUp, Live, OnBy, On, Here, Local, on_weaker, on_none, here_of, on_here, mapped_by, icy_renewed, on_renew, here_renew, Fallen, never, leads_launch_by_call, Bare, leads_destroy}
+use Rattle.restart_policy.specs.declared.decision.Decision.{Decision}
+use Rattle.restart_policy.specs.declared.decision.Decision.TheVariants.{Stay, Again}
 use Rattle.engine_text.specs.declared.owner.Owner.TheVariants.{Container as OfContainer}
 use Rattle.engine_text.specs.declared.container.Container.{Container}
 use Rattle.engine_text.specs.declared.container.Goal.{Goal}
 use Rattle.engine_text.specs.declared.container.Life.{Life}
 use Rattle.engine_text.specs.declared.status.Status.{Status}
 use Rattle.engine_text.specs.declared.event.Action.TheVariants.{Unmount, Stop, Restart}
-use Rattle.machine_model.proofs.Fits.LaunchLemmas.{Names, Calm, Up, CalmUp, Live, OnBy, On, Here, Local, on_weaker, on_none, here_of, on_here, mapped_by, icy_renewed, on_renew, here_renew, Fallen, never, leads_launch_by_call, Bare, leads_destroy}
 
 -- ---- the end of a main process
 

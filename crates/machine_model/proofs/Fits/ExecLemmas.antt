@@ -1,55 +1,47 @@
 -- What fits still fits behind an exec create and an exec start.
-use Rattle.std.proofs.Common.{◌≡◌, ◌≢◌, ℕ, ◌≤◌, ◌<◌, ◌==◌, ◌&&◌, Bool, true, false, not, List, [], ◌∷◌, ◌++◌, Option, Some, None, find, map, refl, ap, sym, ◌∙◌, subst, arith, inl, inr}
+use Rattle.std.proofs.Common.{◌≡◌, ◌≢◌, ℕ, ◌≤◌, ◌<◌, ◌==◌, ◌&&◌, Bool, true, false, not, List, [], ◌∷◌, ◌++◌, Option, Some, None, find, map, refl, ap, sym, ◌∙◌, subst, arith, inl, inr, ◌+◌}
 use Rattle.std.proofs.lemmas.Bool.{eq-eqb}
 use Rattle.std.proofs.lemmas.Bool.Decides.{eqb_tells}
 use Rattle.std.specs.Prelude.{option_map}
 use Rattle.std.specs.List.{AllByRecursion}
+use Rattle.std.proofs.lemmas.List.{map-append}
 use Rattle.api_json.specs.Status.{is_paused}
 use Rattle.engine_text.specs.Texts.{same_bytes}
 use Rattle.engine_text.specs.Scripts.{Program}
-use Rattle.machine_model.specs.State.{State, container_numbered, is_process, change_exec, owner_number}
+use Rattle.proc_kernel.specs.Processes.{Process, spawn as spawned}
+use Rattle.proc_kernel.specs.Tables.{Entry, process_of, begun}
+use Rattle.proc_kernel.specs.Catalogue.{program_of}
+use Rattle.engine_text.specs.Owner.{same_owner}
+use Rattle.machine_model.specs.State.{State, container_numbered, is_process, change_exec, owner_number, exec_numbered}
 use Rattle.machine_model.specs.EventTexts.{exec_event}
-use Rattle.machine_model.specs.Consistency.{AreDistinct, is_there, HasMain, IsFrozenRight, HasPid, HasGoal, TimerStands, HasTimer, HasRemoval, HasTimers, IsConsistent}
-use Rattle.machine_model.specs.Effects.Launch.{spawn}
+use Rattle.machine_model.specs.Consistency.{AreDistinct, FitsStatus}
+use Rattle.machine_model.specs.Effects.Launch.{spawn, log_size}
 use Rattle.machine_model.specs.Calls.ExecCreate as exec_create
 use Rattle.machine_model.specs.Calls.ExecCreate.{if_running}
 use Rattle.machine_model.specs.Calls.ExecStart as exec_start
 use Rattle.machine_model.specs.Calls.Start.{if_program}
 use Rattle.machine_model.specs.Outcome.{Outcome, replies, answers}
-use Rattle.proc_kernel.specs.Processes.{Process, spawn as spawned}
-use Rattle.proc_kernel.specs.Tables.{Entry, process_of}
-use Rattle.proc_kernel.specs.Catalogue.{program_of}
-use Rattle.machine_model.proofs.ListLemmas.{all_append, all_weaken, all_both, distinct_more, found_nowhere, below_is_other}
+use Rattle.machine_model.specs.Views.{exec_body}
+use Rattle.machine_model.proofs.ListLemmas.{all_append, all_weaken, all_both, distinct_more, found_nowhere, below_is_other, all_mapped}
 use Rattle.machine_model.proofs.ChangeLemmas.{map_updated}
 use Rattle.machine_model.proofs.ObeyLemmas.{found_all}
-use Rattle.machine_model.proofs.Tables.ProcessLemmas.{begun_others}
-use Rattle.std.proofs.lemmas.List.{map-append}
-use Rattle.machine_model.specs.State.{exec_numbered}
-use Rattle.machine_model.proofs.ListLemmas.{all_mapped}
-use Rattle.machine_model.proofs.Tables.ProcessLemmas.{begun_stands}
+use Rattle.machine_model.proofs.Tables.ProcessLemmas.{begun_others, begun_stands}
 use Rattle.machine_model.proofs.Tables.NumberLemmas.{is_not, find_updated, find_other, find_more_other, find_more_itself}
 use Rattle.machine_model.proofs.Fits.ExecLoopLemmas.{own_exec}
-use Rattle.machine_model.proofs.Fits.LaunchLemmas.{pid_lives}
-use Rattle.std.proofs.Common.{◌+◌}
-use Rattle.engine_text.specs.Owner.{same_owner}
-use Rattle.engine_text.specs.declared.log.OwnedLog.{OwnedLog}
-use Rattle.proc_kernel.specs.Tables.{begun}
-use Rattle.machine_model.specs.Effects.Launch.{log_size}
+use Rattle.machine_model.proofs.Fits.LaunchLemmas.{pid_lives, Fine, OnBy, Local}
 use Rattle.machine_model.proofs.OwnerLemmas.{owner_is}
 use Rattle.machine_model.proofs.Fits.LogRoomLemmas.{OutputFits, IsEmptyOf, room_in, exec_room_in}
-use Rattle.machine_model.proofs.Fits.PartLemmas.{Roomy}
-use Rattle.machine_model.proofs.Fits.PartLemmas.{Watches, IcyAs, ExecBy, ExecsBy, execs_moved}
-use Rattle.machine_model.proofs.Fits.PartLemmas.{parts_of, life_of}
+use Rattle.machine_model.proofs.Fits.PartLemmas.{Roomy, Watches, IcyAs, ExecBy, ExecsBy, execs_moved, parts_of, life_of}
 use Rattle.machine_model.proofs.Fits.MainPartLemmas.{no_owner, more_owners}
-use Rattle.machine_model.proofs.Fits.LaunchLemmas.{Fine, OnBy, Local}
 use Rattle.machine_model.proofs.Fits.CallLemmas.{PartsFit}
+use Rattle.machine_model.proofs.Fits.FreshLemmas.{mains_told}
+use Rattle.engine_text.specs.declared.log.OwnedLog.{OwnedLog}
 use Rattle.engine_text.specs.declared.container.Container.{Container}
 use Rattle.engine_text.specs.declared.exec.Exec.{Exec}
 use Rattle.engine_text.specs.declared.owner.Owner.{Owner}
 use Rattle.engine_text.specs.declared.owner.Owner.TheVariants.{Container as OfContainer, Exec as OfExec}
 use Rattle.engine_text.specs.declared.status.Status.{Status}
 use Rattle.engine_text.specs.declared.event.Action.TheVariants as Action
-use Rattle.machine_model.proofs.Fits.FreshLemmas.{mains_told}
 
 pub running_by : (u : Status) (c : Container) (f : State → Outcome) (s : State) → PartsFit s → (u ≡ Status.Running → PartsFit (f s).effect.state) → PartsFit (if_running u c f s).effect.state
 running_by Status.Running c f s h one = one refl
@@ -141,7 +133,7 @@ spawn_exec x p stdin room s c found fresh stands runs low h =
     let same : (m : ℕ) → parts_of m t ≡ parts_of m s = λ m. ap (λ x. record (parts_of m s) { main = x }) (begun_others (OfExec k) (OfContainer m) q s.processes refl) in
     let fine : Fine c.life (parts_of x.container s).main (parts_of x.container s).stop (parts_of x.container s).removal (parts_of x.container s).restart =
     subst (λ o. OnBy Fine (life_of o) (parts_of x.container s).main (parts_of x.container s).stop (parts_of x.container s).removal (parts_of x.container s).restart) stands (h.1 x.container) in
-    let live : is_process (parts_of x.container s).main ≡ true = subst (λ u. Rattle.machine_model.specs.Consistency.FitsStatus u (is_process (parts_of x.container s).main)) runs fine.0.status in
+    let live : is_process (parts_of x.container s).main ≡ true = subst (λ u. FitsStatus u (is_process (parts_of x.container s).main)) runs fine.0.status in
     let icy : IcyAs (parts_of x.container s).life q = subst (λ o. IcyAs (life_of o) q) (sym stands) (sym (ap is_paused runs)) in
     let execs : ExecsBy W t.execs t.processes = λ m. elim (eqb_tells k m) [
       | inl e ↦ subst (λ j. ExecBy W (find (λ (y : Exec). y.number == j) t.execs) (process_of (OfExec j) t.processes)) e.1
@@ -200,6 +192,6 @@ exec_found (Some x) id detach s e h =
     exec_both (container_numbered x.container s) id _ s h (λ c stands. exec_unless x.started id detach x c s refl own stands h)
 
 pub inspect_found : (o : Option Exec) (id : List ℕ) (s : State) → PartsFit s
-    → PartsFit (exec_start.with_exec o id (λ x c s. answers 200 (Rattle.machine_model.specs.Views.exec_body s c x) s) s).effect.state
+    → PartsFit (exec_start.with_exec o id (λ x c s. answers 200 (exec_body s c x) s) s).effect.state
 inspect_found None id s h = h
 inspect_found (Some x) id s h = exec_both (container_numbered x.container s) id _ s h (λ c e. h)

@@ -1,29 +1,28 @@
 -- What is done to each running exec of a container: to end, to thaw, to freeze.
-use Rattle.std.proofs.Common.{◌≡◌, ◌≢◌, ℕ, ◌==◌, ◌||◌, Bool, true, false, List, [], ◌∷◌, Option, Some, None, find, filter, map, if◌then◌else◌, refl, ap, sym, ◌∙◌, subst, inl, inr, ◌⊎◌}
+use Rattle.std.proofs.Common.{◌≡◌, ◌≢◌, ℕ, ◌==◌, ◌||◌, Bool, true, false, List, [], ◌∷◌, Option, Some, None, find, filter, map, if◌then◌else◌, refl, ap, sym, ◌∙◌, subst, inl, inr, ◌⊎◌, ◌+◌, ◌≤◌, length, arith}
 use Rattle.std.proofs.lemmas.Bool.{eqb-true, eq-eqb}
 use Rattle.std.proofs.lemmas.Bool.Decides.{eqb_tells}
 use Rattle.std.specs.Prelude.{option_map}
 use Rattle.std.specs.List.{AllByRecursion, list_any}
 use Rattle.container_table.specs.Lists.{update_first}
+use Rattle.proc_kernel.specs.Processes.{Process, ProcessStep}
+use Rattle.proc_kernel.specs.Tables.{process_of, effect_of}
 use Rattle.machine_model.specs.State.{State, container_numbered, exec_numbered, is_live, is_process, running_execs, change_process, change_exec, drop_process}
-use Rattle.machine_model.specs.Chain.{Effect, each, with_found, tell, tell_of}
+use Rattle.machine_model.specs.Chain.{Effect, each, with_found, tell, tell_of, and_then, change}
 use Rattle.machine_model.specs.Consistency.{AreDistinct}
 use Rattle.machine_model.specs.EventTexts.{exec_die_event}
 use Rattle.machine_model.specs.Effects.EndMain.{end_exec, exec_ended}
 use Rattle.machine_model.specs.Effects.Meet.{by_effect, stepped, step_process}
-use Rattle.proc_kernel.specs.Processes.{Process, ProcessStep}
-use Rattle.proc_kernel.specs.Tables.{process_of, effect_of}
 use Rattle.machine_model.proofs.ListLemmas.{all_weaken}
 use Rattle.machine_model.proofs.Tables.ProcessLemmas.{changed_stands, changed_others, gone, gone_others}
 use Rattle.machine_model.proofs.DueLemmas.{passes}
 use Rattle.machine_model.proofs.Tables.NumberLemmas.{is_not, find_updated, find_other, keep_if, find_filtered, found_any}
-use Rattle.std.proofs.Common.{◌+◌, ◌≤◌, length, arith}
 use Rattle.machine_model.proofs.Fits.LogRoomLemmas.{room_in, exec_room_in, exec_room_changed, step_room, put_fits, put_empty}
-use Rattle.machine_model.proofs.Processes.LimitLemmas.{IsStep}
-use Rattle.engine_text.specs.declared.owner.Owner.{Owner}
-use Rattle.engine_text.specs.declared.script.Stream.{Stream}
+use Rattle.machine_model.proofs.Processes.LimitLemmas.{IsStep, written}
 use Rattle.machine_model.proofs.Fits.PartLemmas.{Parts, parts_of, ExecBy, SteadyBy}
 use Rattle.machine_model.proofs.Fits.MainPartLemmas.{exec_process_by, end_exec_by}
+use Rattle.engine_text.specs.declared.owner.Owner.{Owner}
+use Rattle.engine_text.specs.declared.script.Stream.{Stream}
 use Rattle.engine_text.specs.declared.container.Container.{Container}
 use Rattle.engine_text.specs.declared.event.Event.{Event}
 use Rattle.engine_text.specs.declared.exec.Exec.{Exec}
@@ -89,8 +88,8 @@ abbrev EndsAs : ℕ → ℕ → State → State → Type 0
 EndsAs code k s t = ((exec_numbered k s ≡ None) × (t ≡ s)) ⊎ (t ≡ change_exec k (exec_ended code) (drop_process (OfExec k) s))
 
 end_at : (code k : ℕ) (s : State) (o : Option Exec) → exec_numbered k s ≡ o
-    → EndsAs code k s (with_found o (λ x. Rattle.machine_model.specs.Chain.and_then (tell_of (exec_die_event x.id code) x.container)
-    (Rattle.machine_model.specs.Chain.and_then (Rattle.machine_model.specs.Chain.change (drop_process (OfExec k))) (Rattle.machine_model.specs.Chain.change (change_exec k (exec_ended code))))) s).state
+    → EndsAs code k s (with_found o (λ x. and_then (tell_of (exec_die_event x.id code) x.container)
+    (and_then (change (drop_process (OfExec k))) (change (change_exec k (exec_ended code))))) s).state
 end_at code k s None e = inl (e, refl)
 end_at code k s (Some x) e = inr (ap (λ (t : State). change_exec k (exec_ended code) (drop_process (OfExec k) t)) (told_state (exec_die_event x.id code) x.container s))
 
@@ -151,11 +150,11 @@ step_by W Local n P step is k s (Wrote stream payload) e h moved =
     let f : Process → Process = λ p. (step s.clock p).process in
     let t : State = stepped step (OfExec k) s in
     let less : (o : Owner) → exec_room_in o t.processes ≤ exec_room_in o s.processes = exec_room_changed k f (λ q. let r = (is s.clock q).room in omega (arith, r)) s.processes in
-    let room : Rattle.machine_model.proofs.Processes.LimitLemmas.written (effect_of (step s.clock) (process_of (OfExec k) s.processes)) + room_in (option_map f (process_of (OfExec k) s.processes)) ≤ room_in (process_of (OfExec k) s.processes) =
+    let room : written (effect_of (step s.clock) (process_of (OfExec k) s.processes)) + room_in (option_map f (process_of (OfExec k) s.processes)) ≤ room_in (process_of (OfExec k) s.processes) =
     step_room (step s.clock) (λ p. (is s.clock p).room) (process_of (OfExec k) s.processes) in
     let falls : length payload + room_in (process_of (OfExec k) t.processes) ≤ room_in (process_of (OfExec k) s.processes) =
     subst (λ o. length payload + room_in o ≤ room_in (process_of (OfExec k) s.processes)) (sym (changed_stands (OfExec k) f s.processes))
-    (subst (λ (x : ProcessEffect). Rattle.machine_model.proofs.Processes.LimitLemmas.written x + room_in (option_map f (process_of (OfExec k) s.processes)) ≤ room_in (process_of (OfExec k) s.processes)) e room) in
+    (subst (λ (x : ProcessEffect). written x + room_in (option_map f (process_of (OfExec k) s.processes)) ≤ room_in (process_of (OfExec k) s.processes)) e room) in
     let there = wrote_some (step s.clock) (process_of (OfExec k) s.processes) stream payload e in (
       (
         moved.0.0,

@@ -2,25 +2,24 @@
 use Rattle.std.proofs.Common.{◌≡◌, ◌≢◌, ℕ, ◌==◌, Bool, true, false, Option, Some, None, refl, ap, sym, ◌∙◌, subst, inl, inr, arith}
 use Rattle.std.proofs.lemmas.Bool.Decides.{eqb_tells}
 use Rattle.std.specs.Prelude.{option_map}
+use Rattle.proc_kernel.specs.Processes.{Process, is_frozen, thaw, freeze, frozen_pace}
+use Rattle.proc_kernel.specs.Tables.{process_of, effect_of}
 use Rattle.machine_model.specs.State.{State, exec_numbered, is_process, change_life}
 use Rattle.machine_model.specs.Consistency.{AreDistinct}
 use Rattle.machine_model.specs.Effects.EndMain.{end_exec, end_execs}
 use Rattle.machine_model.specs.Effects.Meet.{by_effect, stepped, step_process, thaw_execs}
 use Rattle.machine_model.specs.Calls.Pause.{freeze_process, freeze_execs}
-use Rattle.proc_kernel.specs.Processes.{Process, is_frozen, thaw, freeze, frozen_pace}
-use Rattle.proc_kernel.specs.Tables.{process_of, effect_of}
-use Rattle.engine_text.specs.declared.script.Pace.TheVariants.{Running as Goes, Frozen}
-use Rattle.engine_text.specs.declared.script.Pace.{Pace}
 use Rattle.machine_model.proofs.Fold.RowLemmas.{made}
 use Rattle.machine_model.proofs.ChangeLemmas.{map_updated}
 use Rattle.machine_model.proofs.Tables.ProcessLemmas.{changed_stands}
 use Rattle.machine_model.proofs.Processes.PaceLemmas.{thaw_goes}
 use Rattle.machine_model.proofs.Fits.LogRoomLemmas.{room_renewed}
 use Rattle.machine_model.proofs.Processes.LimitLemmas.{thaw_fits, freeze_fits}
-use Rattle.machine_model.proofs.Fits.PartLemmas.{Roomy, roomed}
-use Rattle.machine_model.proofs.Fits.PartLemmas.{Parts, parts_of, life_of, IcyAs, Watches, Watch, exec_moved, execs_moved, SteadyBy, Steady, life_changed, other_changed}
+use Rattle.machine_model.proofs.Fits.PartLemmas.{Roomy, roomed, Parts, parts_of, life_of, IcyAs, Watches, Watch, exec_moved, execs_moved, SteadyBy, Steady, life_changed, other_changed}
 use Rattle.machine_model.proofs.Fits.MainPartLemmas.{NoExecs, exec_process_by}
 use Rattle.machine_model.proofs.Fits.ExecLoopLemmas.{Touches, AllDone, running_loop, end_exec_steady, end_exec_none, touches_end, touches_process, touches_step, exec_step_steady}
+use Rattle.engine_text.specs.declared.script.Pace.TheVariants.{Running as Goes, Frozen}
+use Rattle.engine_text.specs.declared.script.Pace.{Pace}
 use Rattle.engine_text.specs.declared.container.Container.{Container}
 use Rattle.engine_text.specs.declared.container.Life.{Life}
 use Rattle.engine_text.specs.declared.exec.Exec.{Exec}

@@ -1,15 +1,14 @@
 -- What fits still fits behind feeds and the end of input.
-use Rattle.std.proofs.Common.{◌≡◌, ℕ, Bool, true, false, List, [], ◌∷◌, ◌++◌, Option, Some, None, if◌then◌else◌, refl, ap, ◌∙◌}
+use Rattle.std.proofs.Common.{◌≡◌, ℕ, Bool, true, false, List, [], ◌∷◌, ◌++◌, Option, Some, None, if◌then◌else◌, refl, ap, ◌∙◌, ◌≤◌, arith}
 use Rattle.std.specs.Prelude.{option_map}
+use Rattle.proc_kernel.specs.Processes.{Process, is_frozen, feed, feed_end, ready_pace, is_copy_next}
 use Rattle.machine_model.specs.State.{State, container_numbered, change_process}
 use Rattle.machine_model.specs.Chain.{change}
 use Rattle.machine_model.specs.Calls.Feed as feeds
 use Rattle.machine_model.specs.Streams.{RunState, Coming, Live as Lives_on, Over, run_state}
-use Rattle.proc_kernel.specs.Processes.{Process, is_frozen, feed, feed_end, ready_pace, is_copy_next}
 use Rattle.machine_model.proofs.Fits.PartLemmas.{Leads}
 use Rattle.machine_model.proofs.Fits.MainPartLemmas.{leads_process, leads_exec_process}
 use Rattle.machine_model.proofs.Fits.LaunchLemmas.{Fine, OnBy, On, Local}
-use Rattle.std.proofs.Common.{◌≤◌, arith}
 use Rattle.machine_model.proofs.Processes.LimitLemmas.{feed_room, feed_end_fits}
 use Rattle.machine_model.proofs.Fits.CallLemmas.{PartsFit, whole}
 use Rattle.engine_text.specs.declared.owner.Owner.{Owner}

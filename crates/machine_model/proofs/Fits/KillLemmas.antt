@@ -1,7 +1,9 @@
 -- What fits still fits behind a kill.
-use Rattle.std.proofs.Common.{◌≡◌, ℕ, Bool, true, false, List, Option, Some, None, if◌then◌else◌, refl, ap, sym, ◌∙◌, subst}
+use Rattle.std.proofs.Common.{◌≡◌, ℕ, Bool, true, false, List, Option, Some, None, if◌then◌else◌, refl, ap, sym, ◌∙◌, subst, arith}
 use Rattle.std.specs.Prelude.{option_map}
 use Rattle.api_json.specs.Status.{is_paused}
+use Rattle.proc_kernel.specs.Processes.{Process, ProcessStep, is_frozen, lives, set_waiting, signal as signalled}
+use Rattle.proc_kernel.specs.Tables.{effect_of, process_of}
 use Rattle.machine_model.specs.State.{State, container_numbered, change_process}
 use Rattle.machine_model.specs.Chain.{change, and_then, renew, tell_of}
 use Rattle.machine_model.specs.EventTexts.{kill_event}
@@ -11,13 +13,10 @@ use Rattle.machine_model.specs.Effects.Meet.{send, stepped, by_effect}
 use Rattle.machine_model.specs.Calls.Kill as kill
 use Rattle.machine_model.specs.Calls.Kill.{is_final, by_hand, deliver, kill_running, kill_restarting}
 use Rattle.machine_model.specs.Calls.Pause.{paused}
-use Rattle.proc_kernel.specs.Processes.{Process, ProcessStep, is_frozen, lives, set_waiting, signal as signalled}
-use Rattle.proc_kernel.specs.Tables.{effect_of, process_of}
 use Rattle.machine_model.proofs.Fits.PartLemmas.{Parts, parts_of, Steady, Leads, leads_then, leads_from, leads_to, leads_tell, Stood}
 use Rattle.machine_model.proofs.Fits.MainPartLemmas.{leads_process}
 use Rattle.machine_model.proofs.Fits.LaunchLemmas.{Fine, Up, OnBy, On, Here, Local, on_weaker, on_here, here_renew, never}
 use Rattle.machine_model.proofs.Fits.MeetLemmas.{Alive, Halted, marked, leads_meet, leads_send, leads_cancel}
-use Rattle.std.proofs.Common.{arith}
 use Rattle.machine_model.proofs.Processes.LimitLemmas.{signal_fits}
 use Rattle.machine_model.proofs.Fits.CallLemmas.{PartsFit, mains_found, mains_at, fine_of, up_fine, to_alive, to_resting, cancelled_up}
 use Rattle.engine_text.specs.declared.owner.Owner.TheVariants.{Container as OfContainer}

@@ -1,26 +1,23 @@
 -- Goals, statuses, main processes and timers fit each other: what the effects at one container keep of it.
-use Rattle.std.proofs.Common.{◌≡◌, ℕ, ◌+◌, ◌≤◌, ◌==◌, Bool, true, false, not, List, Option, Some, None, refl, ap, sym, ◌∙◌, subst, arith}
+use Rattle.std.proofs.Common.{◌≡◌, ℕ, ◌+◌, ◌≤◌, ◌==◌, Bool, true, false, not, List, Option, Some, None, refl, ap, sym, ◌∙◌, subst, arith, ◌-◌}
 use Rattle.std.proofs.lemmas.Bool.Decides.{nat_tests}
 use Rattle.std.specs.Prelude.{option_map}
 use Rattle.api_json.specs.Status.{is_paused, is_restarting}
+use Rattle.proc_kernel.specs.Catalogue.{program_of}
+use Rattle.proc_kernel.specs.Processes.{Process, spawn as spawned}
+use Rattle.engine_text.specs.Scripts.{Program}
 use Rattle.machine_model.specs.State.{State, is_process}
 use Rattle.machine_model.specs.Chain.{change, with_container, renew}
 use Rattle.machine_model.specs.EventTexts.{plain_event}
 use Rattle.machine_model.specs.Consistency.{is_there, FitsStatus, IsFrozenAs, GoalStands}
-use Rattle.machine_model.specs.Effects.Launch.{spawn, launched, launch_program, launch, launch_by_call, afresh, container_room}
+use Rattle.machine_model.specs.Effects.Launch.{spawn, launched, launch_program, launch, launch_by_call, afresh, container_room, log_size}
 use Rattle.machine_model.specs.Effects.Destroy.{without, destroy}
 use Rattle.machine_model.specs.Effects.EndMain.{end_exec}
-use Rattle.proc_kernel.specs.Catalogue.{program_of}
-use Rattle.proc_kernel.specs.Processes.{Process, spawn as spawned}
-use Rattle.engine_text.specs.Scripts.{Program}
 use Rattle.machine_model.proofs.Fits.PartLemmas.{Parts, parts_of, Leads, leads_then, leads_to, leads_with, leads_tell, leads_mounts, leads_renew, Watch, IcyAs, Stood}
 use Rattle.machine_model.proofs.Fits.MainPartLemmas.{leads_spawn, leads_without}
-use Rattle.std.proofs.Common.{◌-◌}
-use Rattle.machine_model.specs.Effects.Launch.{log_size}
 use Rattle.machine_model.proofs.Fits.LogRoomLemmas.{RoomBy, room_renewed}
-use Rattle.engine_text.specs.declared.log.LogRecord.{LogRecord}
 use Rattle.machine_model.proofs.Fits.ExecLoopLemmas.{end_exec_steady}
-use Rattle.machine_model.specs.State.{State}
+use Rattle.engine_text.specs.declared.log.LogRecord.{LogRecord}
 use Rattle.engine_text.specs.declared.owner.Owner.TheVariants.{Container as OfContainer}
 use Rattle.engine_text.specs.declared.container.Container.{Container}
 use Rattle.engine_text.specs.declared.container.Goal.{Goal}

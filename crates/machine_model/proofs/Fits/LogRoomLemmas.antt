@@ -1,4 +1,5 @@
 -- Logs have room for what their processes may yet write.
+pub use Rattle.machine_model.specs.Consistency.{room_left as room_in}
 use Rattle.std.proofs.Common.{◌≡◌, ◌≢◌, ℕ, ◌+◌, ◌≤◌, ◌==◌, Bool, true, false, List, [], ◌∷◌, ◌++◌, Option, Some, None, if◌then◌else◌, find, map, length, refl, ap, sym, ◌∙◌, subst, inl, inr, arith}
 use Rattle.std.proofs.lemmas.Bool.Decides.{eqb_tells}
 use Rattle.std.proofs.lemmas.List.Sums.{sum_by_push}
@@ -11,7 +12,6 @@ use Rattle.proc_kernel.specs.Tables.{Entry, process_of, effect_of}
 use Rattle.proc_kernel.specs.Tables as tables
 use Rattle.machine_model.specs.Consistency.{AreDistinct}
 use Rattle.machine_model.specs.Effects.Launch.{log_size}
-pub use Rattle.machine_model.specs.Consistency.{room_left as room_in}
 use Rattle.machine_model.specs.Effects.Meet.{record_of}
 use Rattle.machine_model.proofs.ListLemmas.{all_weaken}
 use Rattle.machine_model.proofs.Tables.NumberLemmas.{is_not}

@@ -3,34 +3,29 @@ use Rattle.std.proofs.Common.{◌≡◌, ◌≢◌, ℕ, ◌≤◌, ◌==◌, Bo
 use Rattle.std.proofs.lemmas.Bool.{eqb-true, eq-eqb}
 use Rattle.std.specs.Prelude.{option_map}
 use Rattle.std.specs.List.{AllByRecursion}
+use Rattle.std.proofs.lemmas.Bool.Decides.{eqb_tells}
+use Rattle.engine_text.specs.Owner.{same_owner}
+use Rattle.engine_text.specs.Scripts.{Program}
+use Rattle.proc_kernel.specs.Processes.{Process, is_frozen, spawn as spawned}
+use Rattle.proc_kernel.specs.Tables.{Entry, process_of, begun}
 use Rattle.machine_model.specs.State.{State, exec_numbered, is_process, change_process, change_exec, drop_process}
 use Rattle.machine_model.specs.Chain.{change}
 use Rattle.machine_model.specs.Consistency.{AreDistinct}
 use Rattle.machine_model.specs.Effects.Launch.{spawn}
 use Rattle.machine_model.specs.Effects.Destroy.{without}
-use Rattle.engine_text.specs.Owner.{same_owner}
-use Rattle.engine_text.specs.Scripts.{Program}
-use Rattle.proc_kernel.specs.Processes.{Process, is_frozen, spawn as spawned}
-use Rattle.proc_kernel.specs.Tables.{Entry, process_of, begun}
+use Rattle.machine_model.specs.Effects.EndMain.{exec_ended}
 use Rattle.machine_model.proofs.ListLemmas.{distinct_more}
-use Rattle.machine_model.proofs.ChangeLemmas.{map_updated}
-use Rattle.machine_model.proofs.Tables.NumberLemmas.{other_stands, itself_gone}
-use Rattle.machine_model.proofs.ChangeLemmas.{distinct_removed}
+use Rattle.machine_model.proofs.ChangeLemmas.{map_updated, distinct_removed, distinct_filtered, all_filtered}
+use Rattle.machine_model.proofs.Tables.NumberLemmas.{other_stands, itself_gone, is_not, find_updated, find_other, keep_if, find_filtered}
 use Rattle.machine_model.proofs.Tables.ProcessLemmas.{other_owner, begun_stands, begun_others, changed_stands, changed_others, changed_owners, gone, gone_others, distinct_without}
 use Rattle.machine_model.proofs.OwnerLemmas.{same_owner-refl}
-use Rattle.std.proofs.lemmas.Bool.Decides.{eqb_tells}
-use Rattle.machine_model.specs.Effects.EndMain.{exec_ended}
-use Rattle.machine_model.proofs.Tables.NumberLemmas.{is_not, find_updated, find_other, keep_if, find_filtered}
-use Rattle.machine_model.proofs.ChangeLemmas.{distinct_filtered}
+use Rattle.machine_model.proofs.Fits.LogRoomLemmas.{life_of, RoomBy, OutputFits, IsEmptyOf, room_less, room_mapped, outputs_less, exec_room_of, exec_room_changed, exec_room_gone}
+use Rattle.machine_model.proofs.Fits.PartLemmas.{Parts, parts_of, IcyAs, Watches, ExecBy, ExecsBy, exec_moved, execs_moved, watched, Roomy, roomed, Watch, SteadyBy, Steady, Leads}
 use Rattle.engine_text.specs.declared.exec.Exec.{Exec}
-use Rattle.machine_model.proofs.Fits.LogRoomLemmas.{life_of}
-use Rattle.machine_model.proofs.Fits.LogRoomLemmas.{RoomBy, OutputFits, IsEmptyOf, room_less, room_mapped, outputs_less, exec_room_of, exec_room_changed, exec_room_gone}
-use Rattle.machine_model.proofs.ChangeLemmas.{all_filtered}
 use Rattle.engine_text.specs.declared.container.Container.{Container}
 use Rattle.engine_text.specs.declared.container.Life.{Life}
 use Rattle.engine_text.specs.declared.owner.Owner.{Owner}
 use Rattle.engine_text.specs.declared.owner.Owner.TheVariants.{Container as OfContainer, Exec as OfExec}
-use Rattle.machine_model.proofs.Fits.PartLemmas.{Parts, parts_of, IcyAs, Watches, ExecBy, ExecsBy, exec_moved, execs_moved, watched, Roomy, roomed, Watch, SteadyBy, Steady, Leads}
 
 -- ---- processes
 

@@ -1,46 +1,37 @@
 -- What steps, thaws, signals and halts keep of what fits.
-use Rattle.std.proofs.Common.{◌≡◌, ℕ, ◌+◌, ◌≤◌, ◌==◌, Bool, true, false, not, List, Option, Some, None, refl, ap, sym, ◌∙◌, subst, arith}
+use Rattle.std.proofs.Common.{◌≡◌, ℕ, ◌+◌, ◌≤◌, ◌==◌, Bool, true, false, not, List, Option, Some, None, refl, ap, sym, ◌∙◌, subst, arith, ◌*◌, ℤ, pos, negsuc, length}
 use Rattle.std.specs.Prelude.{option_map}
 use Rattle.api_json.specs.Status.{is_paused, is_restarting}
 use Rattle.container_table.specs.Timers.{cleared}
-use Rattle.machine_model.specs.State.{State, is_process, change_process}
+use Rattle.proc_kernel.specs.Processes.{signal, thaw, Process, ProcessStep, is_frozen}
+use Rattle.proc_kernel.specs.Tables.{effect_of, process_of}
+use Rattle.machine_model.specs.State.{State, is_process, change_process, timer_of, change_life}
 use Rattle.machine_model.specs.Chain.{change, and_then, in_order, renew, tell_of}
-use Rattle.machine_model.specs.EventTexts.{plain_event}
+use Rattle.machine_model.specs.EventTexts.{plain_event, kill_event}
 use Rattle.machine_model.specs.Consistency.{FitsStatus, IsFrozenAs, GoalStands}
 use Rattle.machine_model.specs.Effects.Cancel.{cancelled, cancel_restart}
 use Rattle.machine_model.specs.Effects.Halt.{signal_used, seconds_used, lesser, set_deadline, halt}
 use Rattle.machine_model.specs.Effects.Meet.{logged, by_effect, stepped, step_process, running, thaw_execs, wake_parts, thaw_container, send, woken, meet_signal}
-use Rattle.machine_model.specs.EventTexts.{kill_event}
-use Rattle.machine_model.specs.State.{timer_of}
-use Rattle.proc_kernel.specs.Processes.{signal, thaw}
-use Rattle.proc_kernel.specs.Tables.{effect_of, process_of}
-use Rattle.std.proofs.Common.{◌*◌, ℤ, pos, negsuc}
-use Rattle.machine_model.proofs.Fits.PartLemmas.{Steady}
+use Rattle.machine_model.specs.Effects.Launch.{log_size}
+use Rattle.machine_model.proofs.Fits.PartLemmas.{Steady, Parts, parts_of, Leads, leads_then, leads_from, leads_still, leads_with, leads_tell, leads_renew, IcyAs, Stood, Roomy}
 use Rattle.machine_model.proofs.Processes.PaceLemmas.{Going, StepGoes, thaw_goes, signal_goes, signal_thaws}
+use Rattle.machine_model.proofs.Fits.MainPartLemmas.{leads_process}
+use Rattle.machine_model.proofs.Fits.TimerPartLemmas.{leads_clear_3, leads_set_1}
+use Rattle.machine_model.proofs.Fits.LogRoomLemmas.{RoomBy, room_in, log_more}
+use Rattle.machine_model.proofs.Processes.LimitLemmas.{IsStep, written, thaw_fits, signal_fits}
+use Rattle.machine_model.proofs.Fits.ExecLoopLemmas.{told_state}
+use Rattle.machine_model.proofs.Fits.ExecPhaseLemmas.{loosen, tighten, renew_loosely, thaw_all}
+use Rattle.machine_model.proofs.Fits.LaunchLemmas.{Names, Fine, Up, Live, OnBy, On, Here, Local, on_weaker, on_none, here_of, on_here, mapped_by, icy_renewed, here_renew, Fallen, goal_live, never}
+use Rattle.machine_model.proofs.Fits.EndMainLemmas.{leads_end_main}
 use Rattle.engine_text.specs.declared.script.Effect.{Effect as ProcessEffect}
 use Rattle.engine_text.specs.declared.script.Effect.TheVariants.{Lives, Wrote, Ended}
 use Rattle.engine_text.specs.declared.script.Stream.{Stream}
 use Rattle.engine_text.specs.declared.signal.Signal.{Signal}
 use Rattle.engine_text.specs.declared.event.Action.TheVariants.{Unpause}
-use Rattle.proc_kernel.specs.Processes.{Process, ProcessStep}
-use Rattle.machine_model.proofs.Fits.PartLemmas.{Parts, parts_of, Leads, leads_then, leads_from, leads_still, leads_with, leads_tell, leads_renew, IcyAs, Stood}
-use Rattle.machine_model.proofs.Fits.MainPartLemmas.{leads_process}
-use Rattle.machine_model.proofs.Fits.TimerPartLemmas.{leads_clear_3, leads_set_1}
-use Rattle.std.proofs.Common.{length}
-use Rattle.machine_model.specs.Effects.Launch.{log_size}
-use Rattle.machine_model.proofs.Fits.LogRoomLemmas.{RoomBy, room_in, log_more}
-use Rattle.machine_model.proofs.Processes.LimitLemmas.{IsStep, written, thaw_fits, signal_fits}
-use Rattle.machine_model.proofs.Fits.PartLemmas.{Roomy}
-use Rattle.machine_model.proofs.Fits.ExecLoopLemmas.{told_state}
-use Rattle.machine_model.proofs.Fits.ExecPhaseLemmas.{loosen, tighten, renew_loosely, thaw_all}
-use Rattle.proc_kernel.specs.Processes.{is_frozen}
-use Rattle.machine_model.specs.State.{State, change_life}
 use Rattle.engine_text.specs.declared.owner.Owner.TheVariants.{Container as OfContainer}
 use Rattle.engine_text.specs.declared.container.Container.{Container}
 use Rattle.engine_text.specs.declared.container.Life.{Life}
 use Rattle.engine_text.specs.declared.status.Status.{Status}
-use Rattle.machine_model.proofs.Fits.LaunchLemmas.{Names, Fine, Up, Live, OnBy, On, Here, Local, on_weaker, on_none, here_of, on_here, mapped_by, icy_renewed, here_renew, Fallen, goal_live, never}
-use Rattle.machine_model.proofs.Fits.EndMainLemmas.{leads_end_main}
 
 -- ---- steps of a main process
 

@@ -1,22 +1,22 @@
 -- What one sees of the container of a number: its life, its main process and its timers; and how single changes change it.
+pub use Rattle.machine_model.proofs.Fits.LogRoomLemmas.{life_of}
 use Rattle.std.proofs.Common.{◌≡◌, ◌≢◌, ℕ, ◌≤◌, ◌==◌, Bool, true, false, not, inl, inr, List, [], ◌∷◌, Option, Some, None, find, map, if◌then◌else◌, refl, ap, sym, ◌∙◌, subst}
 use Rattle.std.proofs.lemmas.Bool.{eqb-true}
 use Rattle.std.specs.Prelude.{option_map}
 use Rattle.std.specs.List.{AllByRecursion}
+use Rattle.std.proofs.lemmas.Bool.Decides.{eqb_tells}
 use Rattle.container_table.specs.Lists.{update_first}
+use Rattle.proc_kernel.specs.Processes.{Process, is_frozen}
+use Rattle.proc_kernel.specs.Tables.{Entry, process_of}
+use Rattle.api_json.specs.Status.{is_paused}
 use Rattle.machine_model.specs.State.{State, container_numbered, timer_of, is_process}
 use Rattle.machine_model.specs.Chain.{Effect, still, and_then, each, with_found, with_container, tell, tell_of, tell_mounts, renew}
 use Rattle.machine_model.specs.EventTexts.{mount_event}
 use Rattle.machine_model.specs.Consistency.{AreDistinct, is_there, AreSingle}
-use Rattle.proc_kernel.specs.Processes.{Process, is_frozen}
-use Rattle.proc_kernel.specs.Tables.{Entry, process_of}
 use Rattle.machine_model.proofs.Fold.RowLemmas.{found_number, made}
 use Rattle.machine_model.proofs.ChangeLemmas.{map_updated}
-use Rattle.api_json.specs.Status.{is_paused}
-use Rattle.std.proofs.lemmas.Bool.Decides.{eqb_tells}
-use Rattle.engine_text.specs.declared.exec.Exec.{Exec}
-pub use Rattle.machine_model.proofs.Fits.LogRoomLemmas.{life_of}
 use Rattle.machine_model.proofs.Fits.LogRoomLemmas.{RoomBy, Rooms}
+use Rattle.engine_text.specs.declared.exec.Exec.{Exec}
 use Rattle.engine_text.specs.declared.container.Container.{Container}
 use Rattle.engine_text.specs.declared.container.Life.{Life}
 use Rattle.engine_text.specs.declared.event.Action.{Action}

@@ -2,23 +2,20 @@
 use Rattle.std.proofs.Common.{◌≡◌, ℕ, Bool, true, false, List, Option, Some, None, refl, ap, sym, ◌∙◌, subst}
 use Rattle.std.specs.Prelude.{option_map}
 use Rattle.api_json.specs.Status.{is_paused, is_restarting}
-use Rattle.machine_model.specs.State.{State, container_numbered, is_process, change_process}
+use Rattle.proc_kernel.specs.Processes.{Process, freeze, frozen_pace, is_frozen}
+use Rattle.machine_model.specs.State.{State, container_numbered, is_process, change_process, change_life}
 use Rattle.machine_model.specs.Chain.{change, tell_of}
 use Rattle.machine_model.specs.EventTexts.{plain_event}
 use Rattle.machine_model.specs.Consistency.{FitsStatus, IsFrozenAs}
 use Rattle.machine_model.specs.Calls.Pause as pause
 use Rattle.machine_model.specs.Calls.Pause.{paused, freeze_process, freeze_execs}
-use Rattle.proc_kernel.specs.Processes.{Process, freeze, frozen_pace, is_frozen}
-use Rattle.machine_model.proofs.Fits.PartLemmas.{parts_of, Steady, Leads, leads_from}
+use Rattle.machine_model.proofs.Fits.PartLemmas.{parts_of, Steady, Leads, leads_from, IcyAs}
 use Rattle.machine_model.proofs.Fits.MainPartLemmas.{leads_process}
-use Rattle.machine_model.proofs.Fits.LaunchLemmas.{Fine, Up, OnBy, On, Local, on_weaker, on_here, never}
+use Rattle.machine_model.proofs.Fits.LaunchLemmas.{Fine, Up, OnBy, On, Local, on_weaker, on_here, never, mapped_by}
 use Rattle.machine_model.proofs.Fits.MeetLemmas.{Halted, Loose, loose}
 use Rattle.machine_model.proofs.Processes.LimitLemmas.{freeze_fits}
 use Rattle.machine_model.proofs.Fits.ExecLoopLemmas.{told_state}
 use Rattle.machine_model.proofs.Fits.ExecPhaseLemmas.{loosen, tighten, renew_loosely, freeze_all}
-use Rattle.machine_model.proofs.Fits.LaunchLemmas.{mapped_by}
-use Rattle.machine_model.proofs.Fits.PartLemmas.{IcyAs}
-use Rattle.machine_model.specs.State.{change_life}
 use Rattle.machine_model.proofs.Fits.CallLemmas.{PartsFit, mains_found, mains_at, fine_of}
 use Rattle.engine_text.specs.declared.owner.Owner.TheVariants.{Container as OfContainer}
 use Rattle.engine_text.specs.declared.container.Container.{Container}

@@ -2,27 +2,27 @@
 use Rattle.std.proofs.Common.{◌≡◌, ℕ, ◌+◌, Bool, true, false, List, Option, Some, None, refl, ap, sym, ◌∙◌, subst}
 use Rattle.api_json.specs.Status.{is_restarting}
 use Rattle.container_table.specs.Timers.{with_timer}
+use Rattle.proc_kernel.specs.Processes.{Process}
 use Rattle.machine_model.specs.State.{State, container_numbered, is_live, is_process}
 use Rattle.machine_model.specs.Chain.{change, and_then, renew}
 use Rattle.machine_model.specs.EventTexts.{kill_event}
-use Rattle.machine_model.specs.Tickets.{begins}
+use Rattle.machine_model.specs.Tickets.{begun}
 use Rattle.machine_model.specs.Consistency.{FitsStatus, IsFrozenAs, GoalStands}
 use Rattle.machine_model.specs.Effects.Destroy.{destroy}
 use Rattle.machine_model.specs.Effects.Cancel.{cancel_restart}
 use Rattle.machine_model.specs.Calls.Remove as remove
 use Rattle.machine_model.specs.Calls.Remove.{to_remove, removing, if_it_lives, kill_to_remove, remove_running, remove_restarting, remove_dead}
-use Rattle.proc_kernel.specs.Processes.{Process}
 use Rattle.machine_model.proofs.Fits.PartLemmas.{Parts, parts_of, life_of, Steady, Leads, leads_then, leads_from, leads_to, leads_tell}
 use Rattle.machine_model.proofs.Fits.TimerPartLemmas.{leads_set_2, timed}
-use Rattle.machine_model.proofs.Fits.LaunchLemmas.{Names, Calm, Fine, Up, Live, Fallen, Bare, OnBy, On, Here, Local, on_weaker, on_here, here_of, on_renew, here_renew, never, leads_launch_by_call, leads_destroy}
+use Rattle.machine_model.proofs.Fits.LaunchLemmas.{Calm, Fine, Up, Live, Bare, OnBy, On, Here, Local, on_weaker, on_here, here_renew, leads_destroy, goal_live}
 use Rattle.machine_model.proofs.Fits.MeetLemmas.{Alive, marked, leads_meet, leads_cancel}
-use Rattle.machine_model.proofs.Fits.EndMainLemmas.{rests}
+use Rattle.machine_model.proofs.Fits.EndMainLemmas.{live_rests}
+use Rattle.machine_model.proofs.Fits.CallLemmas.{PartsFit, whole, mains_found, mains_at, to_bare, to_alive, to_resting, up_fine}
 use Rattle.engine_text.specs.declared.owner.Owner.TheVariants.{Container as OfContainer}
 use Rattle.engine_text.specs.declared.container.Container.{Container}
 use Rattle.engine_text.specs.declared.container.Life.{Life}
 use Rattle.engine_text.specs.declared.status.Status.{Status}
 use Rattle.engine_text.specs.declared.ticket.Asked.{Asked}
-use Rattle.machine_model.proofs.Fits.CallLemmas.{PartsFit, whole, mains_found, mains_at, to_bare, to_alive, to_resting, up_fine}
 
 removes_by : (l : Life) (p : Option Process) (a b c : Bool) → Live l p a b c → Up (removing l) p a true c
 removes_by l p a b c h =
@@ -34,11 +34,11 @@ removes_by l p a b c h =
           pid = calm.pid;
           stop = calm.stop;
           removal = λ e. (h.1, refl);
-          restart = Rattle.machine_model.proofs.Fits.EndMainLemmas.live_rests l.status c (subst (FitsStatus l.status) h.1 calm.status) calm.restart;
+          restart = live_rests l.status c (subst (FitsStatus l.status) h.1 calm.status) calm.restart;
           program = calm.program;
           again = calm.again;
         },
-        subst (GoalStands l.goal) (sym h.1) (Rattle.machine_model.proofs.Fits.LaunchLemmas.goal_live l.goal),
+        subst (GoalStands l.goal) (sym h.1) (goal_live l.goal),
       ),
       refl,
     )
@@ -77,7 +77,7 @@ remove_runs : (s : State) (force : Bool) (connection : ℕ) (c : Container) (u :
     → PartsFit s → PartsFit (remove_running force connection c s).effect.state
 remove_runs s false connection c u found is lives h = h
 remove_runs s true connection c u found is lives h =
-    let t : State = Rattle.machine_model.specs.Tickets.begun connection c.number Asked.Remove s in
+    let t : State = begun connection c.number Asked.Remove s in
     mains_found t c (kill_to_remove c.number) found (leads_from (λ v k. to_alive c u v is (λ fits. lives (is_process v.main) fits) k) (leads_to up_fine (leads_to_remove c.number))) h
 
 remove_rests : (s : State) (force : Bool) (c : Container) → container_numbered c.number s ≡ Some c → c.life.status ≡ Status.Restarting → PartsFit s → PartsFit (remove_restarting force c s).effect.state

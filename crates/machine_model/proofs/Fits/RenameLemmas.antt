@@ -10,15 +10,13 @@ use Rattle.machine_model.specs.Consistency.{AreDistinct}
 use Rattle.machine_model.specs.Calls.Rename as rename
 use Rattle.machine_model.specs.Calls.Rename.{named}
 use Rattle.machine_model.proofs.ChangeLemmas.{map_updated}
-use Rattle.machine_model.proofs.Fits.PartLemmas.{Roomy}
-use Rattle.machine_model.proofs.Fits.PartLemmas.{Watches, execs_moved}
-use Rattle.machine_model.proofs.Fits.PartLemmas.{parts_of, life_of, life_changed, other_changed}
+use Rattle.machine_model.proofs.Fits.PartLemmas.{Roomy, Watches, execs_moved, parts_of, life_of, life_changed, other_changed}
 use Rattle.machine_model.proofs.Fits.LaunchLemmas.{Local}
 use Rattle.machine_model.proofs.Fits.CallLemmas.{PartsFit}
+use Rattle.machine_model.proofs.Fits.FreshLemmas.{mains_told}
 use Rattle.engine_text.specs.declared.container.Container.{Container}
 use Rattle.engine_text.specs.declared.container.Life.{Life}
 use Rattle.engine_text.specs.declared.status.Status.{Status}
-use Rattle.machine_model.proofs.Fits.FreshLemmas.{mains_told}
 
 same_life : (o : Option Life) → option_map (λ l. l) o ≡ o
 same_life None = refl

@@ -1,28 +1,28 @@
 -- What fits still fits behind a restart.
 use Rattle.std.proofs.Common.{◌≡◌, ℕ, Bool, true, false, List, Option, Some, None, refl, ap, ℤ}
 use Rattle.api_json.specs.Status.{is_paused, is_restarting}
+use Rattle.proc_kernel.specs.Catalogue.{program_of}
+use Rattle.engine_text.specs.Scripts.{Program}
 use Rattle.machine_model.specs.State.{State, container_numbered, is_process}
 use Rattle.machine_model.specs.Chain.{and_then}
 use Rattle.machine_model.specs.EventTexts.{plain_event}
 use Rattle.machine_model.specs.Outcome.{done}
-use Rattle.machine_model.specs.Tickets.{begins}
+use Rattle.machine_model.specs.Tickets.{begins, begun}
 use Rattle.machine_model.specs.Consistency.{is_there, FitsStatus}
 use Rattle.machine_model.specs.Effects.Cancel.{cancel_restart}
 use Rattle.machine_model.specs.Effects.Halt.{halt}
 use Rattle.machine_model.specs.Calls.Start.{if_program}
 use Rattle.machine_model.specs.Calls.Restart as restart
 use Rattle.machine_model.specs.Calls.Restart.{to_restart, launch_again}
-use Rattle.proc_kernel.specs.Catalogue.{program_of}
-use Rattle.engine_text.specs.Scripts.{Program}
 use Rattle.machine_model.proofs.Fits.PartLemmas.{Leads, leads_then, leads_from, leads_to, leads_tell}
 use Rattle.machine_model.proofs.Fits.LaunchLemmas.{Fine, Fallen, On, Local, on_here, leads_launch_by_call}
 use Rattle.machine_model.proofs.Fits.MeetLemmas.{leads_halt, leads_cancel}
+use Rattle.machine_model.proofs.Fits.CallLemmas.{PartsFit, mains_found, mains_at, names_of, to_fallen, to_alive, to_resting, up_fine}
 use Rattle.engine_text.specs.declared.container.Container.{Container}
 use Rattle.engine_text.specs.declared.signal.Signal.{Signal}
 use Rattle.engine_text.specs.declared.status.Status.{Status}
 use Rattle.engine_text.specs.declared.ticket.Asked.{Asked}
 use Rattle.engine_text.specs.declared.event.Action.TheVariants as Action
-use Rattle.machine_model.proofs.Fits.CallLemmas.{PartsFit, mains_found, mains_at, names_of, to_fallen, to_alive, to_resting, up_fine}
 
 again_up : (n : ℕ) → Leads Local n (On Fallen) (launch_again n) (On Fine)
 again_up n = leads_to up_fine (leads_then (leads_launch_by_call n) (leads_tell n (plain_event Action.Restart)))
@@ -37,7 +37,7 @@ restart_ran s c u (Some program) e found is dead calm up h =
 restart_halts : (s : State) (connection : ℕ) (seconds : Option ℤ) (signal : Option Signal) (c : Container) (u : Status) → container_numbered c.number s ≡ Some c → c.life.status ≡ u
     → ((live : Bool) → FitsStatus u live → live ≡ true) → PartsFit s → PartsFit (begins connection c Asked.Restart (halt to_restart seconds signal c) s).effect.state
 restart_halts s connection seconds signal c u found is lives h =
-    let t : State = Rattle.machine_model.specs.Tickets.begun connection c.number Asked.Restart s in
+    let t : State = begun connection c.number Asked.Restart s in
     mains_found t c (halt to_restart seconds signal c) found
     (leads_from (λ v k. to_alive c u v is (λ fits. lives (is_process v.main) fits) k)
     (leads_to up_fine (leads_halt to_restart seconds signal c (record { status = λ l. refl; pid = λ l. refl; words = λ l. refl; log = λ l. refl })))) h

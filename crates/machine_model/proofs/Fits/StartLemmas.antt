@@ -1,19 +1,19 @@
 -- What fits still fits behind a start.
 use Rattle.std.proofs.Common.{◌≡◌, ℕ, Bool, false, List, Option, Some, None, refl, ap}
 use Rattle.api_json.specs.Status.{is_paused, is_restarting}
+use Rattle.proc_kernel.specs.Catalogue.{program_of}
+use Rattle.engine_text.specs.Scripts.{Program}
 use Rattle.machine_model.specs.State.{State, container_numbered, is_process}
 use Rattle.machine_model.specs.Outcome.{done}
 use Rattle.machine_model.specs.Consistency.{is_there, FitsStatus}
 use Rattle.machine_model.specs.Effects.Launch.{launch_by_call}
 use Rattle.machine_model.specs.Calls.Start as start
 use Rattle.machine_model.specs.Calls.Start.{if_program}
-use Rattle.proc_kernel.specs.Catalogue.{program_of}
-use Rattle.engine_text.specs.Scripts.{Program}
 use Rattle.machine_model.proofs.Fits.PartLemmas.{leads_from, leads_to}
 use Rattle.machine_model.proofs.Fits.LaunchLemmas.{leads_launch_by_call}
+use Rattle.machine_model.proofs.Fits.CallLemmas.{PartsFit, mains_found, mains_at, names_of, to_fallen, up_fine}
 use Rattle.engine_text.specs.declared.container.Container.{Container}
 use Rattle.engine_text.specs.declared.status.Status.{Status}
-use Rattle.machine_model.proofs.Fits.CallLemmas.{PartsFit, mains_found, mains_at, names_of, to_fallen, up_fine}
 
 start_ran : (s : State) (c : Container) (u : Status) (o : Option Program) → program_of c.life.words 1 ≡ o → container_numbered c.number s ≡ Some c → c.life.status ≡ u
     → ((live : Bool) → FitsStatus u live → live ≡ false) → is_restarting u ≡ false → is_paused u ≡ false → PartsFit s → PartsFit (if_program o c.life.words (done (launch_by_call c.number)) s).effect.state

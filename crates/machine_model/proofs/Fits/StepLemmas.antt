@@ -2,9 +2,11 @@
 use Rattle.std.proofs.Common.{◌≡◌, ◌≢◌, ℕ, ◌≤◌, ◌==◌, Bool, true, false, not, List, [], ◌∷◌, Option, Some, None, find, map, if◌then◌else◌, refl, ap, sym, subst, arith, inl, inr}
 use Rattle.std.proofs.lemmas.Bool.{eqb-true, eq-eqb}
 use Rattle.std.proofs.lemmas.Bool.Decides.{eqb_tells}
-use Rattle.std.specs.List.{AllByRecursion, filter_map, list_any}
+use Rattle.std.specs.List.{AllByRecursion, filter_map, list_any, cons_option}
 use Rattle.container_table.specs.Timers.{timer_in, is_before}
 use Rattle.engine_text.specs.Texts.{same_bytes, without_slash}
+use Rattle.proc_kernel.specs.Processes.{run_due, next_due}
+use Rattle.proc_kernel.specs.Tables.{Entry}
 use Rattle.machine_model.specs.State.{State, container_numbered, is_process, timer_of, owner_number}
 use Rattle.machine_model.specs.Chain.{Effect, with_found}
 use Rattle.machine_model.specs.EventTexts.{exec_event, plain_event}
@@ -22,14 +24,12 @@ use Rattle.machine_model.specs.Calls.Volumes as volumes
 use Rattle.machine_model.specs.Outcome.{answers}
 use Rattle.machine_model.specs.Step.{at_moment, step_of, or_still}
 use Rattle.machine_model.specs.History.{after_step}
-use Rattle.proc_kernel.specs.Processes.{run_due, next_due}
-use Rattle.proc_kernel.specs.Tables.{Entry}
+use Rattle.machine_model.specs.Views.{volume_body}
 use Rattle.machine_model.proofs.ListLemmas.{all_append, all_weaken, all_both}
 use Rattle.machine_model.proofs.ObeyLemmas.{found_all}
 use Rattle.machine_model.proofs.DueLemmas.{IsAwakeAt, FindsAwake, Goes, least_finds, least_goes, all_there, passes}
-use Rattle.machine_model.proofs.Fits.LaunchLemmas.{pid_lives}
+use Rattle.machine_model.proofs.Fits.LaunchLemmas.{Fine, Up, OnBy, On, Local, never}
 use Rattle.machine_model.proofs.Fits.PartLemmas.{Parts, parts_of, life_of, IsRanked, Leads}
-use Rattle.machine_model.proofs.Fits.LaunchLemmas.{Calm, Fine, Up, OnBy, On, Here, Local, on_here, on_weaker}
 use Rattle.machine_model.proofs.Fits.RemoveLemmas.{remove_mains}
 use Rattle.machine_model.proofs.Fits.UnpauseLemmas.{unpause_mains}
 use Rattle.machine_model.proofs.Fits.RestartLemmas.{restart_mains}
@@ -40,6 +40,10 @@ use Rattle.machine_model.proofs.Fits.DueLemmas.{leads_stop_deadline, leads_remov
 use Rattle.machine_model.proofs.Fits.PauseLemmas.{pause_mains}
 use Rattle.machine_model.proofs.Fits.KillLemmas.{kill_mains}
 use Rattle.machine_model.proofs.Fits.FeedLemmas.{feed_mains, feed_end_mains}
+use Rattle.machine_model.proofs.Fits.ExecLemmas.{running_by, mains_made_exec, exec_found, inspect_found}
+use Rattle.machine_model.proofs.Fits.CreateLemmas.{create_image}
+use Rattle.machine_model.proofs.Fits.RenameLemmas.{rename_by}
+use Rattle.machine_model.proofs.Fits.FreshLemmas.{Fresh, mains_told}
 use Rattle.engine_text.specs.declared.call.Call.{Call}
 use Rattle.engine_text.specs.declared.container.Container.{Container}
 use Rattle.engine_text.specs.declared.owner.Owner.{Owner}
@@ -49,10 +53,6 @@ use Rattle.engine_text.specs.declared.step.DueAction.{DueAction}
 use Rattle.engine_text.specs.declared.step.Step.{Step}
 use Rattle.engine_text.specs.declared.volume.Volume.{Volume}
 use Rattle.engine_text.specs.declared.event.Action.TheVariants as Action
-use Rattle.machine_model.proofs.Fits.ExecLemmas.{running_by, mains_made_exec, exec_found, inspect_found}
-use Rattle.machine_model.proofs.Fits.CreateLemmas.{create_image}
-use Rattle.machine_model.proofs.Fits.RenameLemmas.{rename_by}
-use Rattle.machine_model.proofs.Fits.FreshLemmas.{Fresh, mains_told}
 
 -- ---- volumes
 
@@ -61,7 +61,7 @@ volume_standing (Some v) name labels s h = h
 volume_standing None name labels s h = h
 
 volume_inspects : (o : Option Volume) (name : List ℕ) (s : State) → PartsFit s
-    → PartsFit (volumes.with_volume o name (λ v. answers 200 (Rattle.machine_model.specs.Views.volume_body v)) s).effect.state
+    → PartsFit (volumes.with_volume o name (λ v. answers 200 (volume_body v)) s).effect.state
 volume_inspects None name s h = h
 volume_inspects (Some v) name s h = h
 
@@ -119,7 +119,7 @@ processes_no_timer s [] = tt
 processes_no_timer s (e ∷ es) = one (next_due e.process) (processes_no_timer s es)
   where
     one : (o : Option ℕ) → AllByRecursion (IsTimer s) (filter_map (λ e. action_at (owner_number e.owner) (next_due e.process)) es)
-        → AllByRecursion (IsTimer s) (Rattle.std.specs.List.cons_option (action_at (owner_number e.owner) o) (filter_map (λ e. action_at (owner_number e.owner) (next_due e.process)) es))
+        → AllByRecursion (IsTimer s) (cons_option (action_at (owner_number e.owner) o) (filter_map (λ e. action_at (owner_number e.owner) (next_due e.process)) es))
     one None more = more
     one (Some moment) more = (λ low. absurd (omega (arith, low)), more)
 
@@ -158,9 +158,9 @@ third s rank n true e f g top there h =
     let is : rank ≡ 2 = eqb-true rank 2 e in
     mains_leads s n (λ v. v.removal ≡ true) (removal_deadline n) (leads_removal_deadline n) (subst (λ r. is_there (timer_of r n s) ≡ true) is (there (omega (arith, is)))) h
 third s rank n false e f g top there h =
-    let two : rank ≢ 2 = λ is. Rattle.machine_model.proofs.Fits.LaunchLemmas.never (rank == 2) e (eq-eqb rank 2 is) in
-    let one : rank ≢ 1 = λ is. Rattle.machine_model.proofs.Fits.LaunchLemmas.never (rank == 1) f (eq-eqb rank 1 is) in
-    let zero : rank ≢ 0 = λ is. Rattle.machine_model.proofs.Fits.LaunchLemmas.never (rank == 0) g (eq-eqb rank 0 is) in
+    let two : rank ≢ 2 = λ is. never (rank == 2) e (eq-eqb rank 2 is) in
+    let one : rank ≢ 1 = λ is. never (rank == 1) f (eq-eqb rank 1 is) in
+    let zero : rank ≢ 0 = λ is. never (rank == 0) g (eq-eqb rank 0 is) in
     let is : rank ≡ 3 = omega (arith, two, one, zero, top) in
     mains_leads s n (λ v. v.restart ≡ true) (restart_timer n) (leads_restart_timer n) (subst (λ r. is_there (timer_of r n s) ≡ true) is (there (omega (arith, is)))) h
 
@@ -184,7 +184,7 @@ low_processes [] = tt
 low_processes (e ∷ es) = one (next_due e.process) (low_processes es)
   where
     one : (o : Option ℕ) → AllByRecursion IsLow (filter_map (λ e. action_at (owner_number e.owner) (next_due e.process)) es)
-        → AllByRecursion IsLow (Rattle.std.specs.List.cons_option (action_at (owner_number e.owner) o) (filter_map (λ e. action_at (owner_number e.owner) (next_due e.process)) es))
+        → AllByRecursion IsLow (cons_option (action_at (owner_number e.owner) o) (filter_map (λ e. action_at (owner_number e.owner) (next_due e.process)) es))
     one None more = more
     one (Some moment) more = (omega arith, more)
 
@@ -234,12 +234,12 @@ stands_by s d (Some c) e ranked there h = refl
 stands_by s d None e ranked there h =
     let absent = subst (λ o. OnBy Fine (life_of o) (parts_of d.number s).main (parts_of d.number s).stop (parts_of d.number s).removal (parts_of d.number s).restart) e (h.1 d.number) in
     elim (eqb_tells d.rank 1) [
-      | inl f ↦ Rattle.machine_model.proofs.Fits.LaunchLemmas.never (is_there (timer_of 1 d.number s)) absent.1 (subst (λ r. is_there (timer_in r d.number s.timers) ≡ true) f.1 there)
+      | inl f ↦ never (is_there (timer_of 1 d.number s)) absent.1 (subst (λ r. is_there (timer_in r d.number s.timers) ≡ true) f.1 there)
       | inr f ↦ elim (eqb_tells d.rank 2) [
-        | inl g ↦ Rattle.machine_model.proofs.Fits.LaunchLemmas.never (is_there (timer_of 2 d.number s)) absent.2 (subst (λ r. is_there (timer_in r d.number s.timers) ≡ true) g.1 there)
+        | inl g ↦ never (is_there (timer_of 2 d.number s)) absent.2 (subst (λ r. is_there (timer_in r d.number s.timers) ≡ true) g.1 there)
         | inr g ↦
             let three : d.rank ≡ 3 = omega (arith, f.1, g.1, ranked.least, ranked.greatest) in
-            Rattle.machine_model.proofs.Fits.LaunchLemmas.never (is_there (timer_of 3 d.number s)) absent.3 (subst (λ r. is_there (timer_in r d.number s.timers) ≡ true) three there)
+            never (is_there (timer_of 3 d.number s)) absent.3 (subst (λ r. is_there (timer_in r d.number s.timers) ≡ true) three there)
       ]
     ]
 

@@ -3,7 +3,7 @@ use Rattle.std.proofs.Common.{◌≡◌, ℕ, Bool, true, List, Option, Some, re
 use Rattle.machine_model.specs.State.{State, container_numbered, is_process}
 use Rattle.machine_model.specs.Chain.{and_then, tell_of}
 use Rattle.machine_model.specs.EventTexts.{plain_event}
-use Rattle.machine_model.specs.Tickets.{begins}
+use Rattle.machine_model.specs.Tickets.{begins, begun}
 use Rattle.machine_model.specs.Consistency.{FitsStatus}
 use Rattle.machine_model.specs.Effects.Cancel.{cancel_restart}
 use Rattle.machine_model.specs.Effects.Halt.{halt}
@@ -11,17 +11,17 @@ use Rattle.machine_model.specs.Calls.Stop as stop
 use Rattle.machine_model.specs.Calls.Stop.{stopping}
 use Rattle.machine_model.proofs.Fits.PartLemmas.{leads_then, leads_from, leads_to, leads_tell}
 use Rattle.machine_model.proofs.Fits.MeetLemmas.{leads_halt, leads_cancel}
+use Rattle.machine_model.proofs.Fits.CallLemmas.{PartsFit, mains_found, mains_at, to_alive, to_resting, up_fine, cancelled_up}
 use Rattle.engine_text.specs.declared.container.Container.{Container}
 use Rattle.engine_text.specs.declared.signal.Signal.{Signal}
 use Rattle.engine_text.specs.declared.status.Status.{Status}
 use Rattle.engine_text.specs.declared.ticket.Asked.{Asked}
 use Rattle.engine_text.specs.declared.event.Action.TheVariants as Action
-use Rattle.machine_model.proofs.Fits.CallLemmas.{PartsFit, mains_found, mains_at, to_alive, to_resting, up_fine, cancelled_up}
 
 stop_halts : (s : State) (connection : ℕ) (seconds : Option ℤ) (signal : Option Signal) (c : Container) (u : Status) → container_numbered c.number s ≡ Some c → c.life.status ≡ u
     → ((live : Bool) → FitsStatus u live → live ≡ true) → PartsFit s → PartsFit (begins connection c Asked.Stop (halt stopping seconds signal c) s).effect.state
 stop_halts s connection seconds signal c u found is lives h =
-    let t : State = Rattle.machine_model.specs.Tickets.begun connection c.number Asked.Stop s in
+    let t : State = begun connection c.number Asked.Stop s in
     mains_found t c (halt stopping seconds signal c) found
     (leads_from (λ v k. to_alive c u v is (λ fits. lives (is_process v.main) fits) k)
     (leads_to up_fine (leads_halt stopping seconds signal c (record { status = λ l. refl; pid = λ l. refl; words = λ l. refl; log = λ l. refl })))) h

@@ -8,13 +8,14 @@ use Rattle.machine_model.specs.Chain.{change}
 use Rattle.machine_model.specs.Consistency.{is_there, AreOther, AreSingle}
 use Rattle.machine_model.proofs.ListLemmas.{all_append, all_weaken}
 use Rattle.machine_model.proofs.ChangeLemmas.{all_removed}
-use Rattle.engine_text.specs.declared.step.DueAction.{DueAction}
 use Rattle.machine_model.proofs.Fits.PartLemmas.{Parts, parts_of, IsRanked, Leads}
+use Rattle.machine_model.proofs.ObeyLemmas.{both_true}
+use Rattle.engine_text.specs.declared.step.DueAction.{DueAction}
 
 -- ---- timers
 
 timer_parts : (r n : ℕ) (d : DueAction) → is_timer r n d ≡ true → (d.rank ≡ r) × (d.number ≡ n)
-timer_parts r n d e = let both = Rattle.machine_model.proofs.ObeyLemmas.both_true (d.rank == r) (d.number == n) e in (eqb-true d.rank r both.0, eqb-true d.number n both.1)
+timer_parts r n d e = let both = both_true (d.rank == r) (d.number == n) e in (eqb-true d.rank r both.0, eqb-true d.number n both.1)
 
 timer_is : (r n : ℕ) (d : DueAction) → d.rank ≡ r → d.number ≡ n → is_timer r n d ≡ true
 timer_is r n d e f = rw (eq-eqb d.rank r e) (eq-eqb d.number n f)

@@ -6,9 +6,9 @@ use Rattle.machine_model.specs.Calls.Unpause as unpause
 use Rattle.machine_model.proofs.Fits.PartLemmas.{leads_from, leads_to}
 use Rattle.machine_model.proofs.Fits.LaunchLemmas.{on_here}
 use Rattle.machine_model.proofs.Fits.MeetLemmas.{Halted, leads_thaw}
+use Rattle.machine_model.proofs.Fits.CallLemmas.{PartsFit, mains_found, mains_at, fine_of, up_fine}
 use Rattle.engine_text.specs.declared.container.Container.{Container}
 use Rattle.engine_text.specs.declared.status.Status.{Status}
-use Rattle.machine_model.proofs.Fits.CallLemmas.{PartsFit, mains_found, mains_at, fine_of, up_fine}
 
 unpause_by : (s : State) (c : Container) (u : Status) → container_numbered c.number s ≡ Some c → c.life.status ≡ u → PartsFit s → PartsFit (unpause.by_status u c s).effect.state
 unpause_by s c Status.Paused found is h =

@@ -1,7 +1,6 @@
 -- Each step folds, and so does each history whose states are consistent.
-use Rattle.std.proofs.Common.{◌≡◌, ℕ, List, [], ◌∷◌, ◌++◌, Option, Some, None, map, refl, ap, ◌∙◌, subst}
+use Rattle.std.proofs.Common.{◌≡◌, List, [], ◌∷◌, ◌++◌, Option, Some, None, map, refl, ap, ◌∙◌, subst}
 use Rattle.machine_model.specs.State.{State}
-use Rattle.machine_model.specs.Call.{outcome_of}
 use Rattle.machine_model.specs.Due.{least_due}
 use Rattle.machine_model.specs.Step.{at_moment, step_of, or_still, step_effect}
 use Rattle.machine_model.specs.History.{Charter, opening_state, after_step, state_from, state_after, events_from, IsLawful, AreLawful, IsLegal}
@@ -9,17 +8,14 @@ use Rattle.machine_model.specs.Summary.{fold_on, inspect_summary}
 use Rattle.machine_model.specs.Consistency.{IsConsistent}
 use Rattle.machine_model.specs.Laws.{FoldLaw}
 use Rattle.machine_model.proofs.Histories.{state_append, legal_front}
-use Rattle.machine_model.proofs.ListLemmas.{}
+use Rattle.machine_model.proofs.ListLemmas.{distinct_front}
 use Rattle.machine_model.proofs.Fold.TellLemmas.{Fit, Folded, fold_append}
-use Rattle.machine_model.proofs.ObeyLemmas.{Obeys}
 use Rattle.machine_model.proofs.DueLemmas.{least_finds, due_folds}
-use Rattle.engine_text.specs.declared.call.Call.{Call}
+use Rattle.machine_model.proofs.CallLemmas.{obeys}
 use Rattle.engine_text.specs.declared.event.Event.{Event}
 use Rattle.engine_text.specs.declared.event.FoldRow.{FoldRow}
 use Rattle.engine_text.specs.declared.step.DueAction.{DueAction}
 use Rattle.engine_text.specs.declared.step.Step.{Step}
-use Rattle.machine_model.proofs.ListLemmas.{distinct_front}
-use Rattle.machine_model.proofs.CallLemmas.{obeys}
 
 -- ---- one step
 

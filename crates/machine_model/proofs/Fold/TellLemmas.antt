@@ -9,15 +9,15 @@ use Rattle.machine_model.specs.EventTexts.{mount_event}
 use Rattle.machine_model.specs.Consistency.{AreDistinct}
 use Rattle.machine_model.specs.Summary.{summary_row, fold_kind, fold_on, inspect_summary}
 use Rattle.machine_model.specs.Ranges.{AreCoded, IsLifeInRange, IsByte}
-use Rattle.engine_text.specs.declared.exec.Exec.{Exec}
 use Rattle.machine_model.proofs.Fold.RowLemmas.{RowsBut, Same, Is, weaker, whole, exact, nobody, found_number, pin, changed, told, made}
+use Rattle.machine_model.proofs.ChangeLemmas.{map_updated, all_updated}
+use Rattle.engine_text.specs.declared.exec.Exec.{Exec}
 use Rattle.engine_text.specs.declared.container.Container.{Container}
 use Rattle.engine_text.specs.declared.container.Life.{Life}
 use Rattle.engine_text.specs.declared.mounts.Mount.{Mount}
 use Rattle.engine_text.specs.declared.event.Action.{Action}
 use Rattle.engine_text.specs.declared.event.Event.{Event}
 use Rattle.engine_text.specs.declared.event.FoldRow.{FoldRow}
-use Rattle.machine_model.proofs.ChangeLemmas.{map_updated, all_updated}
 
 -- ---- what the fold needs of a state, and each effect keeps
 

@@ -1,10 +1,12 @@
 -- Numbers, tickets, process ids, starts and restarts rise by at most what an effect costs.
-use Rattle.std.proofs.Common.{◌≡◌, ℕ, ◌+◌, ◌≤◌, ◌==◌, Bool, true, false, List, [], ◌∷◌, ◌++◌, if◌then◌else◌, map, length, refl, ap, sym, ◌∙◌, subst, arith}
+use Rattle.std.proofs.Common.{◌≡◌, ℕ, ◌+◌, ◌≤◌, ◌==◌, Bool, true, false, List, [], ◌∷◌, if◌then◌else◌, map, length, refl, ap, sym, ◌∙◌, subst, arith, None}
 use Rattle.std.proofs.lemmas.List.{length-map, length-append}
 use Rattle.std.specs.List.{AllByRecursion}
 use Rattle.container_table.specs.Lists.{update_first, remove_first}
-use Rattle.machine_model.specs.State.{State}
-use Rattle.machine_model.specs.Chain.{Effect, Died}
+use Rattle.proc_kernel.specs.Processes.{Process}
+use Rattle.proc_kernel.specs.Tables.{process_of, effect_of}
+use Rattle.machine_model.specs.State.{State, change_life, change_process}
+use Rattle.machine_model.specs.Chain.{Effect, Died, after, renew, still}
 use Rattle.machine_model.specs.Effects.Launch.{launched}
 use Rattle.machine_model.specs.Effects.Destroy.{last_answer}
 use Rattle.machine_model.specs.Effects.Meet.{logged}
@@ -12,8 +14,7 @@ use Rattle.machine_model.specs.Due.{restarted}
 use Rattle.machine_model.specs.Calls.Rename.{named}
 use Rattle.machine_model.proofs.ListLemmas.{all_append, all_weaken}
 use Rattle.machine_model.proofs.Fold.RowLemmas.{made}
-use Rattle.machine_model.proofs.ChangeLemmas.{all_updated}
-use Rattle.machine_model.proofs.ChangeLemmas.{all_removed}
+use Rattle.machine_model.proofs.ChangeLemmas.{all_updated, all_removed}
 use Rattle.machine_model.proofs.Costs.CostLemmas.{Cost, none, tells, plus, IsPriced, write_part}
 use Rattle.machine_model.proofs.Costs.ExecEndLemmas.{Level, level_end, level_ends}
 use Rattle.engine_text.specs.declared.container.Container.{Container}
@@ -22,8 +23,7 @@ use Rattle.engine_text.specs.declared.owner.Owner.{Owner}
 use Rattle.engine_text.specs.declared.owner.Owner.TheVariants.{Container as OfContainer, Exec as OfExec}
 use Rattle.engine_text.specs.declared.script.Effect.{Effect as ProcessEffect}
 use Rattle.engine_text.specs.declared.script.Effect.TheVariants.{Lives, Wrote, Ended}
-use Rattle.proc_kernel.specs.Processes.{Process}
-use Rattle.proc_kernel.specs.Tables.{process_of, effect_of}
+use Rattle.engine_text.specs.declared.container.Life.{Life}
 
 abbrev pub Started : ℕ → List Container → Type 0
 Started b cs = AllByRecursion (λ c. c.life.starts ≤ b) cs
@@ -71,7 +71,7 @@ counted_same x s t events died h =
     counted_by x s t events died h.next_number h.next_ticket (let same : length t.tickets ≡ length s.tickets = ap length h.tickets in omega (arith, same)) h.next_pid h.steps h.events h.clock h.calls
     (λ b k. subst (Started b) (sym h.containers) k) (λ b k. subst (Retried b) (sym h.containers) k)
 
-counted_after : (x y : Cost) (s : State) (a b : Effect) → Counted x s a → Counted y a.state b → Counted (plus x y) s (Rattle.machine_model.specs.Chain.after a b)
+counted_after : (x y : Cost) (s : State) (a b : Effect) → Counted x s a → Counted y a.state b → Counted (plus x y) s (after a b)
 counted_after x y s a b first second = record {
   numbers = omega (arith, first.numbers, second.numbers);
   next_ticket = omega (arith, first.next_ticket, second.next_ticket);
@@ -86,22 +86,22 @@ counted_after x y s a b first second = record {
 }
 
 -- a change of containers
-quiet_containers : (x : Cost) (s : State) (n : ℕ) (f : Rattle.engine_text.specs.declared.container.Life.Life → Rattle.engine_text.specs.declared.container.Life.Life)
-    → ((l : Rattle.engine_text.specs.declared.container.Life.Life) → (f l).starts ≡ l.starts) → ((l : Rattle.engine_text.specs.declared.container.Life.Life) → (f l).restarts ≤ l.restarts)
-    → Counted x s (Rattle.machine_model.specs.Chain.renew n f s)
+quiet_containers : (x : Cost) (s : State) (n : ℕ) (f : Life → Life)
+    → ((l : Life) → (f l).starts ≡ l.starts) → ((l : Life) → (f l).restarts ≤ l.restarts)
+    → Counted x s (renew n f s)
 quiet_containers x s n f starts restarts =
-    counted_by x s (Rattle.machine_model.specs.State.change_life n f s) [] [] refl refl (omega arith) refl refl refl refl refl
+    counted_by x s (change_life n f s) [] [] refl refl (omega arith) refl refl refl refl refl
     (λ b h. all_updated (λ (c : Container). c.life.starts ≤ b) (λ c. c.number == n) (made (λ name. name) f) (λ c k. let same : (f c.life).starts ≡ c.life.starts = starts c.life in omega (arith, k, same)) s.containers h)
     (λ b h. all_updated (λ (c : Container). c.life.restarts ≤ b) (λ c. c.number == n) (made (λ name. name) f) (λ c k. let less : (f c.life).restarts ≤ c.life.restarts = restarts c.life in omega (arith, k, less)) s.containers h)
 
 -- what a step writes
 written : (s : State) (owner : Owner) (f : Process → Process) (e : ProcessEffect)
-    → Counted none s (Rattle.machine_model.specs.Chain.after (Rattle.machine_model.specs.Chain.still (Rattle.machine_model.specs.State.change_process owner f s)) (write_part e owner (Rattle.machine_model.specs.State.change_process owner f s)))
-written s owner f Lives = counted_by none s (Rattle.machine_model.specs.State.change_process owner f s) [] [] refl refl (omega arith) refl refl refl refl refl (λ b h. h) (λ b h. h)
-written s owner f (Ended code) = counted_by none s (Rattle.machine_model.specs.State.change_process owner f s) [] [] refl refl (omega arith) refl refl refl refl refl (λ b h. h) (λ b h. h)
+    → Counted none s (after (still (change_process owner f s)) (write_part e owner (change_process owner f s)))
+written s owner f Lives = counted_by none s (change_process owner f s) [] [] refl refl (omega arith) refl refl refl refl refl (λ b h. h) (λ b h. h)
+written s owner f (Ended code) = counted_by none s (change_process owner f s) [] [] refl refl (omega arith) refl refl refl refl refl (λ b h. h) (λ b h. h)
 written s (OfExec n) f (Wrote stream payload) = counted_by none s _ [] [] refl refl (omega arith) refl refl refl refl refl (λ b h. h) (λ b h. h)
 written s (OfContainer n) f (Wrote stream payload) =
-    let t : State = Rattle.machine_model.specs.State.change_process (OfContainer n) f s in
+    let t : State = change_process (OfContainer n) f s in
     let one = quiet_containers none t n (logged stream payload t.clock) (λ l. refl) (λ l. omega arith) in
     record {
       numbers = one.numbers;
@@ -207,7 +207,7 @@ counted_priced = record {
   on_begun = λ s connection c asked. record {
     numbers = omega arith;
     next_ticket = omega arith;
-    tickets = let longer = length-append s.tickets (record { number = s.next_ticket; connection = connection; container = c.number; asked = asked; reply = Rattle.std.proofs.Common.None } ∷ []) in omega (arith, longer);
+    tickets = let longer = length-append s.tickets (record { number = s.next_ticket; connection = connection; container = c.number; asked = asked; reply = None } ∷ []) in omega (arith, longer);
     pids = omega arith;
     starts = λ b h. started_more b (b + 0) s.containers (omega arith) h;
     restarts = λ b h. retried_more b (b + 0) s.containers (omega arith) h;

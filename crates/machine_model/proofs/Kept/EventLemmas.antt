@@ -6,21 +6,21 @@ use Rattle.engine_text.specs.Owner.{same_owner}
 use Rattle.proc_kernel.specs.Processes.{Process, feed, spawn as spawned}
 use Rattle.proc_kernel.specs.Tables.{Entry, process_of, effect_of}
 use Rattle.proc_kernel.specs.Tables as tables
+use Rattle.container_table.specs.Lists.{update_first}
 use Rattle.machine_model.specs.State.{State, container_numbered, exec_numbered, is_live, is_process, running_execs, execs_of, change_process, change_exec, drop_process}
-use Rattle.machine_model.specs.Chain.{Effect, Died, each, after, still, with_found, tell, tell_of}
+use Rattle.machine_model.specs.Chain.{Effect, each, after, still, with_found, tell, tell_of, and_then, change}
 use Rattle.machine_model.specs.EventTexts.{exec_die_event, mount_event}
 use Rattle.machine_model.specs.Consistency.{AreDistinct}
 use Rattle.machine_model.specs.Due.{restarted}
-use Rattle.machine_model.specs.Effects.Launch.{launched}
+use Rattle.machine_model.specs.Effects.Launch.{launched, container_room}
 use Rattle.machine_model.specs.Effects.EndMain.{end_exec, end_execs, exec_ended}
 use Rattle.machine_model.specs.Effects.Meet.{logged}
-use Rattle.machine_model.specs.Calls.ExecStart.{started}
-use Rattle.machine_model.proofs.ListLemmas.{all_append, all_weaken, all_both, all_of_mapped, distinct_more}
+use Rattle.machine_model.specs.Calls.ExecStart.{started, exec_room}
+use Rattle.machine_model.specs.Calls.ExecCreate.{new_exec}
+use Rattle.machine_model.proofs.ListLemmas.{all_append, all_weaken, all_both, all_of_mapped, distinct_more, all_mapped}
 use Rattle.machine_model.proofs.Fold.RowLemmas.{made}
-use Rattle.machine_model.proofs.ChangeLemmas.{map_updated, all_updated}
+use Rattle.machine_model.proofs.ChangeLemmas.{map_updated, all_updated, all_removed, distinct_filtered, all_filtered}
 use Rattle.machine_model.proofs.ObeyLemmas.{found_all}
-use Rattle.machine_model.proofs.ChangeLemmas.{all_removed}
-use Rattle.machine_model.proofs.ChangeLemmas.{distinct_filtered, all_filtered}
 use Rattle.machine_model.proofs.Tables.ProcessLemmas.{changed_owners}
 use Rattle.machine_model.proofs.Fits.ExecLoopLemmas.{told_state, touches_end, all_passing}
 use Rattle.machine_model.proofs.Fits.MainPartLemmas.{more_owners}
@@ -108,8 +108,8 @@ told_few_at None event s = omega arith
 told_few_at (Some c) event s = omega arith
 
 end_at : (code k : ℕ) (s : State) (p : Process) (o : Option Exec) → process_of (OfExec k) s.processes ≡ Some p
-    → (let e : Effect = with_found o (λ x. Rattle.machine_model.specs.Chain.and_then (tell_of (exec_die_event x.id code) x.container)
-    (Rattle.machine_model.specs.Chain.and_then (Rattle.machine_model.specs.Chain.change (drop_process (OfExec k))) (Rattle.machine_model.specs.Chain.change (change_exec k (exec_ended code))))) s in
+    → (let e : Effect = with_found o (λ x. and_then (tell_of (exec_die_event x.id code) x.container)
+    (and_then (change (drop_process (OfExec k))) (change (change_exec k (exec_ended code))))) s in
     length e.events + paid_for e.state.processes ≤ paid_for s.processes)
 end_at code k s p None e = omega arith
 end_at code k s p (Some x) e =
@@ -162,7 +162,7 @@ few_level s t h few = (
 )
 
 few_updated : (n : ℕ) (g : List ℕ → List ℕ) (f : Life → Life) (cs : List Container) → ((l : Life) → (f l).mounts ≡ l.mounts) → AllByRecursion (λ (c : Container). length c.life.mounts ≤ 16) cs
-    → AllByRecursion (λ (c : Container). length c.life.mounts ≤ 16) (Rattle.container_table.specs.Lists.update_first (λ c. c.number == n) (made g f) cs)
+    → AllByRecursion (λ (c : Container). length c.life.mounts ≤ 16) (update_first (λ c. c.number == n) (made g f) cs)
 few_updated n g f cs same h =
     all_updated (λ (c : Container). length c.life.mounts ≤ 16) (λ c. c.number == n) (made g f) (λ c k. let e : length (f c.life).mounts ≡ length c.life.mounts = ap length (same c.life) in omega (arith, k, e)) cs h
 
@@ -180,7 +180,7 @@ below_more : (ns : List ℕ) (next : ℕ) → AllByRecursion (λ k. k < next) ns
 below_more ns next h = all_weaken (λ k. k < next) (λ k. k < next + 1) (λ k low. omega (arith, low)) ns h
 
 all_mapped_filtered : (p : Exec → Bool) (P : ℕ → Type 0) (xs : List Exec) → AllByRecursion P (map (λ x. x.number) xs) → AllByRecursion P (map (λ x. x.number) (filter p xs))
-all_mapped_filtered p P xs h = Rattle.machine_model.proofs.ListLemmas.all_mapped P (λ (x : Exec). x.number) (filter p xs) (all_filtered (λ (x : Exec). P x.number) p xs (all_of_mapped P (λ (x : Exec). x.number) xs h))
+all_mapped_filtered p P xs h = all_mapped P (λ (x : Exec). x.number) (filter p xs) (all_filtered (λ (x : Exec). P x.number) p xs (all_of_mapped P (λ (x : Exec). x.number) xs h))
 
 pub paid_priced : IsPriced Paid
 paid_priced = record {
@@ -207,12 +207,12 @@ paid_priced = record {
   on_end_execs = λ s n few. (few_level s _ (level_ends n s) few, let pays = all_end_pay n s few.1 in omega (arith, pays));
   on_launch = λ s c program found short few. (
     (few_updated c.number (λ name. name) (launched s) s.containers (λ l. refl) few.0, few.1, few.2),
-    let same = paid_more s.processes (OfContainer c.number) (spawned program s.clock c.life.open_stdin (Rattle.machine_model.specs.Effects.Launch.container_room c)) in omega (arith, same),
+    let same = paid_more s.processes (OfContainer c.number) (spawned program s.clock c.life.open_stdin (container_room c)) in omega (arith, same),
   );
   on_start_exec = λ s id x program stdin found fresh short few. (
     let numbers : map (λ y. y.number) (change_exec x.number (started s) s).execs ≡ map (λ y. y.number) s.execs = map_updated (λ (y : Exec). y.number) (λ y. y.number == x.number) (started s) s.execs (λ y. refl) in
         (few.0, subst AreDistinct (sym numbers) few.1, subst (AllByRecursion (λ k. k < s.next_number)) (sym numbers) few.2),
-    let same = paid_more s.processes (OfExec x.number) (spawned program s.clock stdin Rattle.machine_model.specs.Calls.ExecStart.exec_room) in omega (arith, same),
+    let same = paid_more s.processes (OfExec x.number) (spawned program s.clock stdin exec_room) in omega (arith, same),
   );
   on_timers = λ s timers keeps few. (few, omega arith);
   on_destroyed = λ s c few. (
@@ -233,7 +233,7 @@ paid_priced = record {
     omega arith,
   );
   on_made_exec = λ s c words stdin out err few. (
-    let x : Exec = Rattle.machine_model.specs.Calls.ExecCreate.new_exec c words stdin out err s in
+    let x : Exec = new_exec c words stdin out err s in
         let more : map (λ y. y.number) (s.execs ++ x ∷ []) ≡ map (λ y. y.number) s.execs ++ s.next_number ∷ [] = map-append (λ (y : Exec). y.number) s.execs (x ∷ []) in (
           few.0,
           subst AreDistinct (sym more) (distinct_more (map (λ y. y.number) s.execs) s.next_number few.1 (all_weaken (λ k. k < s.next_number) (λ k. k ≢ s.next_number) (λ k low e. omega (arith, low, e)) (map (λ y. y.number) s.execs) few.2)),

@@ -20,8 +20,7 @@ use Rattle.machine_model.proofs.ClosureLemmas.{IsClosed}
 use Rattle.machine_model.proofs.Fold.RowLemmas.{made}
 use Rattle.machine_model.proofs.Fits.ExecLoopLemmas.{own_exec, all_passing}
 use Rattle.machine_model.proofs.Kept.TicketLemmas.{there_changed}
-use Rattle.machine_model.proofs.Tables.NumberLemmas.{other_stands}
-use Rattle.machine_model.proofs.Tables.NumberLemmas.{is_not, keep_if, find_filtered}
+use Rattle.machine_model.proofs.Tables.NumberLemmas.{other_stands, is_not, keep_if, find_filtered}
 use Rattle.engine_text.specs.declared.container.Container.{Container}
 use Rattle.engine_text.specs.declared.container.Life.{Life}
 use Rattle.engine_text.specs.declared.exec.Exec.{Exec}

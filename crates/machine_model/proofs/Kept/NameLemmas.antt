@@ -12,20 +12,16 @@ use Rattle.machine_model.specs.Calls.Create.{new_container, new_volume}
 use Rattle.machine_model.specs.Calls.ExecCreate.{new_exec}
 use Rattle.machine_model.specs.Calls.Rename.{named}
 use Rattle.machine_model.specs.Effects.Meet.{logged}
-use Rattle.machine_model.proofs.ListLemmas.{all_append, all_front, all_back, all_weaken, all_mapped, all_of_mapped, all_both, all_between, distinct_between, distinct_more, refused_where_none}
+use Rattle.machine_model.proofs.ListLemmas.{all_append, all_front, all_back, all_weaken, all_mapped, all_of_mapped, all_both, all_between, distinct_between, distinct_more, refused_where_none, append_assoc, distinct_front, distinct_back}
 use Rattle.machine_model.proofs.VolumeLemmas.{distinct_placed, differs}
 use Rattle.machine_model.proofs.IdLemmas.{id_of_below}
 use Rattle.machine_model.proofs.Fold.RowLemmas.{made}
-use Rattle.machine_model.proofs.ChangeLemmas.{map_updated, all_updated}
+use Rattle.machine_model.proofs.ChangeLemmas.{map_updated, all_updated, all_removed, distinct_removed, all_map_removed, all_map_filtered, distinct_filtered, all_filtered}
 use Rattle.machine_model.proofs.ClosureLemmas.{IsClosed, IsExecMark}
-use Rattle.machine_model.proofs.ChangeLemmas.{all_removed, distinct_removed}
 use Rattle.engine_text.specs.declared.container.Container.{Container}
 use Rattle.engine_text.specs.declared.container.Life.{Life}
 use Rattle.engine_text.specs.declared.exec.Exec.{Exec}
 use Rattle.engine_text.specs.declared.volume.Volume.{Volume}
-use Rattle.machine_model.proofs.ChangeLemmas.{all_map_removed, all_map_filtered, distinct_filtered, all_filtered}
-use Rattle.machine_model.proofs.ListLemmas.{append_assoc}
-use Rattle.machine_model.proofs.ListLemmas.{distinct_front, distinct_back}
 
 -- ---- the relation
 

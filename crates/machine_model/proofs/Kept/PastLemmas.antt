@@ -9,7 +9,7 @@ use Rattle.machine_model.specs.Due.{least_due, due_effect}
 use Rattle.machine_model.specs.Effects.Destroy.{logs_of}
 use Rattle.machine_model.specs.Step.{at_moment, step_of, or_still, step_effect}
 use Rattle.machine_model.specs.History.{Charter, opening_state, after_step, state_from, state_after, events_from, events_of}
-use Rattle.machine_model.proofs.ListLemmas.{append_nil}
+use Rattle.machine_model.proofs.ListLemmas.{append_nil, append_assoc}
 use Rattle.machine_model.proofs.ClosureLemmas.{IsClosed}
 use Rattle.machine_model.proofs.DueLemmas.{runs_due}
 use Rattle.machine_model.proofs.CallLemmas.{obeys}
@@ -18,7 +18,6 @@ use Rattle.engine_text.specs.declared.event.Event.{Event}
 use Rattle.engine_text.specs.declared.log.KeptLogs.{KeptLogs}
 use Rattle.engine_text.specs.declared.step.DueAction.{DueAction}
 use Rattle.engine_text.specs.declared.step.Step.{Step}
-use Rattle.machine_model.proofs.ListLemmas.{append_assoc}
 
 -- ---- the last of a list
 

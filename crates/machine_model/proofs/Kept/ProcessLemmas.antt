@@ -1,9 +1,10 @@
 -- What the states behind every step say of processes, dues, logs and counts.
 use Rattle.std.proofs.Common.{◌≡◌, ◌≢◌, ℕ, ◌+◌, ◌≤◌, ◌==◌, Bool, true, false, not, List, [], ◌∷◌, Option, Some, None, if◌then◌else◌, find, filter, map, length, refl, ap, sym, ◌∙◌, subst, arith}
 use Rattle.std.specs.List.{AllByRecursion}
-use Rattle.proc_kernel.specs.Processes.{Process, next_due}
+use Rattle.proc_kernel.specs.Processes.{Process, next_due, due_of}
 use Rattle.proc_kernel.specs.Tables.{Entry, process_of}
 use Rattle.proc_kernel.specs.Tables as tables
+use Rattle.proc_kernel.specs.Times.{IsNear, IsPaced}
 use Rattle.machine_model.specs.State.{State, container_numbered, exec_numbered, is_process}
 use Rattle.machine_model.specs.Consistency.{AreDistinct, is_there, IsFrozenLike, FollowsMain, HasOwner, HasExecPid, HasProcesses, IsWithinLimits, live_execs}
 use Rattle.machine_model.specs.History.{greatest_moment}
@@ -11,10 +12,6 @@ use Rattle.machine_model.specs.Effects.Launch.{log_size}
 use Rattle.machine_model.proofs.ListLemmas.{all_append, all_weaken, all_of_mapped}
 use Rattle.machine_model.proofs.DueLemmas.{own_process, all_actions}
 use Rattle.machine_model.proofs.Tables.ProcessLemmas.{gone_others}
-use Rattle.proc_kernel.specs.Processes.{due_of}
-use Rattle.proc_kernel.specs.Times.{IsNear, IsPaced}
-use Rattle.engine_text.specs.declared.script.Pace.{Pace}
-use Rattle.engine_text.specs.declared.script.Pace.TheVariants.{Running, Frozen}
 use Rattle.machine_model.proofs.Fold.RowLemmas.{same_some}
 use Rattle.machine_model.proofs.Tables.NumberLemmas.{is_not}
 use Rattle.machine_model.proofs.Fits.ExecLoopLemmas.{own_exec}
@@ -25,6 +22,9 @@ use Rattle.machine_model.proofs.Fits.CallLemmas.{PartsFit}
 use Rattle.machine_model.proofs.Fits.StepLemmas.{mains_have, own_container}
 use Rattle.machine_model.proofs.Kept.EventLemmas.{paid_for, without_exec}
 use Rattle.machine_model.proofs.Kept.TimeLemmas.{FitsAt, Times}
+use Rattle.machine_model.proofs.Processes.LimitLemmas.{size}
+use Rattle.engine_text.specs.declared.script.Pace.{Pace}
+use Rattle.engine_text.specs.declared.script.Pace.TheVariants.{Running, Frozen}
 use Rattle.engine_text.specs.declared.container.Container.{Container}
 use Rattle.engine_text.specs.declared.container.Life.{Life}
 use Rattle.engine_text.specs.declared.exec.Exec.{Exec}
@@ -105,7 +105,7 @@ within_limits s mains times clock = record {
   logs = all_weaken (λ (c : Container). find (λ d. d.number == c.number) s.containers ≡ Some c) (λ c. log_size c.life.log ≤ 4194304)
       (λ c own. log_least (life_of (container_numbered c.number s)) c.life (process_of (OfContainer c.number) s.processes) (ap life_of own) (mains.0.7.mains c.number)) s.containers (own_container s.containers mains.0.0);
   outputs = all_weaken (OutputFits s.processes) (λ (o : OwnedLog). log_size o.log ≤ 1048576) (λ o fits. omega (arith, fits)) s.outputs mains.0.7.outputs;
-  input = all_weaken (FitsAt s.clock) (λ e. Rattle.machine_model.proofs.Processes.LimitLemmas.size e.process ≤ 1048576) (λ e fits. fits.1) s.processes times.0;
+  input = all_weaken (FitsAt s.clock) (λ e. size e.process ≤ 1048576) (λ e fits. fits.1) s.processes times.0;
 }
 
 -- ---- running execs and their processes

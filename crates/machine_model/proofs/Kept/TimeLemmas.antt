@@ -6,8 +6,12 @@ use Rattle.engine_text.specs.Scripts.{Program}
 use Rattle.proc_kernel.specs.Processes.{Process, ProcessStep, feed, spawn as spawned}
 use Rattle.proc_kernel.specs.Tables.{Entry, process_of, effect_of, room_at}
 use Rattle.proc_kernel.specs.Tables as tables
+use Rattle.proc_kernel.specs.Times.{AreShort, IsTimely}
+use Rattle.proc_kernel.proofs.TimeLemmas.{spawn_timely, feed_timely}
 use Rattle.machine_model.specs.State.{State, change_process}
 use Rattle.machine_model.specs.Chain.{Effect, after, still}
+use Rattle.machine_model.specs.Effects.Launch.{container_room}
+use Rattle.machine_model.specs.Calls.ExecStart.{exec_room}
 use Rattle.machine_model.proofs.ListLemmas.{all_append}
 use Rattle.machine_model.proofs.Tables.ProcessLemmas.{All_changed, All_without}
 use Rattle.machine_model.proofs.Processes.LimitLemmas.{size, IsStep, feed_size}
@@ -18,8 +22,6 @@ use Rattle.engine_text.specs.declared.owner.Owner.TheVariants.{Container as OfCo
 use Rattle.engine_text.specs.declared.script.Effect.{Effect as ProcessEffect}
 use Rattle.engine_text.specs.declared.script.Effect.TheVariants.{Lives, Wrote, Ended}
 use Rattle.engine_text.specs.declared.step.DueAction.{DueAction}
-use Rattle.proc_kernel.specs.Times.{AreShort, IsTimely}
-use Rattle.proc_kernel.proofs.TimeLemmas.{spawn_timely, feed_timely}
 
 -- a process at a moment
 abbrev pub FitsAt : ℕ → Entry → Type 0
@@ -93,11 +95,11 @@ times_priced = record {
   on_end_exec = λ s code n p e h. times_level s _ (level_end code n s) (left_by_end (FitsAt s.clock) code n s h.0) h;
   on_end_execs = λ s n h. times_level s _ (level_ends n s) (left_by_ends (FitsAt s.clock) n s h.0) h;
   on_launch = λ s c program found short h. (
-    all_append (FitsAt s.clock) s.processes _ h.0 (spawned_fits program s.clock c.life.open_stdin (Rattle.machine_model.specs.Effects.Launch.container_room c) (OfContainer c.number) short, tt),
+    all_append (FitsAt s.clock) s.processes _ h.0 (spawned_fits program s.clock c.life.open_stdin (container_room c) (OfContainer c.number) short, tt),
     h.1,
   );
   on_start_exec = λ s id x program stdin found fresh short h.
-      (all_append (FitsAt s.clock) s.processes _ h.0 (spawned_fits program s.clock stdin Rattle.machine_model.specs.Calls.ExecStart.exec_room (OfExec x.number) short, tt), h.1);
+      (all_append (FitsAt s.clock) s.processes _ h.0 (spawned_fits program s.clock stdin exec_room (OfExec x.number) short, tt), h.1);
   on_timers = λ s timers keeps h. (h.0, keeps h.1);
   on_destroyed = λ s c h. h;
   on_begun = λ s connection c asked h. h;

@@ -1,5 +1,5 @@
 -- Each mount names a volume that stands and keeps the reference, through every effect.
-use Rattle.std.proofs.Common.{◌≡◌, ◌≢◌, ℕ, ◌+◌, ◌<◌, ◌==◌, Bool, true, false, not, List, [], ◌∷◌, ◌++◌, IsTrue, Option, Some, find, filter, map, if◌then◌else◌, refl, ap, sym, ◌∙◌, subst, arith}
+use Rattle.std.proofs.Common.{◌≡◌, ◌≢◌, ℕ, ◌+◌, ◌<◌, ◌==◌, Bool, true, false, not, List, [], ◌∷◌, ◌++◌, IsTrue, Option, Some, find, filter, map, if◌then◌else◌, refl, ap, sym, ◌∙◌, subst, arith, ◌||◌}
 use Rattle.std.proofs.lemmas.Bool.{eqb-true}
 use Rattle.std.proofs.lemmas.Grind.{flat_map-append}
 use Rattle.std.specs.List.{AllByRecursion, flat_map, list_any}
@@ -11,14 +11,11 @@ use Rattle.machine_model.specs.Chain.{Effect}
 use Rattle.machine_model.specs.Consistency.{AreDistinct, is_there, use_of, uses_of}
 use Rattle.machine_model.specs.Calls.Create.{new_container, new_volume, placed}
 use Rattle.machine_model.specs.Effects.Meet.{logged}
-use Rattle.machine_model.proofs.ListLemmas.{append_nil, all_front, all_back, all_of_mapped, all_both, all_append, all_weaken, distinct_more}
+use Rattle.machine_model.proofs.ListLemmas.{append_nil, all_front, all_back, all_of_mapped, all_both, all_append, all_weaken, distinct_more, below_more, more_numbers}
 use Rattle.machine_model.proofs.VolumeLemmas.{finds_beside}
-use Rattle.std.proofs.Common.{◌||◌}
 use Rattle.machine_model.proofs.Fold.RowLemmas.{made}
-use Rattle.machine_model.proofs.ChangeLemmas.{map_updated, all_updated}
-use Rattle.machine_model.proofs.ListLemmas.{below_more, more_numbers}
+use Rattle.machine_model.proofs.ChangeLemmas.{map_updated, all_updated, all_removed, distinct_removed}
 use Rattle.machine_model.proofs.ClosureLemmas.{IsClosed}
-use Rattle.machine_model.proofs.ChangeLemmas.{all_removed, distinct_removed}
 use Rattle.engine_text.specs.declared.container.Container.{Container}
 use Rattle.engine_text.specs.declared.container.Life.{Life}
 use Rattle.engine_text.specs.declared.mounts.Mount.{Mount}

@@ -8,7 +8,7 @@ use Rattle.machine_model.specs.State.{State, owner_number, container_numbered}
 use Rattle.machine_model.specs.Chain.{Effect}
 use Rattle.machine_model.specs.Consistency.{AreDistinct}
 use Rattle.machine_model.specs.LogStream.{log_in, log_among, kept_log, container_log, standing_log, or_else, log_found, is_log}
-use Rattle.machine_model.proofs.ListLemmas.{append_nil}
+use Rattle.machine_model.proofs.ListLemmas.{append_nil, append_assoc}
 use Rattle.machine_model.proofs.Fold.RowLemmas.{made}
 use Rattle.machine_model.proofs.ChangeLemmas.{map_updated, all_updated}
 use Rattle.engine_text.specs.declared.container.Container.{Container}
@@ -19,7 +19,6 @@ use Rattle.engine_text.specs.declared.log.LogRecord.{LogRecord}
 use Rattle.engine_text.specs.declared.log.OwnedLog.{OwnedLog}
 use Rattle.engine_text.specs.declared.owner.Owner.{Owner}
 use Rattle.engine_text.specs.declared.owner.Owner.TheVariants.{Container as OfContainer, Exec as OfExec}
-use Rattle.machine_model.proofs.ListLemmas.{append_assoc}
 
 -- ---- one owner's log
 

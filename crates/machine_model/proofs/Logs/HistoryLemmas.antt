@@ -1,21 +1,29 @@
 -- Logs only grow along every history, while they are kept.
 use Rattle.std.proofs.Common.{◌≡◌, ℕ, ◌+◌, ◌≤◌, ◌<◌, ◌==◌, true, List, [], ◌∷◌, ◌++◌, Option, Some, None, find, map, refl, ap, sym, ◌∙◌, subst, arith}
 use Rattle.std.specs.List.{AllByRecursion}
-use Rattle.machine_model.specs.State.{State, owner_number, container_numbered, execs_of}
+use Rattle.machine_model.specs.State.{State, owner_number, change_process, drop_process, change_exec, initial_state}
 use Rattle.machine_model.specs.Chain.{Effect}
 use Rattle.machine_model.specs.Call.{outcome_of}
-use Rattle.machine_model.specs.Due.{least_due, due_effect}
+use Rattle.machine_model.specs.Due.{least_due, due_effect, time_out}
 use Rattle.machine_model.specs.Step.{at_moment, finished, step_of, or_still}
 use Rattle.machine_model.specs.History.{Charter, opening_state, after_step, state_from, state_after}
 use Rattle.machine_model.specs.Consistency.{AreDistinct}
 use Rattle.machine_model.specs.Effects.Meet.{logged, record_of}
 use Rattle.machine_model.specs.LogStream.{log_among, kept_log, container_log, standing_log, or_else, log_found, is_log, records_in}
 use Rattle.machine_model.specs.Laws.{LogGrowsLaw}
-use Rattle.machine_model.proofs.ListLemmas.{append_nil, all_append, all_weaken, distinct_more}
+use Rattle.machine_model.specs.Effects.Launch.{spawn}
+use Rattle.machine_model.specs.Tickets.{begun}
+use Rattle.machine_model.specs.Calls.Take.{end_ticket}
+use Rattle.machine_model.specs.Calls.Create.{placed, new_volume, new_container, with_new}
+use Rattle.machine_model.specs.Calls.Volumes.{without_volume}
+use Rattle.machine_model.specs.Calls.ExecCreate.{with_exec, new_exec}
+use Rattle.machine_model.proofs.ListLemmas.{append_nil, all_append, all_weaken, distinct_more, below_more, more_numbers}
 use Rattle.machine_model.proofs.Histories.{run_append}
 use Rattle.machine_model.proofs.ClosureLemmas.{IsClosed}
 use Rattle.machine_model.proofs.DueLemmas.{runs_due}
 use Rattle.machine_model.proofs.CallLemmas.{obeys}
+use Rattle.machine_model.proofs.Logs.GrowthLemmas.{Begins, Grows, Later, Logs, Owns, among, exec_standing, grows_after, grows_changed, grows_put, later_begun, later_refl, made_standing, owns_begun}
+use Rattle.machine_model.proofs.Logs.RemovalLemmas.{grows_destroyed}
 use Rattle.engine_text.specs.declared.container.Container.{Container}
 use Rattle.engine_text.specs.declared.log.KeptLogs.{KeptLogs}
 use Rattle.engine_text.specs.declared.log.LogRecord.{LogRecord}
@@ -23,9 +31,6 @@ use Rattle.engine_text.specs.declared.owner.Owner.{Owner}
 use Rattle.engine_text.specs.declared.owner.Owner.TheVariants.{Container as OfContainer, Exec as OfExec}
 use Rattle.engine_text.specs.declared.step.DueAction.{DueAction}
 use Rattle.engine_text.specs.declared.step.Step.{Step}
-use Rattle.machine_model.proofs.ListLemmas.{below_more, more_numbers}
-use Rattle.machine_model.proofs.Logs.GrowthLemmas.{Begins, Grows, Later, Logs, Owns, among, exec_standing, grows_after, grows_changed, grows_put, later_begun, later_refl, made_standing, owns_begun}
-use Rattle.machine_model.proofs.Logs.RemovalLemmas.{grows_destroyed}
 
 -- ---- every effect
 
@@ -61,20 +66,20 @@ logs_closed o = record {
   on_renew = λ s n f mark h. grows_changed o s n f (λ name. name) (λ l. ([], mark.log l ∙ sym (append_nil l.log))) h;
   on_log = λ s n stream payload h. grows_changed o s n (logged stream payload s.clock) (λ name. name) (λ l. (record_of l.starts stream payload s.clock ∷ [], refl)) h;
   on_output = λ s n stream payload h. grows_put o (OfExec n) s (record_of 1 stream payload s.clock) h;
-  on_process = λ s owner f h. quiet o s (Rattle.machine_model.specs.State.change_process owner f s) refl refl refl refl h;
-  on_drop = λ s owner h. quiet o s (Rattle.machine_model.specs.State.drop_process owner s) refl refl refl refl h;
-  on_spawn = λ s owner program stdin room h. quiet o s (Rattle.machine_model.specs.Effects.Launch.spawn owner program stdin room s) refl refl refl refl h;
+  on_process = λ s owner f h. quiet o s (change_process owner f s) refl refl refl refl h;
+  on_drop = λ s owner h. quiet o s (drop_process owner s) refl refl refl refl h;
+  on_spawn = λ s owner program stdin room h. quiet o s (spawn owner program stdin room s) refl refl refl refl h;
   on_timers = λ s timers h. quiet o s (record s { timers = timers }) refl refl refl refl h;
-  on_exec = λ s n f mark h. quiet o s (Rattle.machine_model.specs.State.change_exec n f s) refl refl refl refl h;
+  on_exec = λ s n f mark h. quiet o s (change_exec n f s) refl refl refl refl h;
   on_destroyed = λ s c found h. grows_destroyed o s c found h;
-  on_begun = λ s connection c asked found h. quiet o s (Rattle.machine_model.specs.Tickets.begun connection c.number asked s) refl refl refl refl h;
-  on_time_out = λ s c h. quiet o s (Rattle.machine_model.specs.Due.time_out c s) refl refl refl refl h;
-  on_end_ticket = λ s n h. quiet o s (Rattle.machine_model.specs.Calls.Take.end_ticket n s) refl refl refl refl h;
-  on_made_volume = λ s name labels none h. quiet o s (record s { volumes = Rattle.machine_model.specs.Calls.Create.placed (Rattle.machine_model.specs.Calls.Create.new_volume name labels s.clock) s.volumes }) refl refl refl refl h;
-  on_gone_volume = λ s name unused h. quiet o s (Rattle.machine_model.specs.Calls.Volumes.without_volume name s) refl refl refl refl h;
+  on_begun = λ s connection c asked found h. quiet o s (begun connection c.number asked s) refl refl refl refl h;
+  on_time_out = λ s c h. quiet o s (time_out c s) refl refl refl refl h;
+  on_end_ticket = λ s n h. quiet o s (end_ticket n s) refl refl refl refl h;
+  on_made_volume = λ s name labels none h. quiet o s (record s { volumes = placed (new_volume name labels s.clock) s.volumes }) refl refl refl refl h;
+  on_gone_volume = λ s name unused h. quiet o s (without_volume name s) refl refl refl refl h;
   on_made = λ s name spec free stand h.
-      let c : Container = Rattle.machine_model.specs.Calls.Create.new_container name spec s in
-      let t : State = Rattle.machine_model.specs.Calls.Create.with_new c s in
+      let c : Container = new_container name spec s in
+      let t : State = with_new c s in
       let begins : Begins o s.next_number (standing_log o s) (standing_log o t) = made_standing o s c t.uses refl in (
         (
           owns_begun o (standing_log o s) (standing_log o t) s.kept s.next_number begins h.0,
@@ -85,7 +90,7 @@ logs_closed o = record {
         later_begun o (standing_log o s) (standing_log o t) (kept_log o s) s.kept s.next_number begins h.0 refl,
       );
   on_made_exec = λ s c words stdin out err found h.
-      let t : State = Rattle.machine_model.specs.Calls.ExecCreate.with_exec (Rattle.machine_model.specs.Calls.ExecCreate.new_exec c words stdin out err s) s in
+      let t : State = with_exec (new_exec c words stdin out err s) s in
       let begins : Begins o s.next_number (standing_log o s) (standing_log o t) = exec_standing o s t.execs in (
         (
           owns_begun o (standing_log o s) (standing_log o t) s.kept s.next_number begins h.0,
@@ -122,7 +127,7 @@ logs_grow o s (x ∷ xs) k =
     grows_after o s (record { state = after_step s x; events = []; died = [] }) (record { state = state_from (after_step s x) xs; events = []; died = [] })
     (step_grows o s x) (logs_grow o (after_step s x) xs) k
 
-none_standing : (o : Owner) (seed : List ℕ) (t : ℕ) → standing_log o (Rattle.machine_model.specs.State.initial_state seed t) ≡ None
+none_standing : (o : Owner) (seed : List ℕ) (t : ℕ) → standing_log o (initial_state seed t) ≡ None
 none_standing (OfContainer n) seed t = refl
 none_standing (OfExec n) seed t = refl
 

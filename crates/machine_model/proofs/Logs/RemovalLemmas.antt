@@ -8,8 +8,11 @@ use Rattle.machine_model.specs.State.{State, owner_number, container_numbered, e
 use Rattle.machine_model.specs.Consistency.{AreDistinct}
 use Rattle.machine_model.specs.Effects.Destroy.{is_exec_of, logs_of, without}
 use Rattle.machine_model.specs.LogStream.{log_in, log_among, container_log, standing_log, or_else, log_found, is_log}
-use Rattle.machine_model.proofs.ListLemmas.{append_nil, all_append}
+use Rattle.machine_model.proofs.ListLemmas.{append_nil, all_append, append_assoc}
 use Rattle.machine_model.proofs.ChangeLemmas.{all_removed, distinct_removed}
+use Rattle.machine_model.proofs.OwnerLemmas.{owner_is}
+use Rattle.machine_model.proofs.Tables.NumberLemmas.{other_stands, itself_gone}
+use Rattle.machine_model.proofs.Logs.GrowthLemmas.{Grows, KeptOnce, Lacks, Later, Owns, among, among_append, later_refl, no_logs}
 use Rattle.engine_text.specs.declared.container.Container.{Container}
 use Rattle.engine_text.specs.declared.exec.Exec.{Exec}
 use Rattle.engine_text.specs.declared.log.KeptLogs.{KeptLogs}
@@ -17,10 +20,6 @@ use Rattle.engine_text.specs.declared.log.LogRecord.{LogRecord}
 use Rattle.engine_text.specs.declared.log.OwnedLog.{OwnedLog}
 use Rattle.engine_text.specs.declared.owner.Owner.{Owner}
 use Rattle.engine_text.specs.declared.owner.Owner.TheVariants.{Container as OfContainer, Exec as OfExec}
-use Rattle.machine_model.proofs.ListLemmas.{append_assoc}
-use Rattle.machine_model.proofs.OwnerLemmas.{owner_is}
-use Rattle.machine_model.proofs.Tables.NumberLemmas.{other_stands, itself_gone}
-use Rattle.machine_model.proofs.Logs.GrowthLemmas.{Grows, KeptOnce, Lacks, Later, Owns, among, among_append, later_refl, no_logs}
 
 -- ---- a removal
 

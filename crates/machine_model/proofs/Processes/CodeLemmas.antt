@@ -3,17 +3,17 @@ use Rattle.std.proofs.Common.{◌≡◌, ℕ, ◌+◌, ◌<◌, ◌==◌, nat_le
 use Rattle.std.proofs.lemmas.Bool.Decides.{nat_tests}
 use Rattle.std.specs.List.{AllByRecursion}
 use Rattle.engine_text.specs.Scripts.{Program, bye_ops}
+use Rattle.proc_kernel.specs.Processes.{Process, ProcessStep, Met, advanced, copy, write, run_op, run_due, ends, meet, meet_each, meet_waiting, meeting_order, after_meeting, thaw, thawed_pace, signal, freeze, feed, feed_end, lives, is_frozen, is_copy_next, unless_ended, then_op, set_waiting, waits, is_harmless, is_ignored, is_trapped, goes_on, spawn}
+use Rattle.proc_kernel.specs.Tables.{Entry, change, without, begun, process_of, effect_of}
+use Rattle.engine_text.specs.Owner.{same_owner}
+use Rattle.machine_model.specs.Ranges.{HaveCodes, IsCoded, AreCoded}
 use Rattle.engine_text.specs.declared.script.Op.{Op}
 use Rattle.engine_text.specs.declared.script.Op.TheVariants.{Write, Copy, Sleep, Busy, Again, Exit, WaitForever}
 use Rattle.engine_text.specs.declared.script.Stream.{Stream}
 use Rattle.engine_text.specs.declared.script.Stream.TheVariants.{Stdout}
 use Rattle.engine_text.specs.declared.script.Effect.{Effect}
 use Rattle.engine_text.specs.declared.script.Effect.TheVariants.{Lives, Wrote, Ended}
-use Rattle.proc_kernel.specs.Processes.{Process, ProcessStep, Met, advanced, copy, write, run_op, run_due, ends, meet, meet_each, meet_waiting, meeting_order, after_meeting, thaw, thawed_pace, signal, freeze, feed, feed_end, lives, is_frozen, is_copy_next, unless_ended, then_op, set_waiting, waits, is_harmless, is_ignored, is_trapped, goes_on, spawn}
-use Rattle.proc_kernel.specs.Tables.{Entry, change, without, begun, process_of, effect_of}
-use Rattle.engine_text.specs.Owner.{same_owner}
 use Rattle.engine_text.specs.declared.owner.Owner.{Owner}
-use Rattle.machine_model.specs.Ranges.{HaveCodes, IsCoded, AreCoded}
 
 -- an end with a code of one byte
 abbrev pub EndsCoded : Effect → Type 0

@@ -2,7 +2,11 @@
 use Rattle.std.proofs.Common.{◌≡◌, ℕ, ◌+◌, ◌-◌, ◌≤◌, ◌==◌, Bool, true, false, List, [], ◌∷◌, ◌++◌, length, Option, Some, None, if◌then◌else◌, refl, ap, sym, ◌∙◌, subst, arith}
 use Rattle.std.proofs.lemmas.Bool.{leb-true}
 use Rattle.std.specs.Prelude.{sum_by, nat_le}
+use Rattle.std.proofs.lemmas.List.Sums.{sum_by-cons, sum_by_push}
 use Rattle.proc_kernel.specs.Processes.{Process, ProcessStep, Met, lives, ends, advanced, write, copy, run_op, run_next, is_harmless, is_ignored, is_trapped, goes_on, meet, waits, set_waiting, unless_ended, meet_each, meeting_order, meet_waiting, after_meeting, then_op, run_due, thawed_pace, ready_pace, freeze, thaw, signal, is_copy_next, feed, feed_end, is_frozen}
+use Rattle.engine_text.specs.Scripts.{bye_ops}
+use Rattle.proc_kernel.specs.Times.{IsTimely}
+use Rattle.proc_kernel.proofs.TimeLemmas.{due_timely, thaw_timely, signal_timely, freeze_timely, feed_end_timely}
 use Rattle.engine_text.specs.declared.script.Effect.{Effect}
 use Rattle.engine_text.specs.declared.script.Effect.TheVariants.{Lives, Wrote, Ended}
 use Rattle.engine_text.specs.declared.script.Op.{Op}
@@ -10,10 +14,6 @@ use Rattle.engine_text.specs.declared.script.Op.TheVariants.{Write, Copy, Sleep,
 use Rattle.engine_text.specs.declared.script.Pace.TheVariants.{Running}
 use Rattle.engine_text.specs.declared.script.Stream.{Stream}
 use Rattle.engine_text.specs.declared.script.Stream.TheVariants.{Stdout}
-use Rattle.engine_text.specs.Scripts.{bye_ops}
-use Rattle.std.proofs.lemmas.List.Sums.{sum_by-cons, sum_by_push}
-use Rattle.proc_kernel.specs.Times.{IsTimely}
-use Rattle.proc_kernel.proofs.TimeLemmas.{due_timely, thaw_timely, signal_timely, freeze_timely, feed_end_timely}
 
 abbrev pub size : Process → ℕ
 size p = sum_by length p.input

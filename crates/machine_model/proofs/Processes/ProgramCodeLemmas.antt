@@ -3,13 +3,13 @@ use Rattle.std.proofs.Common.{◌≡◌, ℕ, ◌<◌, ◌==◌, ◌&&◌, ◌/�
 use Rattle.std.proofs.lemmas.Bool.Decides.{nat_tests}
 use Rattle.std.specs.List.{repeat}
 use Rattle.engine_text.specs.Scripts.{Program}
+use Rattle.proc_kernel.specs.Catalogue.{number_of, within, number_in, only_number, of_number, of_numbers, ticking, alone, plain, print, letters, tick_ops, flaky_program, rest_block, noise_program, sleep_program, exit_program, stuck_program, name_of, by_name, named, program_of}
+use Rattle.machine_model.specs.Ranges.{HaveCodes}
 use Rattle.engine_text.specs.declared.script.Op.{Op}
 use Rattle.engine_text.specs.declared.script.Op.TheVariants.{Write, Again, Exit}
 use Rattle.engine_text.specs.declared.script.Stream.TheVariants.{Stderr}
 use Rattle.proc_kernel.specs.declared.catalogue.Name.{Name}
 use Rattle.proc_kernel.specs.declared.catalogue.Name.TheVariants as names
-use Rattle.proc_kernel.specs.Catalogue.{number_of, within, number_in, only_number, of_number, of_numbers, ticking, alone, plain, print, letters, tick_ops, flaky_program, rest_block, noise_program, sleep_program, exit_program, stuck_program, name_of, by_name, named, program_of}
-use Rattle.machine_model.specs.Ranges.{HaveCodes}
 
 -- the ops of the program, if there is one
 abbrev pub OfProgram : Option Program → Type 0

@@ -1,15 +1,14 @@
 -- Items found by their numbers, in a list that is changed.
-use Rattle.std.proofs.Common.{◌≡◌, ◌≢◌, ℕ, ◌==◌, ◌||◌, Bool, true, false, List, [], ◌∷◌, ◌++◌, Option, Some, None, find, filter, map, if◌then◌else◌, refl, ap, sym, ◌∙◌}
+use Rattle.std.proofs.Common.{◌≡◌, ◌≢◌, ℕ, ◌==◌, ◌||◌, Bool, true, false, List, [], ◌∷◌, ◌++◌, Option, Some, None, find, filter, map, if◌then◌else◌, refl, ap, sym, ◌∙◌, subst}
 use Rattle.std.proofs.lemmas.Bool.{eqb-true, eq-eqb}
 use Rattle.std.specs.Prelude.{option_map}
 use Rattle.std.specs.List.{AllByRecursion, list_any}
-use Rattle.container_table.specs.Lists.{update_first}
+use Rattle.container_table.specs.Lists.{update_first, remove_first}
 use Rattle.machine_model.specs.Consistency.{AreDistinct}
 use Rattle.machine_model.proofs.ListLemmas.{found_nowhere, all_weaken, all_of_mapped}
 use Rattle.machine_model.proofs.ChangeLemmas.{all_filtered}
-use Rattle.container_table.specs.Lists.{remove_first}
+use Rattle.machine_model.proofs.Fold.RowLemmas.{same_some}
 use Rattle.engine_text.specs.declared.container.Container.{Container}
-use Rattle.std.proofs.Common.{sym, ◌∙◌, subst, None, ap, ◌≢◌}
 
 -- a test that fails
 pub not_by : (b : Bool) (m n : ℕ) → (m == n) ≡ b → m ≢ n → b ≡ false
@@ -105,7 +104,7 @@ kept_any p true x rest h = any_by (p x) h
 kept_any p false x rest h = h
 
 same_item : {A : Type 0} (x y : A) → Some x ≡ Some y → x ≡ y
-same_item x y e = Rattle.machine_model.proofs.Fold.RowLemmas.same_some x y e
+same_item x y e = same_some x y e
 
 hit_any : {A : Type 0} (p : A → Bool) (t : Bool) (x : A) (rest : List A) → p x ≡ true → t ≡ true → list_any p (if t then x ∷ rest else rest) ≡ true
 hit_any p true x rest e h = ap (λ b. b || list_any p rest) e

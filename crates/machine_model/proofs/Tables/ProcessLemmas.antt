@@ -3,13 +3,13 @@ use Rattle.std.proofs.Common.{◌≡◌, ◌≢◌, ℕ, Bool, true, false, List
 use Rattle.std.proofs.lemmas.Bool.Decides.{eqb_tells}
 use Rattle.std.specs.Prelude.{option_map}
 use Rattle.std.specs.List.{AllByRecursion}
-use Rattle.engine_text.specs.declared.owner.Owner.{Owner}
-use Rattle.engine_text.specs.declared.owner.Owner.TheVariants.{Container as OfContainer}
 use Rattle.engine_text.specs.Owner.{same_owner}
 use Rattle.proc_kernel.specs.Processes.{Process}
 use Rattle.proc_kernel.specs.Tables.{Entry, process_of, change, without, begun}
 use Rattle.machine_model.specs.Consistency.{AreDistinct}
 use Rattle.machine_model.proofs.OwnerLemmas.{owner_is, same_owner-refl}
+use Rattle.engine_text.specs.declared.owner.Owner.{Owner}
+use Rattle.engine_text.specs.declared.owner.Owner.TheVariants.{Container as OfContainer}
 
 decide : (b : Bool) → (b ≡ true) ⊎ (b ≡ false)
 decide true = inl refl
