@@ -1,9 +1,10 @@
 -- What the outside tells goes on: views compose.
-use Rattle.std.proofs.Common.{◌≤◌, inl, inr, ℕ, List, [], ◌++◌, refl, sym, ◌∙◌, ap, append_assoc, append-nil, Option, Some, None, Result, Ok, Err, arith}
+use Rattle.std.proofs.Common.{◌≡◌, ◌≤◌, ◌∷◌, inl, inr, ℕ, List, [], ◌++◌, refl, sym, ◌∙◌, ap, append_assoc, append-nil, Option, Some, None, Result, Ok, Err, arith}
 use Rattle.engine_ports.specs.Rose.{Rose}
 use Rattle.engine_ports.specs.Source.{Gave, SourceView, SourceGave}
 use Rattle.engine_ports.specs.Sink.{Took, SinkView, SinkTook, WriteSays}
 use Rattle.engine_ports.specs.Clock.{Handed, ClockView, ClockHanded}
+use Rattle.engine_ports.specs.Memory.{Moments, IsMoment, told_by}
 use Rattle.engine_ports.specs.declared.ports.Failed.{Failed}
 
 pub gave_none : (l : Option (List ℕ)) → Gave l [] l
@@ -91,3 +92,19 @@ pub written_on : (x : Unit {0}) (r : Result (Unit {0}) Failed) (head body : List
 written_on x (Ok y) head body u v w h g = sink_on u v w head body h g
 written_on x (Err y) head body u v w h (part, (cut, is), took, rose) =
     (head ++ part, (cut, append_assoc head part cut ∙ ap (λ z. head ++ z) is), sink_on u v w head part h took, rose_since u.faults v.faults w.faults h.faults rose)
+
+-- a reading of a clock that tells its moments hands the first of them
+pub moment_handed : (o : Option (List ℕ)) (m : ℕ) (s s' : Moments) → s.coming ≡ o → IsMoment o m s s'
+    → ClockHanded (told_by s) (m ∷ []) (told_by s')
+moment_handed (Some (x ∷ xs)) m s s' is (at, so) = record {
+  handed = let e = ap (λ (w : Moments). w.coming) so in rw (is, e, at) refl;
+  stops = omega (arith, ap (λ (w : Moments). w.stops) so);
+}
+moment_handed (Some []) m s s' is (at, so) = record {
+  handed = let e = ap (λ (w : Moments). w.coming) so in rw (is, e) (m ∷ [], refl);
+  stops = omega (arith, ap (λ (w : Moments). w.stops) so);
+}
+moment_handed None m s s' is (at, so) = record {
+  handed = rw (so, is) tt;
+  stops = omega (arith, ap (λ (w : Moments). w.stops) so);
+}

@@ -1,5 +1,5 @@
 -- What a door tells of its connections. own: the daemon's view of where connections come from.
-use Rattle.std.specs.Prelude.{ℕ, ◌≡◌, ◌≤◌, List, [], ◌∷◌, ◌++◌, Option, Some, None, Result, Ok, Err}
+use Rattle.std.specs.Prelude.{ℕ, ◌≡◌, ◌≤◌, ◌+◌, List, [], ◌∷◌, ◌++◌, Option, Some, None, Result, Ok, Err}
 use Rattle.engine_ports.specs.Rose.{Rose}
 use Rattle.engine_ports.specs.Source.{SourceView}
 use Rattle.engine_ports.specs.Sink.{SinkView}
@@ -17,11 +17,13 @@ pub record Outside : Type 0 where
 abbrev pub outside : SourceView → SinkView → ClockView → Outside
 outside s u v = record { source = s; sink = u; clock = v }
 
--- the connections to come and those that ended with their numbers, where they are told, and how
--- often a call failed
+-- the connections to come and those that ended with their numbers, where they are told, how many
+-- came and haven't been left (a door that keeps no such count tells the greatest one), and how often
+-- a call failed
 pub record DoorView : Type 0 where
   pub coming : Option (List Outside)
   pub past : Option (List (ℕ × Outside))
+  pub owed : ℕ
   pub faults : ℕ
 
 -- a sink that tells its bytes has taken none
@@ -37,22 +39,22 @@ pub record IsNew (o : Outside) : Type 0 where
   pub stops : o.clock.stops ≡ 0
   pub fresh : IsFresh o.sink.wrote
 
--- the connection that came was the first of those to come
-abbrev pub Came : Option (List Outside) → Outside → Option (List Outside) → Type 0
+-- what came was the first of those to come
+abbrev pub Came : {A : Type 0} → Option (List A) → A → Option (List A) → Type 0
 Came (Some before) o (Some now) = before ≡ o ∷ now
 Came None o None = Unit {0}
 Came (Some before) o None = ⊥
 Came None o (Some now) = ⊥
 
--- the connection that ended is the last of the past
-abbrev pub Left : Option (List (ℕ × Outside)) → ℕ → Outside → Option (List (ℕ × Outside)) → Type 0
-Left (Some before) number o (Some now) = now ≡ before ++ (number, o) ∷ []
-Left None number o None = Unit {0}
-Left (Some before) number o None = ⊥
-Left None number o (Some now) = ⊥
+-- what ended is the last of the past
+abbrev pub Left : {A : Type 0} → Option (List A) → A → Option (List A) → Type 0
+Left (Some before) o (Some now) = now ≡ before ++ o ∷ []
+Left None o None = Unit {0}
+Left (Some before) o None = ⊥
+Left None o (Some now) = ⊥
 
--- no connection is to come, where they are told
-abbrev pub IsEmpty : Option (List Outside) → Type 0
+-- none is to come, where they are told
+abbrev pub IsEmpty : {A : Type 0} → Option (List A) → Type 0
 IsEmpty None = Unit {0}
 IsEmpty (Some coming) = coming ≡ []
 
@@ -60,6 +62,15 @@ IsEmpty (Some coming) = coming ≡ []
 pub record SameDoor (v v' : DoorView) : Type 0 where
   pub coming : v'.coming ≡ v.coming
   pub past : v'.past ≡ v.past
+  pub owed : v'.owed ≡ v.owed
+  pub faults : v.faults ≤ v'.faults
+
+-- a connection came: the first of those to come, new
+pub record TakesIn (o : Outside) (v v' : DoorView) : Type 0 where
+  pub came : Came v.coming o v'.coming
+  pub new : IsNew o
+  pub past : v'.past ≡ v.past
+  pub owed : Rose v.owed v'.owed
   pub faults : v.faults ≤ v'.faults
 
 -- what binding says: a fault at most
@@ -69,13 +80,13 @@ BindSays (Err x) v v' = SameDoor v v' × Rose v.faults v'.faults
 
 -- what accepting says: the first connection to come, none, or a fault
 abbrev pub AcceptSays : {S K C : Type 0} → (S → K → C → Outside) → Arrival S K C → DoorView → DoorView → Type 0
-AcceptSays tells (arrival.Conn s k c) v v' =
-    Came v.coming (tells s k c) v'.coming × IsNew (tells s k c) × (v'.past ≡ v.past) × (v.faults ≤ v'.faults)
+AcceptSays tells (arrival.Conn s k c) v v' = TakesIn (tells s k c) v v'
 AcceptSays tells arrival.Shut v v' = SameDoor v v' × IsEmpty v.coming
 AcceptSays tells arrival.Failed v v' = SameDoor v v' × Rose v.faults v'.faults
 
 -- what leaving says: the connection is the last of the past
 pub record LeaveSays (number : ℕ) (o : Outside) (v v' : DoorView) : Type 0 where
-  pub past : Left v.past number o v'.past
+  pub past : Left v.past (number, o) v'.past
   pub coming : v'.coming ≡ v.coming
+  pub owed : v.owed ≤ v'.owed + 1
   pub faults : v'.faults ≡ v.faults

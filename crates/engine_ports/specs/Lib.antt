@@ -3,5 +3,8 @@ pub mod Source
 pub mod Sink
 pub mod Clock
 pub mod Door
+pub mod Link
 pub mod Memory
+pub mod Comings
+pub mod Links
 pub mod Adapters

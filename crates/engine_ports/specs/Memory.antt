@@ -1,6 +1,6 @@
 -- What a source, a sink and a clock in memory are, and what each call of them does. own: they fail
 -- where they are told to, so that a test can show each cause.
-use Rattle.std.specs.Prelude.{ℕ, ◌≡◌, ◌≤◌, ◌<◌, ◌⊎◌, ◌+◌, ◌++◌, min, List, [], take, drop, length, Contains, Option, None, Some, Result, Ok, Err}
+use Rattle.std.specs.Prelude.{ℕ, ◌≡◌, ◌≤◌, ◌<◌, ◌⊎◌, ◌+◌, ◌++◌, min, Bool, true, false, List, [], ◌∷◌, take, drop, length, Contains, Option, None, Some, Result, Ok, Err}
 use Rattle.engine_ports.specs.Rose.{raised, greatest_count}
 use Rattle.engine_ports.specs.Source.{SourceView}
 use Rattle.engine_ports.specs.Sink.{SinkView}
@@ -39,6 +39,15 @@ pub record Steps : Type 0 where
   pub pauses : ℕ
   pub stops : ℕ
 
+-- a clock that tells its moments: those to come, until they have run out, the one that it handed last,
+-- the number of the first pause that is stopped, and how many pauses and stops there were
+pub record Moments : Type 0 where
+  pub coming : Option (List ℕ)
+  pub last : ℕ
+  pub stop_at : Option ℕ
+  pub pauses : ℕ
+  pub stops : ℕ
+
 -- a read into a place: it fails exactly where its number says so, and else gives as much as it may
 abbrev pub IsRead : Supply → List ℕ → Got → Supply → Type 0
 IsRead s into (got.Bytes n) s' =
@@ -72,7 +81,13 @@ abbrev pub stops_after : Pause → ℕ → ℕ
 stops_after pause.Go stops = stops
 stops_after pause.Stop stops = raised stops
 
--- what the three tell; the clock tells no moments
+-- a reading hands the first of the moments to come; behind them the last one again, and tells none then
+abbrev pub IsMoment : Option (List ℕ) → ℕ → Moments → Moments → Type 0
+IsMoment (Some (first ∷ rest)) m s s' = (m ≡ first) × (s' ≡ record s { coming = Some rest; last = first })
+IsMoment (Some []) m s s' = (m ≡ s.last) × (s' ≡ record s { coming = None })
+IsMoment None m s s' = (m ≡ s.last) × (s' ≡ s)
+
+-- what they tell; the clock that goes on by itself tells no moments
 abbrev pub source_of : Supply → SourceView
 source_of s = record { left = Some s.left; faults = s.faults; ends = s.ends }
 
@@ -81,3 +96,17 @@ sink_of s = record { wrote = Some s.wrote; faults = s.faults }
 
 abbrev pub clock_of : Steps → ClockView
 clock_of s = record { moments = None; stops = s.stops }
+
+abbrev pub told_by : Moments → ClockView
+told_by s = record { moments = s.coming; stops = s.stops }
+
+-- calls of which those numbered fail: the numbers, how many calls and how many faults there were
+pub record Misses : Type 0 where
+  pub failing : List ℕ
+  pub calls : ℕ
+  pub faults : ℕ
+
+-- a call fails exactly where its number says so
+abbrev pub IsCall : Misses → Bool → Misses → Type 0
+IsCall s true s' = Contains s.failing s.calls × (s' ≡ record s { calls = raised s.calls; faults = raised s.faults })
+IsCall s false s' = ¬ (Contains s.failing s.calls) × (s' ≡ record s { calls = raised s.calls })

@@ -1,10 +1,11 @@
 // Where connections come from.
-ghost use Rattle.std.specs.Prelude.{◌≡◌};
+ghost use Rattle.std.specs.Prelude.{◌≡◌, ◌<◌};
 ghost use Rattle.engine_ports.specs.Door.{Outside, outside, DoorView, BindSays, AcceptSays, LeaveSays};
 
 use crate::{Clock, Failed, MemSink, MemSource, Sink, Source, StepClock};
 
 /// What an accept gave.
+#[derive(Drop)]
 pub enum Arrival<S, K, C> {
     /// A connection: its source, its sink and its clock.
     Conn(S, K, C),
@@ -42,8 +43,9 @@ pub trait Door {
     fn accept(&mut self) -> Arrival<Self::From, Self::Into, Self::Time>
         ensures { AcceptSays (λ s k c. outside (Self.From.gives s) (Self.Into.takes k) (Self.Time.times c)) result (opens self.old) (opens self.new) };
 
-    /// Keeps what is left of the connection of this number. It takes no memory.
+    /// Keeps what is left of a connection that came, under this number. It takes no memory.
     fn leave(&mut self, number: u32, past: Self::Past)
+        requires { 0 < (opens self.old).owed }
         ensures { LeaveSays number (Self.Past.tells past) (opens self.old) (opens self.new) };
 }
 
@@ -70,7 +72,7 @@ impl<F: Source + Drop, I: Sink + Drop, T: Clock + Drop> Parting<F, I, T> for Par
 pub struct NoDoor;
 
 impl Door for NoDoor {
-    ghost use Rattle.std.specs.Prelude.{[], Some, None};
+    ghost use Rattle.std.specs.Prelude.{[], Some};
 
     type From = MemSource;
 
@@ -80,7 +82,7 @@ impl Door for NoDoor {
 
     type Past = Parts<MemSource, MemSink, StepClock>;
 
-    ghost opens = { λ _. record { coming = Some []; past = None; faults = 0 } };
+    ghost opens = { λ _. record { coming = Some []; past = Some []; owed = 0; faults = 0 } };
 
     fn bind(&mut self, _: &str) -> Result<(), Failed> {
         Ok(())
@@ -90,5 +92,7 @@ impl Door for NoDoor {
         Arrival::Shut
     }
 
-    fn leave(&mut self, _: u32, _: Parts<MemSource, MemSink, StepClock>) {}
+    fn leave(&mut self, _: u32, _: Parts<MemSource, MemSink, StepClock>) {
+        unreachable!()
+    }
 }

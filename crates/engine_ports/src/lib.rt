@@ -4,13 +4,17 @@
 mod adapters;
 mod clock;
 mod door;
+mod link;
 mod memory;
 mod ports;
 
-pub use adapters::{ReadSource, SystemClock, WriteSink};
+pub use adapters::{
+    Half, ReadSource, StreamPast, StreamSink, SystemClock, TcpDoor, TcpLink, WriteSink,
+};
 pub use clock::StepClock;
 pub use door::{Arrival, Door, NoDoor, Parting, Parts};
-pub use memory::{MemSink, MemSource, NoMemory};
+pub use link::Link;
+pub use memory::{Closed, Departed, MemClock, MemDoor, MemLink, MemSink, MemSource, NoMemory};
 pub use ports::{Clock, Failed, Got, Pause, Sink, Source};
 
 #[cfg(test)]

@@ -1,7 +1,15 @@
 // A source and a sink in memory, whose calls fail where they are told to.
 ghost use Rattle.std.specs.Prelude.{◌≡◌, ◌<◌, ◌≤◌, ℕ, List, [], Some, Ok, length, IfOk};
 
+mod coming;
+mod leading;
+mod misses;
+mod moments;
+
 use crate::{Failed, Got, Sink, Source};
+pub use coming::{Departed, MemDoor};
+pub use leading::{Closed, MemLink};
+pub use moments::MemClock;
 use std::alloc::{AllocError, AllocFailed, Global};
 use std::marker::Model;
 
@@ -149,6 +157,13 @@ impl MemSink {
         ensures { result.now ≡ self.now.wrote }
     {
         &self.bytes
+    }
+
+    /// How many writes there were.
+    pub fn writes(&self) -> u64
+        ensures { result ≡ self.now.writes }
+    {
+        self.writes
     }
 
     /// How many writes failed for want of memory.

@@ -1,7 +1,10 @@
 // The fakes and the adapters, on their happy paths and at each fault.
+mod connections;
+mod sockets;
+
 use crate::{
-    Arrival, Clock, Door, Failed, Got, MemSink, MemSource, NoDoor, Parting, Parts, Pause,
-    ReadSource, Sink, Source, StepClock, SystemClock, WriteSink,
+    Arrival, Clock, Door, Failed, Got, MemClock, MemSink, MemSource, NoDoor, Pause, ReadSource,
+    Sink, Source, StepClock, SystemClock, WriteSink,
 };
 use std::io;
 use std::test::Fail;
@@ -27,6 +30,7 @@ fn a_sink_takes_all_but_the_failing_writes(rt: HostRuntime) -> Result<(), Fail> 
     assert_eq!(rt; sink.write(b"c"), Ok(()));
     assert_eq!(rt; sink.finish(), Ok(()));
     assert_eq!(rt; sink.bytes(), b"ac".as_slice());
+    assert_eq!(rt; sink.writes(), 3);
     assert_eq!(rt; sink.short(), 0);
     Ok(())
 }
@@ -44,17 +48,30 @@ fn a_clock_steps_and_stops(rt: HostRuntime) {
 }
 
 #[test]
-fn nobody_comes_through_no_door(rt: HostRuntime) -> Result<(), Fail> {
+fn a_clock_hands_its_moments_and_then_the_last_again(rt: HostRuntime) -> Result<(), Fail> {
+    let mut clock = MemClock::new(rt.alloc(), &[5, 3], Some(1))?;
+    assert_eq!(rt; clock.now(), 5);
+    assert_eq!(rt; clock.pause(50), Pause::Go);
+    assert_eq!(rt; clock.now(), 3);
+    let mut twin = clock.twin();
+    assert_eq!(rt; twin.now(), 3);
+    assert_eq!(rt; twin.pause(50), Pause::Stop);
+    clock.rejoin(twin);
+    assert_eq!(rt; clock.now(), 3);
+    assert_eq!(rt; clock.pause(50), Pause::Stop);
+    let mut none = MemClock::new(rt.alloc(), &[], None)?;
+    assert_eq!(rt; none.now(), 0);
+    Ok(())
+}
+
+#[test]
+fn nobody_comes_through_no_door(rt: HostRuntime) {
     let mut door = NoDoor;
     assert_eq!(rt; door.bind("127.0.0.1:1"), Ok(()));
     match door.accept() {
         Arrival::Shut => {}
         _ => panic!(rt; "somebody came"),
     }
-    let source = MemSource::new(rt.alloc(), b"", 1, &[])?;
-    let sink = MemSink::new(rt.alloc(), &[])?;
-    door.leave(0, Parts::part(source, sink, StepClock::new(0, 0, None)));
-    Ok(())
 }
 
 #[test]

@@ -9,8 +9,8 @@ use std::io::Read;
 #[derive(Drop)]
 pub struct ReadSource<R> {
     reader: R,
-    faults: u64,
-    ends: u64,
+    pub(super) faults: u64,
+    pub(super) ends: u64,
 }
 
 impl<R: Read + Send> ReadSource<R> {

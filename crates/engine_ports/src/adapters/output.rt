@@ -8,8 +8,8 @@ use std::io::Write;
 /// A sink over a writer. It tells no bytes.
 #[derive(Drop)]
 pub struct WriteSink<W> {
-    writer: W,
-    faults: u64,
+    pub(super) writer: W,
+    pub(super) faults: u64,
 }
 
 impl<W: Write + Send> WriteSink<W> {
@@ -18,6 +18,26 @@ impl<W: Write + Send> WriteSink<W> {
         ensures { ⟦<WriteSink<W> as Sink>⟧.takes result ≡ untold_sink }
     {
         WriteSink { writer, faults: 0 }
+    }
+}
+
+impl<W: Write> WriteSink<W> {
+    ghost use Rattle.std.specs.Io.KnownBytes.{Keeps};
+    ghost use Rattle.engine_ports.specs.Sink.{FinishSays};
+    ghost use Rattle.engine_ports.specs.Adapters.{sink_over, writer_holds};
+
+    // Lets what was written out of the writer's own buffer.
+    fn flush(&mut self) -> Result<(), Failed>
+        ensures says { FinishSays result (sink_over self.old) (sink_over self.new) }
+        ensures writer { Keeps (writer_holds W.contents self.old) (writer_holds W.contents self.new) }
+    {
+        match self.writer.flush() {
+            Ok(()) => Ok(()),
+            Err(_) => {
+                self.faults = self.faults.saturating_add(1);
+                Err(Failed)
+            }
+        }
     }
 }
 
@@ -43,19 +63,13 @@ impl<W: Write + Send> Sink for WriteSink<W> {
                 }
             }
         }
-        self.finish()
+        self.flush()
     }
 
     fn finish(&mut self) -> Result<(), Failed>
         ensures says { FinishSays result (sink_over self.old) (sink_over self.new) }
         ensures writer { Keeps (writer_holds W.contents self.old) (writer_holds W.contents self.new) }
     {
-        match self.writer.flush() {
-            Ok(()) => Ok(()),
-            Err(_) => {
-                self.faults = self.faults.saturating_add(1);
-                Err(Failed)
-            }
-        }
+        self.flush()
     }
 }

@@ -12,7 +12,7 @@ use std::{io, thread};
 pub struct SystemClock<C> {
     clock: C,
     last: u64,
-    stops: u64,
+    pub(super) stops: u64,
 }
 
 // The moment of what the system answered; where it has no answer, the moment before.
@@ -28,10 +28,12 @@ fn moment_of(answer: io::Result<SystemTime>, before: u64) -> u64
     }
 }
 
-impl<C: time::Clock + Copy + Send> SystemClock<C> {
+impl<C> SystemClock<C> {
+    ghost use Rattle.engine_ports.specs.Adapters.{clock_over};
+
     /// A clock that was never stopped.
     pub fn new(clock: C) -> SystemClock<C>
-        ensures { ⟦<SystemClock<C> as Clock>⟧.times result ≡ untold_clock }
+        ensures { clock_over result ≡ untold_clock }
     {
         SystemClock {
             clock,
@@ -42,9 +44,9 @@ impl<C: time::Clock + Copy + Send> SystemClock<C> {
 }
 
 impl<C: time::Clock + Copy + Send> Clock for SystemClock<C> {
-    ghost use Rattle.std.specs.Prelude.{None};
+    ghost use Rattle.engine_ports.specs.Adapters.{clock_over};
 
-    ghost times = { λ s. record { moments = None; stops = s.stops } };
+    ghost times = { clock_over };
 
     fn now(&mut self) -> u64 {
         self.last = moment_of(SystemTime::now(&self.clock), self.last);

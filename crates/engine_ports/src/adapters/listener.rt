@@ -1,0 +1,103 @@
+// A door over a TCP listener of this machine alone.
+ghost use Rattle.std.specs.Prelude.{◌≡◌};
+
+use super::stream::{Half, halves, loopback};
+use super::{ReadSource, StreamPast, StreamSink, SystemClock};
+use crate::{Arrival, Door, Failed};
+use std::alloc::Global;
+use std::net::{Net, SocketAddr, TcpListener, TcpStream};
+use std::thread;
+use std::time::{self, Duration};
+
+/// How often an accept is tried before it counts as a fault. A peer that is gone again, or want of
+/// descriptors, fails one try.
+const TRIES: u32 = 1_000;
+
+/// How long to wait behind a failed try, in milliseconds.
+const BREATH: u64 = 10;
+
+/// A door over TCP, on the loopback address alone. It tells no connections.
+#[derive(Drop)]
+pub struct TcpDoor<R> {
+    rt: R,
+    alloc: Global,
+    listener: Option<TcpListener>,
+    faults: u64,
+}
+
+impl<R> TcpDoor<R> {
+    ghost use Rattle.engine_ports.specs.Adapters.{door_over, untold_door};
+
+    /// A door that isn't bound yet.
+    pub fn new(rt: R, alloc: Global) -> TcpDoor<R>
+        ensures { door_over result ≡ untold_door }
+    {
+        TcpDoor {
+            rt,
+            alloc,
+            listener: None,
+            faults: 0,
+        }
+    }
+
+    /// The address that it is bound to.
+    pub fn address(&self) -> Option<SocketAddr> {
+        match &self.listener {
+            Some(listener) => listener.local_addr().ok(),
+            None => None,
+        }
+    }
+}
+
+fn bound<R: Net<Listener = TcpListener, Stream = TcpStream>>(
+    rt: &R,
+    addr: &str,
+) -> Option<TcpListener> {
+    TcpListener::bind(rt, loopback(addr)?).ok()
+}
+
+impl<R: Net<Listener = TcpListener, Stream = TcpStream> + time::Clock + Copy + Send> Door
+    for TcpDoor<R> {
+    ghost use Rattle.engine_ports.specs.Adapters.{door_over};
+
+    type From = ReadSource<Half>;
+
+    type Into = StreamSink;
+
+    type Time = SystemClock<R>;
+
+    type Past = StreamPast;
+
+    ghost opens = { door_over };
+
+    fn bind(&mut self, addr: &str) -> Result<(), Failed> {
+        match bound(&self.rt, addr) {
+            Some(listener) => {
+                self.listener = Some(listener);
+                Ok(())
+            }
+            None => {
+                self.faults = self.faults.saturating_add(1);
+                Err(Failed)
+            }
+        }
+    }
+
+    fn accept(&mut self) -> Arrival<ReadSource<Half>, StreamSink, SystemClock<R>> {
+        let Some(listener) = &self.listener else {
+            return Arrival::Shut;
+        };
+        for _ in 0..TRIES {
+            if let Ok((stream, _)) = listener.accept() {
+                if let Some((from, into)) = halves(self.alloc, stream) {
+                    return Arrival::Conn(from, into, SystemClock::new(self.rt));
+                }
+            }
+            thread::sleep(&self.rt, Duration::from_millis(BREATH));
+        }
+        self.faults = self.faults.saturating_add(1);
+        Arrival::Failed
+    }
+
+    fn leave(&mut self, _: u32, _: StreamPast) {}
+}
