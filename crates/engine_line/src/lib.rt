@@ -1,0 +1,13 @@
+//! The command line of `engined`.
+#![tactic(auto)]
+
+mod command;
+mod line;
+mod read;
+mod values;
+
+pub use line::{Line, Stepping, Work};
+pub use read::read_line;
+
+#[cfg(test)]
+mod tests;
