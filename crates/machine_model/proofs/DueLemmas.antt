@@ -1,16 +1,16 @@
 -- What due steps obey: which containers they find, what they tell, and what they run through.
-use Rattle.std.proofs.Common.{◌≡◌, ◌≢◌, ℕ, ◌==◌, Bool, true, false, List, [], ◌∷◌, ◌++◌, Option, Some, None, find, map, if◌then◌else◌, not, refl, ap, sym, ◌∙◌, subst, arith, inl, inr, codes, decimal}
+use Rattle.std.proofs.Common.{◌≡◌, ◌≢◌, ℕ, ◌==◌, Bool, true, false, List, [], ◌∷◌, ◌++◌, Option, Some, None, find, map, if◌then◌else◌, not, refl, ap, sym, ◌∙◌, subst, arith, inl, inr}
 use Rattle.std.proofs.lemmas.Bool.{eqb-true, eq-eqb}
 use Rattle.std.proofs.lemmas.Bool.Decides.{eqb_tells}
 use Rattle.std.specs.List.{AllByRecursion, filter_map, list_any, cons_option}
 use Rattle.api_json.specs.Status.{is_paused, is_restarting}
-use Rattle.container_table.specs.Timers.{is_timer, timer_in, cleared, is_before}
+use Rattle.container_table.specs.Timers.{is_timer, timer_in, is_before}
 use Rattle.engine_text.specs.Owner.{same_owner}
 use Rattle.proc_kernel.specs.Processes.{Process, run_due, next_due, due_of, is_frozen}
 use Rattle.proc_kernel.specs.Tables.{Entry, process_of}
 use Rattle.machine_model.specs.State.{State, container_numbered, exec_numbered, owner_number, clear_timer, timer_of}
 use Rattle.machine_model.specs.Chain.{Effect, change, with_found, with_container}
-use Rattle.machine_model.specs.EventTexts.{kill_event, pair}
+use Rattle.machine_model.specs.EventTexts.{kill_event}
 use Rattle.machine_model.specs.Due.{action_at, due_actions, least_due, op_effect, stop_deadline, time_out, died, removal_deadline, restarted, restart_timer, due_effect}
 use Rattle.machine_model.specs.Effects.Meet.{step_process}
 use Rattle.machine_model.specs.Consistency.{AreDistinct, is_there, HasOwner, IsFrozenAs, IsFrozenRight, TimerStands, HasTimer, HasRemoval, IsConsistent}
@@ -20,11 +20,10 @@ use Rattle.machine_model.proofs.ListLemmas.{all_weaken, all_append, all_back, al
 use Rattle.machine_model.proofs.Processes.CodeLemmas.{coded_due}
 use Rattle.machine_model.proofs.Fold.RowLemmas.{RowsBut, Same, Is, found_number, nobody, pin, whole, weaker, exact, same_some}
 use Rattle.machine_model.proofs.Fold.TellLemmas.{Fit, Folded, Tells, folded_by, folded_still, tells_then, tells_from, tells_quiet, tells_apart, tells_with}
-use Rattle.machine_model.proofs.ClosureLemmas.{IsClosed, Runs, runs_then, runs_at, runs_found, runs_with, runs_tell, runs_renew, runs_timers}
 use Rattle.machine_model.proofs.ObeyLemmas.{found_all}
-use Rattle.machine_model.proofs.Effects.LaunchLemmas.{Awake, awake_same, tells_launch, runs_launch}
+use Rattle.machine_model.proofs.Effects.LaunchLemmas.{Awake, awake_same, tells_launch}
 use Rattle.machine_model.proofs.Effects.EndMainLemmas.{awake_renew, awake_mark}
-use Rattle.machine_model.proofs.Effects.MeetLemmas.{tells_meet, tells_main_step, tells_exec_step, runs_step, runs_meet}
+use Rattle.machine_model.proofs.Effects.MeetLemmas.{tells_meet, tells_main_step, tells_exec_step}
 use Rattle.machine_model.proofs.OwnerLemmas.{owner_is, same_owner-refl}
 use Rattle.engine_text.specs.declared.container.Container.{Container}
 use Rattle.engine_text.specs.declared.owner.Owner.{Owner}
@@ -33,7 +32,6 @@ use Rattle.engine_text.specs.declared.script.Pace.{Pace}
 use Rattle.engine_text.specs.declared.script.Pace.TheVariants.{Running, Frozen}
 use Rattle.engine_text.specs.declared.status.Status.{Status}
 use Rattle.engine_text.specs.declared.step.DueAction.{DueAction}
-use Rattle.engine_text.specs.declared.event.Action.TheVariants as Action
 
 -- ---- what a due action finds
 
@@ -276,33 +274,3 @@ first s rank n false e awake fit = second s rank n (rank == 1) refl awake fit
 -- a due action, at its moment
 pub due_folds : (s : State) (d : DueAction) → FindsAwake s d → Fit s → Folded s (due_effect d (at_moment d.moment s))
 due_folds s d awake fit = first (at_moment d.moment s) d.rank d.number (d.rank == 0) refl awake fit
-
--- ---- what it runs through
-
-runs_op : {R : State → Effect → Type 0} → IsClosed R → (n : ℕ) → Runs R (op_effect n)
-runs_op k n =
-    runs_at (λ s. with_found (find (λ e. owner_number e.owner == n) s.processes) (λ (e : Entry). step_process run_due e.owner))
-    (λ s. (runs_found k (find (λ e. owner_number e.owner == n) s.processes) (λ (e : Entry). runs_step k run_due e.owner)).holds s)
-
-runs_stop : {R : State → Effect → Type 0} → IsClosed R → (n : ℕ) → Runs R (stop_deadline n)
-runs_stop k n =
-    runs_then k (runs_timers k (λ s. cleared 1 n s.timers)) (runs_then k (runs_tell k Action.Kill [] (pair (codes "signal") (decimal 9) ∷ []) n) (runs_meet k 9 n))
-
-runs_removal : {R : State → Effect → Type 0} → IsClosed R → (n : ℕ) → Runs R (removal_deadline n)
-runs_removal k n =
-    runs_then k (runs_timers k (λ s. cleared 2 n s.timers))
-    (runs_then k (runs_renew k n died (record { mounts = λ l. refl; log = λ l. refl; starts = λ l. omega arith })) (runs_with k n (λ s c found. k.on_time_out s c)))
-
-runs_restart : {R : State → Effect → Type 0} → IsClosed R → (n : ℕ) → Runs R (restart_timer n)
-runs_restart k n =
-    runs_then k (runs_timers k (λ s. cleared 3 n s.timers))
-    (runs_then k (runs_renew k n restarted (record { mounts = λ l. refl; log = λ l. refl; starts = λ l. omega arith })) (runs_launch k n))
-
-runs_if : {R : State → Effect → Type 0} {e f : State → Effect} (b : Bool) → Runs R e → Runs R f → Runs R (if b then e else f)
-runs_if true one other = one
-runs_if false one other = other
-
-pub runs_due : {R : State → Effect → Type 0} → IsClosed R → (d : DueAction) → Runs R (due_effect d)
-runs_due k d =
-    runs_if (d.rank == 0) (runs_op k d.number)
-    (runs_if (d.rank == 1) (runs_stop k d.number) (runs_if (d.rank == 2) (runs_removal k d.number) (runs_restart k d.number)))

@@ -13,9 +13,7 @@ use Rattle.machine_model.specs.Call.{outcome_of}
 use Rattle.machine_model.proofs.ListLemmas.{all_append, all_weaken, all_mapped}
 use Rattle.machine_model.proofs.ClosureLemmas.{IsClosed}
 use Rattle.machine_model.proofs.ObeyLemmas.{found_all}
-use Rattle.machine_model.proofs.DueLemmas.{runs_due}
 use Rattle.machine_model.proofs.Fold.HistoryLemmas.{AreConsistent, ConsistencyLaw, all_consistent}
-use Rattle.machine_model.proofs.CallLemmas.{obeys}
 use Rattle.engine_text.specs.declared.call.Call.{Call}
 use Rattle.engine_text.specs.declared.container.Container.{Container}
 use Rattle.engine_text.specs.declared.event.Action.{Action}
@@ -23,6 +21,7 @@ use Rattle.engine_text.specs.declared.event.Event.{Event}
 use Rattle.engine_text.specs.declared.mounts.Mount.{Mount}
 use Rattle.engine_text.specs.declared.step.DueAction.{DueAction}
 use Rattle.engine_text.specs.declared.step.Step.{Step}
+use Rattle.machine_model.proofs.ClosureLemmas.{runs_call, runs_due}
 
 -- ---- one step
 
@@ -46,9 +45,8 @@ pub stamped_closed : IsClosed Stamped
 stamped_closed = record {
   on_still = λ s. (tt, refl);
   on_after = λ s a b first second. stamped_after s a b first second;
-  on_told = λ s a before behind c found. ((refl, tt), refl);
+  on_told = λ s v at. ((at, tt), refl);
   on_mounts = λ s a c. (stamped_mounts a c s.clock c.life.mounts, refl);
-  on_volume = λ s a name. ((refl, tt), refl);
   on_ended = λ s d. (tt, refl);
   on_renew = λ s n f mark. (tt, refl);
   on_log = λ s n stream payload. (tt, refl);
@@ -64,7 +62,7 @@ stamped_closed = record {
   on_end_ticket = λ s n. (tt, refl);
   on_made_volume = λ s name labels none. (tt, refl);
   on_gone_volume = λ s name unused. (tt, refl);
-  on_made = λ s name spec free stand. ((refl, tt), refl);
+  on_made = λ s name spec free stand. (tt, refl);
   on_made_exec = λ s c words stdin out err found. (tt, refl);
   on_renamed = λ s c name found free. (tt, refl);
 }
@@ -83,7 +81,7 @@ due_moves : (s : State) (o : Option DueAction) → least_due s ≡ o → AllByRe
 due_moves s None e dues = (tt, omega arith)
 due_moves s (Some d) e dues =
     let low : s.clock ≤ d.moment = found_all (λ d. s.clock ≤ d.moment) (λ d. not (list_any (λ e. is_before e d) (due_actions s))) d (due_actions s) e dues in
-    let one : Stamped (at_moment d.moment s) (due_effect d (at_moment d.moment s)) = (runs_due stamped_closed d).holds (at_moment d.moment s) in
+    let one : Stamped (at_moment d.moment s) (due_effect d (at_moment d.moment s)) = runs_due stamped_closed d (at_moment d.moment s) in
     let all = moves_by s d.moment (due_effect d (at_moment d.moment s)) low one in
     (all.0, all.1)
 
@@ -97,7 +95,7 @@ pub moves : (s : State) (x : Step) → AllByRecursion (λ d. s.clock ≤ d.momen
 moves s Step.Due dues lawful = due_moves s (least_due s) refl dues
 moves s (Step.Call connection moment c) dues lawful =
     let o = outcome_of c connection (at_moment moment s) in
-    let all = moves_by s moment o.effect (call_later s connection moment c lawful.1) ((obeys c connection (at_moment moment s)).runs Stamped stamped_closed) in
+    let all = moves_by s moment o.effect (call_later s connection moment c lawful.1) (runs_call stamped_closed c connection (at_moment moment s)) in
     (all.0, all.1)
 
 -- no event of a history is before its first state

@@ -1,4 +1,4 @@
--- What each call obeys: its events fold to the new summary, its reply is one of its operation's, and it runs through single changes.
+-- What each call obeys: its events fold to the new summary, and its reply is one of its operation's.
 use Rattle.std.proofs.Common.{◌≡◌, ℕ, ◌<◌, ◌≤◌, ◌==◌, ◌&&◌, Bool, true, false, List, [], ◌∷◌, IsTrue, Option, Some, None, find, if◌then◌else◌, refl, sym, subst, arith}
 use Rattle.std.proofs.lemmas.Bool.{leb-true}
 use Rattle.std.specs.List.{AllByRecursion}
@@ -13,7 +13,6 @@ use Rattle.machine_model.specs.Consistency.{IsFrozenRight}
 use Rattle.machine_model.specs.Effects.Halt.{signal_used}
 use Rattle.machine_model.proofs.Fold.RowLemmas.{Same, Is, found_number, same_some}
 use Rattle.machine_model.proofs.Fold.TellLemmas.{Fit, Folded, Tells, LifeInRange, folded_by, folded_at, folded_still, tells_then, tells_apart}
-use Rattle.machine_model.proofs.ClosureLemmas.{IsClosed, Runs}
 use Rattle.engine_text.specs.declared.call.Call.{Call}
 use Rattle.engine_text.specs.declared.container.Container.{Container}
 use Rattle.engine_text.specs.declared.container.Found.{Found}
@@ -36,15 +35,14 @@ IsTicketReply (Some _) = ⊥
 abbrev pub HaveReplies : State → Type 0
 HaveReplies s = AllByRecursion (λ t. IsTicketReply t.reply) s.tickets
 
-pub record Obeys (k : Call) (s : State) (o : Outcome) : Type 1 where
+pub record Obeys (k : Call) (s : State) (o : Outcome) : Type 0 where
   pub folds : Stands s → IsSound k → Folded s o.effect
   pub reply : HaveReplies s → IsTrue (is_reply_of k o.reply)
-  pub runs : (R : State → Effect → Type 0) → IsClosed R → R s o.effect
 
 -- ---- calls that change nothing
 
 pub obeys_reply : (k : Call) (s : State) (reply : Reply) → IsTrue (is_reply_of k reply) → Obeys k s (replies reply still s)
-obeys_reply k s reply is = record { folds = λ h sound. folded_still s h.fit; reply = λ h. is; runs = λ R c. c.on_still s }
+obeys_reply k s reply is = record { folds = λ h sound. folded_still s h.fit; reply = λ h. is }
 
 pub obeys_answer : (k : Call) (s : State) (status : ℕ) (body : List ℕ) → IsTrue (is_status_of k status) → Obeys k s (answers status body s)
 obeys_answer k s status body is = obeys_reply k s (Reply.Answer status body) is
@@ -52,33 +50,28 @@ obeys_answer k s status body is = obeys_reply k s (Reply.Answer status body) is
 -- ---- calls that change something
 
 -- of no container
-pub obeys_apart : (k : Call) (s : State) (reply : Reply) (e : State → Effect) → (HaveReplies s → IsTrue (is_reply_of k reply)) → (IsSound k → Tells 0 Same e Same)
-    → ((R : State → Effect → Type 0) → IsClosed R → R s (e s)) → Obeys k s (replies reply e s)
-obeys_apart k s reply e is tells runs = record { folds = λ h sound. folded_by 0 Same e s (λ r c id h. h) (tells sound) h.fit; reply = is; runs = runs }
+pub obeys_apart : (k : Call) (s : State) (reply : Reply) (e : State → Effect) → (HaveReplies s → IsTrue (is_reply_of k reply)) → (IsSound k → Tells 0 Same e Same) → Obeys k s (replies reply e s)
+obeys_apart k s reply e is tells = record { folds = λ h sound. folded_by 0 Same e s (λ r c id h. h) (tells sound) h.fit; reply = is }
 
 -- of the container that was found
 pub obeys_found : (k : Call) (s : State) (c : Container) (reply : Reply) (e : State → Effect) (Q : FoldRow → Container → Type 0)
     → container_numbered c.number s ≡ Some c → IsTrue (is_reply_of k reply) → ((r : FoldRow) (d : Container) → r.id ≡ d.id → Q r d → Same r d)
-    → (Stands s → IsSound k → Tells c.number (Is c Same) e Q) → ((R : State → Effect → Type 0) → IsClosed R → Runs R e) → Obeys k s (replies reply e s)
-obeys_found k s c reply e Q found is same tells runs = record {
+    → (Stands s → IsSound k → Tells c.number (Is c Same) e Q) → Obeys k s (replies reply e s)
+obeys_found k s c reply e Q found is same tells = record {
   folds = λ h sound. folded_at c Q e s same found (tells h sound) h.fit;
   reply = λ h. is;
-  runs = λ R closed. (runs R closed).holds s;
 }
 
 -- with a ticket
 pub obeys_ticket : (k : Call) (s : State) (connection : ℕ) (c : Container) (asked : Asked) (e : State → Effect) (Q : FoldRow → Container → Type 0)
     → container_numbered c.number s ≡ Some c → IsTrue (gives_ticket k) → ((r : FoldRow) (d : Container) → r.id ≡ d.id → Q r d → Same r d)
-    → (Stands s → IsSound k → Tells c.number (Is c Same) e Q) → ((R : State → Effect → Type 0) → IsClosed R → Runs R e) → Obeys k s (begins connection c asked e s)
-obeys_ticket k s connection c asked e Q found is same tells runs = record {
+    → (Stands s → IsSound k → Tells c.number (Is c Same) e Q) → Obeys k s (begins connection c asked e s)
+obeys_ticket k s connection c asked e Q found is same tells = record {
   folds = λ h sound.
       let begin : Tells c.number (Is c Same) (change (begun connection c.number asked)) (Is c Same) =
       tells_apart (begun connection c.number asked) (λ s. refl) (λ s fit. fit) in
       folded_at c Q (and_then (change (begun connection c.number asked)) e) s same found (tells_then begin (tells h sound)) h.fit;
   reply = λ h. is;
-  runs = λ R closed.
-      closed.on_after s (still (begun connection c.number asked s)) (e (begun connection c.number asked s)) (closed.on_begun s connection c asked found)
-      ((runs R closed).holds (begun connection c.number asked s));
 }
 
 -- ---- references

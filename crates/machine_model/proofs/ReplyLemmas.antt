@@ -14,7 +14,6 @@ use Rattle.machine_model.proofs.ListLemmas.{all_append}
 use Rattle.machine_model.proofs.ClosureLemmas.{IsClosed}
 use Rattle.machine_model.proofs.ObeyLemmas.{IsTicketReply, HaveReplies}
 use Rattle.machine_model.proofs.ChangeLemmas.{all_removed}
-use Rattle.machine_model.proofs.DueLemmas.{runs_due}
 use Rattle.machine_model.proofs.CallLemmas.{obeys}
 use Rattle.engine_text.specs.declared.call.Call.{Call}
 use Rattle.engine_text.specs.declared.call.Until.{Until}
@@ -24,6 +23,7 @@ use Rattle.engine_text.specs.declared.step.DueAction.{DueAction}
 use Rattle.engine_text.specs.declared.step.Step.{Step}
 use Rattle.engine_text.specs.declared.ticket.Asked.{Asked}
 use Rattle.engine_text.specs.declared.ticket.Ticket.{Ticket}
+use Rattle.machine_model.proofs.ClosureLemmas.{runs_call, runs_due}
 
 -- ---- tickets that are answered
 
@@ -87,9 +87,8 @@ pub replies_closed : IsClosed KeepsReplies
 replies_closed = record {
   on_still = λ s h. h;
   on_after = λ s a b first second h. second (first h);
-  on_told = λ s a before behind c found h. h;
+  on_told = λ s v at h. h;
   on_mounts = λ s a c h. h;
-  on_volume = λ s a name h. h;
   on_ended = λ s d h. h;
   on_renew = λ s n f mark h. h;
   on_log = λ s n stream payload h. h;
@@ -120,13 +119,13 @@ due_keeps : (s : State) (o : Option DueAction) → HaveReplies s → HaveReplies
 due_keeps s None h = h
 due_keeps s (Some d) h =
     let e : Effect = due_effect d (at_moment d.moment s) in
-    settle e.state e.died ((runs_due replies_closed d).holds (at_moment d.moment s) h)
+    settle e.state e.died (runs_due replies_closed d (at_moment d.moment s) h)
 
 pub step_keeps : (s : State) (x : Step) → HaveReplies s → HaveReplies (after_step s x)
 step_keeps s Step.Due h = due_keeps s (least_due s) h
 step_keeps s (Step.Call connection moment c) h =
     let e : Effect = (outcome_of c connection (at_moment moment s)).effect in
-    settle e.state e.died ((obeys c connection (at_moment moment s)).runs KeepsReplies replies_closed h)
+    settle e.state e.died (runs_call replies_closed c connection (at_moment moment s) h)
 
 pub replies_from : (s : State) (h : List Step) → HaveReplies s → HaveReplies (state_from s h)
 replies_from s [] k = k

@@ -1,5 +1,5 @@
 -- What a create obeys.
-use Rattle.std.proofs.Common.{◌≡◌, ℕ, Bool, true, false, List, [], ◌∷◌, Option, Some, None, refl, ap, sym, ◌∙◌, subst, map, arith}
+use Rattle.std.proofs.Common.{◌≡◌, ℕ, Bool, true, false, List, [], ◌∷◌, Option, Some, None, refl, ap, sym, ◌∙◌, map, arith}
 use Rattle.std.proofs.lemmas.List.{map_push}
 use Rattle.machine_model.specs.State.{State}
 use Rattle.machine_model.specs.Chain.{Effect, change, and_then, each, tell}
@@ -12,11 +12,9 @@ use Rattle.machine_model.specs.Summary.{fold_on, inspect_summary, summary_row}
 use Rattle.machine_model.specs.Calls.Create.{volume_named, make_missing, unless_it_stands, new_container, with_new, add, by_holder, by_image}
 use Rattle.machine_model.proofs.Fold.RowLemmas.{Same, exact, whole}
 use Rattle.machine_model.proofs.Fold.TellLemmas.{Tells, Folded, tells_still, tells_at, tells_each, LifeInRange, fold_append}
-use Rattle.machine_model.proofs.ClosureLemmas.{IsClosed, Runs, runs_at, runs_each}
 use Rattle.machine_model.proofs.ObeyLemmas.{Stands, Obeys, obeys_answer, both_true, signal_range}
 use Rattle.machine_model.proofs.ListLemmas.{all_append}
-use Rattle.machine_model.proofs.VolumeLemmas.{made as volumes_made, with_mounts, mounts_stand}
-use Rattle.machine_model.proofs.Calls.VolumesLemmas.{tells_make_volume, runs_make_volume}
+use Rattle.machine_model.proofs.Calls.VolumesLemmas.{tells_make_volume}
 use Rattle.engine_text.specs.declared.call.Call.{Call}
 use Rattle.engine_text.specs.declared.container.Container.{Container}
 use Rattle.engine_text.specs.declared.call.CreateSpec.{CreateSpec}
@@ -32,14 +30,6 @@ tells_unless (Some v) name = tells_still
 
 tells_missing : (ms : List Mount) → Tells 0 Same (each make_missing ms) Same
 tells_missing ms = tells_each (λ (m : Mount). tells_at (λ s. unless_it_stands (volume_named m.volume s) m.volume) (λ s. tells_unless (volume_named m.volume s) m.volume)) ms
-
-runs_unless : (R : State → Effect → Type 0) → IsClosed R → (o : Option Volume) (name : List ℕ) (s : State) → volume_named name s ≡ o → R s (unless_it_stands o name s)
-runs_unless R k None name s e = runs_make_volume R k name [] s e
-runs_unless R k (Some v) name s e = k.on_still s
-
-runs_missing : {R : State → Effect → Type 0} → IsClosed R → (ms : List Mount) → Runs R (each make_missing ms)
-runs_missing {R} k ms =
-    runs_each k (λ (m : Mount). runs_at (λ s. unless_it_stands (volume_named m.volume s) m.volume) (λ s. runs_unless R k (volume_named m.volume s) m.volume s refl)) ms
 
 -- ---- the container
 
@@ -59,16 +49,6 @@ folded_add name spec s h low =
       (volumes.0.2, volumes.0.3, all_append LifeInRange a.state.containers (c ∷ []) volumes.0.4 ((omega arith, (signal_range spec.stop_signal low).0, (signal_range spec.stop_signal low).1), tt), volumes.0.5),
     )
 
-runs_add : (R : State → Effect → Type 0) → IsClosed R → (name : List ℕ) (spec : CreateSpec) (s : State) → holder name s.containers ≡ None → R s (add (new_container name spec s) s)
-runs_add R k name spec s free =
-    let c : Container = new_container name spec s in
-    let a : Effect = each make_missing spec.mounts s in
-    let vs : List Volume = with_mounts spec.mounts s.clock s.volumes in
-    let t : State = record s { volumes = vs } in
-    let added : R t (then_add c t) = k.on_made t name spec free (mounts_stand spec.mounts s.clock s.volumes) in
-    let behind : R a.state (then_add c a.state) = subst (λ (z : State). R z (then_add c z)) (sym (volumes_made spec.mounts s).0) added in
-    k.on_after s a (then_add c a.state) ((runs_missing k spec.mounts).holds s) behind
-
 signal_of : (spec : CreateSpec) → is_create spec ≡ true → is_signal spec.stop_signal ≡ true
 signal_of spec e = (both_true _ _ (both_true _ _ (both_true _ _ (both_true _ _ e).0).0).0).1
 
@@ -77,7 +57,6 @@ held name spec s (Some other) e = obeys_answer (Call.Create spec) s 409 _ refl
 held name spec s None e = record {
   folds = λ h sound. folded_add name spec s h (signal_of spec sound);
   reply = λ h. refl;
-  runs = λ R k. runs_add R k name spec s e;
 }
 
 imaged : (spec : CreateSpec) (s : State) (b : Bool) → Obeys (Call.Create spec) s (by_image b spec s)

@@ -1,14 +1,13 @@
 -- What an exec create obeys.
-use Rattle.std.proofs.Common.{◌≡◌, ℕ, Bool, List, [], ◌∷◌, Some, refl, codes}
+use Rattle.std.proofs.Common.{◌≡◌, ℕ, Bool, List, [], ◌∷◌, Some, refl}
 use Rattle.machine_model.specs.State.{State, container_numbered}
-use Rattle.machine_model.specs.Chain.{still, change, and_then, tell_of}
+use Rattle.machine_model.specs.Chain.{change, and_then, tell_of}
 use Rattle.machine_model.specs.Outcome.{Outcome, answers}
 use Rattle.machine_model.specs.Call.{outcome_of}
-use Rattle.machine_model.specs.EventTexts.{exec_event, pair}
+use Rattle.machine_model.specs.EventTexts.{exec_event}
 use Rattle.machine_model.specs.Calls.ExecCreate.{if_running, new_exec, with_exec, created}
 use Rattle.machine_model.proofs.Fold.RowLemmas.{Same}
 use Rattle.machine_model.proofs.Fold.TellLemmas.{Tells, tells_then, tells_quiet, tells_apart, HasByte}
-use Rattle.machine_model.proofs.ClosureLemmas.{runs_tell}
 use Rattle.machine_model.proofs.ObeyLemmas.{Obeys, obeys_answer, obeys_apart, obeys_at}
 use Rattle.machine_model.proofs.ListLemmas.{all_append}
 use Rattle.engine_text.specs.declared.call.Call.{Call}
@@ -40,8 +39,6 @@ makes target words stdin out err s c found =
     let x : Exec = new_exec c words stdin out err s in
     obeys_apart (Call.ExecCreate target words stdin out err) s (Reply.Answer 201 _) (and_then (change (with_exec x)) (tell_of (exec_event Action.ExecCreate x.id) c.number)) (λ h. refl)
     (λ sound. tells_created x c tt)
-    (λ R k. k.on_after s (still (with_exec x s)) (tell_of (exec_event Action.ExecCreate x.id) c.number (with_exec x s)) (k.on_made_exec s c words stdin out err found)
-    ((runs_tell k Action.ExecCreate (pair (codes "execID") x.id ∷ []) [] c.number).holds (with_exec x s)))
 
 pub exec_create_obeys : (target : List ℕ) (words : List (List ℕ)) (stdin out err : Bool) (connection : ℕ) (s : State)
     → Obeys (Call.ExecCreate target words stdin out err) s (outcome_of (Call.ExecCreate target words stdin out err) connection s)

@@ -1,14 +1,14 @@
 -- What an exec start and an exec inspect obey.
-use Rattle.std.proofs.Common.{ℕ, ◌==◌, Bool, true, false, not, List, [], ◌∷◌, Option, Some, None, refl, codes, find, ◌&&◌, IsTrue}
+use Rattle.std.proofs.Common.{ℕ, ◌==◌, Bool, true, false, not, List, Option, Some, None, refl, codes, find, ◌&&◌, IsTrue}
 use Rattle.engine_text.specs.Scripts.{Program}
 use Rattle.engine_text.specs.Texts.{same_bytes}
 use Rattle.proc_kernel.specs.Catalogue.{program_of}
 use Rattle.machine_model.specs.State.{State, container_numbered, change_exec}
-use Rattle.machine_model.specs.Chain.{Effect, change, with_found}
+use Rattle.machine_model.specs.Chain.{change, with_found}
 use Rattle.machine_model.specs.Outcome.{Outcome, replies, answers}
 use Rattle.machine_model.specs.Call.{outcome_of}
 use Rattle.machine_model.specs.Effects.Launch.{spawn}
-use Rattle.machine_model.specs.EventTexts.{exec_event, pair}
+use Rattle.machine_model.specs.EventTexts.{exec_event}
 use Rattle.machine_model.specs.Calls.Start.{if_program}
 use Rattle.machine_model.specs.Calls.ExecCreate.{if_running}
 use Rattle.machine_model.specs.Calls.ExecStart.{with_both, with_exec, exec_room, started, spawn_exec, start_reply, run, unless_started}
@@ -16,7 +16,6 @@ use Rattle.machine_model.specs.Statuses.{is_reply_of}
 use Rattle.machine_model.specs.Views.{exec_body}
 use Rattle.machine_model.proofs.Fold.RowLemmas.{Same}
 use Rattle.machine_model.proofs.Fold.TellLemmas.{Tells, tells_then, tells_still, tells_quiet, tells_apart, HasByte}
-use Rattle.machine_model.proofs.ClosureLemmas.{IsClosed, Runs, runs_then, runs_at, runs_found, runs_tell}
 use Rattle.machine_model.proofs.ObeyLemmas.{Obeys, obeys_answer, obeys_apart}
 use Rattle.machine_model.proofs.Processes.ProgramCodeLemmas.{OfProgram, program_coded}
 use Rattle.machine_model.proofs.Effects.LaunchLemmas.{tells_spawn}
@@ -50,12 +49,6 @@ tells_spawn_exec o detach x codes =
     (λ s fit. (fit.0, fit.1, fit.2, fit.3, fit.4, all_updated HasByte (λ y. y.number == x.number) (started s) (λ y h. h) s.execs fit.5)) in
     tells_then starts (tells_then (tells_script o (x.stdin && not detach) x codes) (tells_quiet x.container (exec_event Action.ExecStart x.id) (λ c t rs. refl)))
 
-runs_spawn_exec : {R : State → Effect → Type 0} → IsClosed R → (o : Option Program) (detach : Bool) (x : Exec) → Runs R (spawn_exec o detach x)
-runs_spawn_exec k o detach x =
-    let starts = runs_at (λ s. change (λ t. change_exec x.number (started s) t)) (λ s. k.on_exec s x.number (started s) (record { number = λ x. refl; id = λ x. refl; container = λ x. refl })) in
-    let spawns = runs_found k o (λ p. runs_at (λ s. change (spawn (OfExec x.number) p (x.stdin && not detach) exec_room)) (λ s. k.on_spawn s (OfExec x.number) p (x.stdin && not detach) exec_room)) in
-    runs_then k starts (runs_then k spawns (runs_tell k Action.ExecStart (pair (codes "execID") x.id ∷ []) [] x.container))
-
 replied : (id : List ℕ) (detach : Bool) (x : Exec) → IsTrue (is_reply_of (Call.ExecStart id detach) (start_reply detach x))
 replied id true x = refl
 replied id false x = refl
@@ -65,7 +58,6 @@ ran : (id : List ℕ) (detach : Bool) (s : State) (x : Exec) (o : Option Program
 ran id detach s x None codes = obeys_answer (Call.ExecStart id detach) s 400 _ refl
 ran id detach s x (Some p) codes =
     obeys_apart (Call.ExecStart id detach) s (start_reply detach x) (spawn_exec (Some p) detach x) (λ h. replied id detach x) (λ sound. tells_spawn_exec (Some p) detach x codes)
-    (λ R k. (runs_spawn_exec k (Some p) detach x).holds s)
 
 unless : (id : List ℕ) (detach : Bool) (s : State) (x : Exec) (c : Container) (b : Bool) → Obeys (Call.ExecStart id detach) s (unless_started b id (if_running c.life.status c (run detach x)) s)
 unless id detach s x c true = obeys_answer (Call.ExecStart id detach) s 409 _ refl

@@ -2,13 +2,11 @@
 use Rattle.std.proofs.Common.{ℕ, Bool, true, false, List, Option, Some, None, refl}
 use Rattle.proc_kernel.specs.Processes.{feed, feed_end}
 use Rattle.machine_model.specs.State.{State, container_numbered, change_process}
-use Rattle.machine_model.specs.Chain.{Effect}
 use Rattle.machine_model.specs.Call.{outcome_of}
 use Rattle.machine_model.specs.Streams.{RunState, Coming, Live, Over, run_state}
 use Rattle.machine_model.specs.Calls.Feed.{feed_process, end_input, feed_by, ends_if, ends_with, end_by_owner, feed_end_by}
 use Rattle.machine_model.proofs.Fold.RowLemmas.{Same}
 use Rattle.machine_model.proofs.Fold.TellLemmas.{Tells, tells_still, tells_at, tells_apart}
-use Rattle.machine_model.proofs.ClosureLemmas.{IsClosed, Runs, runs_still, runs_at, runs_process}
 use Rattle.machine_model.proofs.ObeyLemmas.{Obeys, obeys_reply, obeys_apart}
 use Rattle.machine_model.proofs.Processes.CodeLemmas.{all_changed, coded_feed, coded_feed_end}
 use Rattle.engine_text.specs.declared.call.Call.{Call}
@@ -25,7 +23,6 @@ by owner run bytes s Live =
     obeys_apart (Call.Feed owner run bytes) s (Reply.Fed true) (feed_process owner bytes) (λ h. refl)
     (λ sound. tells_apart (λ s. change_process owner (feed bytes s.clock) s) (λ s. refl)
     (λ s fit. (fit.0, fit.1, fit.2, all_changed owner (feed bytes s.clock) (λ p h. coded_feed bytes s.clock p h) s.processes fit.3, fit.4, fit.5)))
-    (λ R k. k.on_process s owner (feed bytes s.clock))
 
 pub feed_obeys : (owner : Owner) (run : ℕ) (bytes : List ℕ) (connection : ℕ) (s : State) → Obeys (Call.Feed owner run bytes) s (outcome_of (Call.Feed owner run bytes) connection s)
 feed_obeys owner run bytes connection s = by owner run bytes s (run_state owner run s)
@@ -37,38 +34,23 @@ tells_end owner =
     tells_apart (λ s. change_process owner (feed_end s.clock) s) (λ s. refl)
     (λ s fit. (fit.0, fit.1, fit.2, all_changed owner (feed_end s.clock) (λ p h. coded_feed_end s.clock p h) s.processes fit.3, fit.4, fit.5))
 
-runs_end : {R : State → Effect → Type 0} → IsClosed R → (owner : Owner) → Runs R (end_input owner)
-runs_end k owner = runs_process k owner (λ s. feed_end s.clock)
-
 tells_if : (b : Bool) (owner : Owner) → Tells 0 Same (ends_if b owner) Same
 tells_if true owner = tells_end owner
 tells_if false owner = tells_still
-
-runs_if : {R : State → Effect → Type 0} → IsClosed R → (b : Bool) (owner : Owner) → Runs R (ends_if b owner)
-runs_if k true owner = runs_end k owner
-runs_if k false owner = runs_still k
 
 tells_of : (o : Option Container) (owner : Owner) → Tells 0 Same (ends_with o owner) Same
 tells_of None owner = tells_still
 tells_of (Some c) owner = tells_if c.life.stdin_once owner
 
-runs_of : {R : State → Effect → Type 0} → IsClosed R → (o : Option Container) (owner : Owner) → Runs R (ends_with o owner)
-runs_of k None owner = runs_still k
-runs_of k (Some c) owner = runs_if k c.life.stdin_once owner
-
 tells_owner : (owner : Owner) → Tells 0 Same (end_by_owner owner) Same
 tells_owner (OfExec n) = tells_end (OfExec n)
 tells_owner (OfContainer n) = tells_at (λ s. ends_with (container_numbered n s) (OfContainer n)) (λ s. tells_of (container_numbered n s) (OfContainer n))
-
-runs_owner : {R : State → Effect → Type 0} → IsClosed R → (owner : Owner) → Runs R (end_by_owner owner)
-runs_owner k (OfExec n) = runs_end k (OfExec n)
-runs_owner k (OfContainer n) = runs_at (λ s. ends_with (container_numbered n s) (OfContainer n)) (λ s. (runs_of k (container_numbered n s) (OfContainer n)).holds s)
 
 ends_by : (owner : Owner) (run : ℕ) (s : State) (r : RunState) → Obeys (Call.FeedEnd owner run) s (feed_end_by r owner s)
 ends_by owner run s Over = obeys_reply (Call.FeedEnd owner run) s (Reply.Fed false) refl
 ends_by owner run s Coming = obeys_reply (Call.FeedEnd owner run) s (Reply.Fed false) refl
 ends_by owner run s Live =
-    obeys_apart (Call.FeedEnd owner run) s (Reply.Fed true) (end_by_owner owner) (λ h. refl) (λ sound. tells_owner owner) (λ R k. (runs_owner k owner).holds s)
+    obeys_apart (Call.FeedEnd owner run) s (Reply.Fed true) (end_by_owner owner) (λ h. refl) (λ sound. tells_owner owner)
 
 pub feed_end_obeys : (owner : Owner) (run connection : ℕ) (s : State) → Obeys (Call.FeedEnd owner run) s (outcome_of (Call.FeedEnd owner run) connection s)
 feed_end_obeys owner run connection s = ends_by owner run s (run_state owner run s)

@@ -1,24 +1,23 @@
 -- What a kill obeys.
-use Rattle.std.proofs.Common.{◌≡◌, ℕ, ◌==◌, Bool, true, false, List, [], ◌∷◌, Option, Some, None, refl, ap, sym, ◌∙◌, subst, arith, ◌<◌, if◌then◌else◌, codes, decimal}
+use Rattle.std.proofs.Common.{◌≡◌, ℕ, ◌==◌, Bool, true, false, List, [], ◌∷◌, Option, Some, None, refl, ap, sym, ◌∙◌, subst, ◌<◌, if◌then◌else◌}
 use Rattle.proc_kernel.specs.Processes.{Process, ProcessStep, signal as signalled, is_frozen, lives, set_waiting}
 use Rattle.proc_kernel.specs.Tables.{effect_of, process_of}
 use Rattle.api_json.specs.Status.{is_paused}
 use Rattle.machine_model.specs.State.{State, container_numbered}
 use Rattle.machine_model.specs.Chain.{Effect, still, change, and_then, each, renew, tell_of, after, tell, with_found}
 use Rattle.machine_model.specs.Call.{outcome_of}
-use Rattle.machine_model.specs.EventTexts.{kill_event, pair}
+use Rattle.machine_model.specs.EventTexts.{kill_event}
 use Rattle.machine_model.specs.Consistency.{IsFrozenAs, IsFrozenRight}
 use Rattle.machine_model.specs.Effects.Cancel.{cancel_restart}
 use Rattle.machine_model.specs.Effects.Meet.{send, stepped, by_effect}
 use Rattle.machine_model.specs.Calls.Kill.{is_final, by_hand, deliver, kill_running, kill_restarting, by_status}
 use Rattle.machine_model.proofs.Fold.RowLemmas.{Same}
 use Rattle.machine_model.proofs.Fold.TellLemmas.{Tells, Folded, tells_then, tells_from, tells_quiet, folded_at}
-use Rattle.machine_model.proofs.ClosureLemmas.{IsClosed, Runs, runs_then, runs_tell, runs_renew}
 use Rattle.machine_model.proofs.ObeyLemmas.{Stands, Obeys, obeys_answer, obeys_found, obeys_at, both_true, low_signal, found_all}
 use Rattle.machine_model.proofs.Effects.LaunchLemmas.{Awake, awake_same}
-use Rattle.machine_model.proofs.Effects.MeetLemmas.{awake_if, tells_send, tells_meet, runs_send, runs_meet}
+use Rattle.machine_model.proofs.Effects.MeetLemmas.{awake_if, tells_send, tells_meet}
 use Rattle.machine_model.proofs.Processes.CodeLemmas.{all_changed, coded_signal}
-use Rattle.machine_model.proofs.Effects.CancelLemmas.{tells_cancel, runs_cancel}
+use Rattle.machine_model.proofs.Effects.CancelLemmas.{tells_cancel}
 use Rattle.machine_model.proofs.Effects.HaltLemmas.{same_mark}
 use Rattle.engine_text.specs.declared.call.Call.{Call}
 use Rattle.engine_text.specs.declared.container.Container.{Container}
@@ -28,7 +27,6 @@ use Rattle.engine_text.specs.declared.owner.Owner.TheVariants.{Container as OfCo
 use Rattle.engine_text.specs.declared.script.Effect.{Effect as ProcessEffect}
 use Rattle.engine_text.specs.declared.script.Effect.TheVariants.{Lives}
 use Rattle.engine_text.specs.declared.signal.Signal.{Signal}
-use Rattle.engine_text.specs.declared.event.Action.TheVariants as Action
 
 -- ---- a signal that waits in a frozen process
 
@@ -62,14 +60,6 @@ folded_waiting s c number low h found is =
 abbrev the_kill : Signal → Container → Bool → State → Effect
 the_kill signal c final = and_then (tell_of (kill_event signal.number) c.number) (deliver final signal.number c.number)
 
-runs_deliver : {R : State → Effect → Type 0} → IsClosed R → (final : Bool) (number n : ℕ) → Runs R (deliver final number n)
-runs_deliver k true number n = runs_then k (runs_renew k n by_hand (record { mounts = λ l. refl; log = λ l. refl; starts = λ l. omega arith })) (runs_meet k number n)
-runs_deliver k false number n = runs_send k false number n
-
-runs_kill : {R : State → Effect → Type 0} → IsClosed R → (signal : Signal) (c : Container) (final : Bool) → Runs R (the_kill signal c final)
-runs_kill k signal c final =
-    runs_then k (runs_tell k Action.Kill [] (pair (codes "signal") (decimal signal.number) ∷ []) c.number) (runs_deliver k final signal.number c.number)
-
 -- by whether the container is paused, and whether the signal ends it
 folded_kill : (s : State) (c : Container) (signal : Signal) (final paused : Bool) → signal.number < 128 → Stands s → container_numbered c.number s ≡ Some c
     → is_paused c.life.status ≡ paused → Folded s (the_kill signal c final s)
@@ -88,7 +78,6 @@ kills : (target : List ℕ) (signal : Signal) (s : State) (c : Container) → co
 kills target signal s c found = record {
   folds = λ h sound. folded_kill s c signal (is_final signal c) (is_paused c.life.status) (low_signal signal (both_true _ _ sound).1) h found refl;
   reply = λ h. refl;
-  runs = λ R k. (runs_kill k signal c (is_final signal c)).holds s;
 }
 
 cancels : (target : List ℕ) (signal : Signal) (s : State) (c : Container) (final : Bool) → container_numbered c.number s ≡ Some c → c.life.status ≡ Status.Restarting
@@ -97,7 +86,6 @@ cancels target signal s c false found e = obeys_answer (Call.Kill target signal)
 cancels target signal s c true found e =
     obeys_found (Call.Kill target signal) s c (Reply.Answer 204 []) (and_then (tell_of (kill_event signal.number) c.number) (cancel_restart c.number)) Awake found refl awake_same
     (λ h sound. tells_from (awake_if Status.Restarting c e refl) (tells_then (tells_quiet c.number (kill_event signal.number) (λ c t rs. refl)) (tells_cancel c.number)))
-    (λ R k. runs_then k (runs_tell k Action.Kill [] (pair (codes "signal") (decimal signal.number) ∷ []) c.number) (runs_cancel k c.number))
 
 by : (target : List ℕ) (signal : Signal) (s : State) (c : Container) (u : Status) → container_numbered c.number s ≡ Some c → c.life.status ≡ u
     → Obeys (Call.Kill target signal) s (by_status u signal c s)

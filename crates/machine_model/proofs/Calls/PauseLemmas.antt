@@ -1,15 +1,14 @@
 -- What a pause obeys.
-use Rattle.std.proofs.Common.{◌≡◌, ℕ, ◌==◌, true, not, List, [], Some, refl, ap, sym, arith}
+use Rattle.std.proofs.Common.{◌≡◌, ℕ, ◌==◌, true, not, List, [], Some, refl, ap, sym}
 use Rattle.api_json.specs.Status.{is_paused}
 use Rattle.proc_kernel.specs.Processes.{freeze}
 use Rattle.machine_model.specs.State.{State, container_numbered, change_process, running_execs}
-use Rattle.machine_model.specs.Chain.{Effect, each, renew, tell_of}
+use Rattle.machine_model.specs.Chain.{each, renew, tell_of}
 use Rattle.machine_model.specs.Call.{outcome_of}
 use Rattle.machine_model.specs.EventTexts.{plain_event}
 use Rattle.machine_model.specs.Calls.Pause.{paused, freeze_process, freeze_execs, pause, by_status}
 use Rattle.machine_model.proofs.Fold.RowLemmas.{Same}
 use Rattle.machine_model.proofs.Fold.TellLemmas.{Tells, tells_then, tells_from, tells_at, tells_row, tells_renew, tells_apart, tells_each, row_is}
-use Rattle.machine_model.proofs.ClosureLemmas.{IsClosed, Runs, runs_then, runs_at, runs_each, runs_tell, runs_renew, runs_process}
 use Rattle.machine_model.proofs.ObeyLemmas.{Obeys, obeys_answer, obeys_found, obeys_at}
 use Rattle.machine_model.proofs.Processes.CodeLemmas.{all_changed, coded_freeze}
 use Rattle.engine_text.specs.declared.call.Call.{Call}
@@ -44,21 +43,10 @@ tells_pause n =
     (λ r c t id h. (id, row_is (record r { paused = true }) c id h.0 h.1 (sym h.3) h.2)) in
     tells_then (tells_freeze (OfContainer n)) (tells_then (tells_freeze_execs n) (tells_then marks tells))
 
-runs_freeze : {R : State → Effect → Type 0} → IsClosed R → (owner : Owner) → Runs R (freeze_process owner)
-runs_freeze k owner = runs_process k owner (λ s. freeze s.clock)
-
-runs_pause : {R : State → Effect → Type 0} → IsClosed R → (n : ℕ) → Runs R (pause n)
-runs_pause k n =
-    let execs = runs_at (λ s. each (λ (x : Exec). freeze_process (OfExec x.number)) (running_execs n s))
-    (λ s. (runs_each k (λ (x : Exec). runs_freeze k (OfExec x.number)) (running_execs n s)).holds s) in
-    runs_then k (runs_freeze k (OfContainer n))
-    (runs_then k execs
-    (runs_then k (runs_renew k n paused (record { mounts = λ l. refl; log = λ l. refl; starts = λ l. omega arith })) (runs_tell k Action.Pause [] [] n)))
-
 by : (target : List ℕ) (s : State) (c : Container) (u : Status) → container_numbered c.number s ≡ Some c → Obeys (Call.Pause target) s (by_status u c s)
 by target s c Status.Running found =
     obeys_found (Call.Pause target) s c (Reply.Answer 204 []) (pause c.number) Same found refl (λ r d id h. h)
-    (λ h sound. tells_from (λ r d id h. h.1) (tells_pause c.number)) (λ R k. runs_pause k c.number)
+    (λ h sound. tells_from (λ r d id h. h.1) (tells_pause c.number))
 by target s c Status.Created found = obeys_answer (Call.Pause target) s 409 _ refl
 by target s c Status.Paused found = obeys_answer (Call.Pause target) s 409 _ refl
 by target s c Status.Restarting found = obeys_answer (Call.Pause target) s 409 _ refl

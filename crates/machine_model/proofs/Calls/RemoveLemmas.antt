@@ -1,22 +1,20 @@
 -- What a remove obeys.
-use Rattle.std.proofs.Common.{◌≡◌, ℕ, ◌+◌, Bool, true, false, List, [], ◌∷◌, Some, refl, arith, codes, decimal}
-use Rattle.container_table.specs.Timers.{with_timer}
+use Rattle.std.proofs.Common.{◌≡◌, ℕ, ◌+◌, Bool, true, false, List, [], Some, refl, arith}
 use Rattle.machine_model.specs.State.{State, container_numbered, is_live, set_timer}
-use Rattle.machine_model.specs.Chain.{Effect, and_then, renew}
+use Rattle.machine_model.specs.Chain.{and_then, renew}
 use Rattle.machine_model.specs.Outcome.{replies}
 use Rattle.machine_model.specs.Call.{outcome_of}
-use Rattle.machine_model.specs.EventTexts.{kill_event, pair}
+use Rattle.machine_model.specs.EventTexts.{kill_event}
 use Rattle.machine_model.specs.Effects.Cancel.{cancel_restart}
 use Rattle.machine_model.specs.Effects.Destroy.{destroy}
 use Rattle.machine_model.specs.Calls.Remove.{to_remove, removing, if_it_lives, kill_to_remove, remove_running, remove_restarting, remove_dead, by_status}
 use Rattle.machine_model.proofs.Fold.RowLemmas.{Same, Is}
 use Rattle.machine_model.proofs.Fold.TellLemmas.{Tells, tells_then, tells_from, tells_still, tells_at, tells_quiet, tells_apart}
-use Rattle.machine_model.proofs.ClosureLemmas.{IsClosed, Runs, runs_still, runs_then, runs_at, runs_tell, runs_renew, runs_timers}
 use Rattle.machine_model.proofs.ObeyLemmas.{Obeys, obeys_answer, obeys_found, obeys_ticket, obeys_at}
 use Rattle.machine_model.proofs.Effects.LaunchLemmas.{Awake, awake_same}
-use Rattle.machine_model.proofs.Effects.MeetLemmas.{awake_if, tells_meet, runs_meet}
-use Rattle.machine_model.proofs.Effects.CancelLemmas.{tells_cancel, runs_cancel}
-use Rattle.machine_model.proofs.Effects.DestroyLemmas.{tells_destroy, runs_destroy}
+use Rattle.machine_model.proofs.Effects.MeetLemmas.{awake_if, tells_meet}
+use Rattle.machine_model.proofs.Effects.CancelLemmas.{tells_cancel}
+use Rattle.machine_model.proofs.Effects.DestroyLemmas.{tells_destroy}
 use Rattle.machine_model.proofs.Effects.EndMainLemmas.{awake_renew}
 use Rattle.machine_model.proofs.Effects.HaltLemmas.{same_mark}
 use Rattle.engine_text.specs.declared.call.Call.{Call}
@@ -25,7 +23,6 @@ use Rattle.engine_text.specs.declared.reply.Reply.{Reply}
 use Rattle.engine_text.specs.declared.status.Status.{Status}
 use Rattle.engine_text.specs.declared.owner.Owner.TheVariants.{Container as OfContainer}
 use Rattle.engine_text.specs.declared.ticket.Asked.TheVariants as Asked
-use Rattle.engine_text.specs.declared.event.Action.TheVariants as Action
 
 tells_if_it_lives : (b : Bool) (n : ℕ) → Tells n Awake (if_it_lives b n) Awake
 tells_if_it_lives false n = tells_still
@@ -39,30 +36,18 @@ tells_to_remove n =
     tells_at (λ s. if_it_lives (is_live (OfContainer n) s) n) (λ s. tells_if_it_lives (is_live (OfContainer n) s) n) in
     tells_then (tells_quiet n (kill_event 9) (λ c t rs. refl)) (tells_then marks (tells_then (tells_meet 9 n (omega arith)) lives))
 
-runs_if_it_lives : {R : State → Effect → Type 0} → IsClosed R → (b : Bool) (n : ℕ) → Runs R (if_it_lives b n)
-runs_if_it_lives k false n = runs_still k
-runs_if_it_lives k true n =
-    runs_then k (runs_renew k n removing (record { mounts = λ l. refl; log = λ l. refl; starts = λ l. omega arith }))
-    (runs_timers k (λ s. with_timer (s.clock + 10000) 2 n s.timers))
-
-runs_to_remove : {R : State → Effect → Type 0} → IsClosed R → (n : ℕ) → Runs R (kill_to_remove n)
-runs_to_remove k n =
-    let lives = runs_at (λ s. if_it_lives (is_live (OfContainer n) s) n) (λ s. (runs_if_it_lives k (is_live (OfContainer n) s) n).holds s) in
-    runs_then k (runs_tell k Action.Kill [] (pair (codes "signal") (decimal 9) ∷ []) n)
-    (runs_then k (runs_renew k n to_remove (record { mounts = λ l. refl; log = λ l. refl; starts = λ l. omega arith })) (runs_then k (runs_meet k 9 n) lives))
-
 gone : (target : List ℕ) (force : Bool) (s : State) (c : Container) → container_numbered c.number s ≡ Some c
     → Obeys (Call.Remove target force) s (replies (Reply.Answer 204 []) (destroy c.number) s)
 gone target force s c found =
     obeys_found (Call.Remove target force) s c (Reply.Answer 204 []) (destroy c.number) Same found refl (λ r d id h. h)
-    (λ h sound. tells_destroy c.number (Is c Same) Same) (λ R k. runs_destroy k c.number)
+    (λ h sound. tells_destroy c.number (Is c Same) Same)
 
 running : (target : List ℕ) (force : Bool) (connection : ℕ) (s : State) (c : Container) → container_numbered c.number s ≡ Some c
     → Obeys (Call.Remove target force) s (remove_running force connection c s)
 running target false connection s c found = obeys_answer (Call.Remove target false) s 409 _ refl
 running target true connection s c found =
     obeys_ticket (Call.Remove target true) s connection c Asked.Remove (kill_to_remove c.number) Awake found refl awake_same
-    (λ h sound. tells_from (λ r d id h. h.1) (tells_to_remove c.number)) (λ R k. runs_to_remove k c.number)
+    (λ h sound. tells_from (λ r d id h. h.1) (tells_to_remove c.number))
 
 restarts : (target : List ℕ) (force : Bool) (s : State) (c : Container) → container_numbered c.number s ≡ Some c → c.life.status ≡ Status.Restarting
     → Obeys (Call.Remove target force) s (remove_restarting force c s)
@@ -70,7 +55,6 @@ restarts target false s c found e = obeys_answer (Call.Remove target false) s 40
 restarts target true s c found e =
     obeys_found (Call.Remove target true) s c (Reply.Answer 204 []) (and_then (cancel_restart c.number) (destroy c.number)) Same found refl (λ r d id h. h)
     (λ h sound. tells_from (awake_if Status.Restarting c e refl) (tells_then (tells_cancel c.number) (tells_destroy c.number Awake Same)))
-    (λ R k. runs_then k (runs_cancel k c.number) (runs_destroy k c.number))
 
 dead : (target : List ℕ) (force : Bool) (s : State) (c : Container) (b : Bool) → container_numbered c.number s ≡ Some c → Obeys (Call.Remove target force) s (remove_dead b c s)
 dead target force s c true found = obeys_answer (Call.Remove target force) s 409 _ refl

@@ -1,22 +1,20 @@
 -- What a rename obeys.
-use Rattle.std.proofs.Common.{◌≡◌, ℕ, Bool, true, false, List, [], ◌∷◌, Option, Some, None, refl, ap, codes}
+use Rattle.std.proofs.Common.{◌≡◌, ℕ, Bool, true, false, List, Option, Some, None, refl, ap}
 use Rattle.engine_text.specs.Texts.{same_bytes, without_slash}
 use Rattle.machine_model.specs.State.{State, container_numbered, change_container}
-use Rattle.machine_model.specs.Chain.{Effect, still, change, tell_of}
+use Rattle.machine_model.specs.Chain.{change, tell_of}
 use Rattle.machine_model.specs.Call.{outcome_of}
-use Rattle.machine_model.specs.EventTexts.{rename_event, pair}
+use Rattle.machine_model.specs.EventTexts.{rename_event}
 use Rattle.machine_model.specs.Names.{holder}
 use Rattle.machine_model.specs.Summary.{summary_row}
 use Rattle.machine_model.specs.Calls.Rename.{named, rename, by_holder, by_own_name, by_status, rename_standing}
 use Rattle.machine_model.proofs.Fold.RowLemmas.{Same, changed}
 use Rattle.machine_model.proofs.Fold.TellLemmas.{Tells, tells_then, tells_from, tells_row, row_is, fit_changed, folded_at}
-use Rattle.machine_model.proofs.ClosureLemmas.{IsClosed, runs_tell}
 use Rattle.machine_model.proofs.ObeyLemmas.{Obeys, obeys_answer, obeys_at}
 use Rattle.engine_text.specs.declared.call.Call.{Call}
 use Rattle.engine_text.specs.declared.container.Container.{Container}
 use Rattle.engine_text.specs.declared.event.FoldRow.{FoldRow}
 use Rattle.engine_text.specs.declared.status.Status.{Status}
-use Rattle.engine_text.specs.declared.event.Action.TheVariants as Action
 
 -- before its rename is told
 abbrev Renamed : List ℕ → FoldRow → Container → Type 0
@@ -36,12 +34,6 @@ tells_rename name c =
     (λ r d t id h. (id, row_is (record r { name = d.name }) d id refl h.0 h.1 h.2)) in
     tells_then names tells
 
-runs_rename : (R : State → Effect → Type 0) → IsClosed R → (name : List ℕ) (c : Container) (s : State) → container_numbered c.number s ≡ Some c → holder name s.containers ≡ None
-    → R s (rename name c s)
-runs_rename R k name c s found free =
-    k.on_after s (still (change_container c.number (named name) s)) (tell_of (rename_event c.name) c.number (change_container c.number (named name) s)) (k.on_renamed s c name found free)
-    ((runs_tell k Action.Rename [] (pair (codes "oldName") c.name ∷ []) c.number).holds (change_container c.number (named name) s))
-
 held : (target name : List ℕ) (s : State) (c : Container) (o : Option Container) → container_numbered c.number s ≡ Some c → holder (without_slash name) s.containers ≡ o
     → Obeys (Call.Rename target name) s (by_holder o (without_slash name) c s)
 held target name s c (Some other) found e = obeys_answer (Call.Rename target name) s 409 _ refl
@@ -49,7 +41,6 @@ held target name s c None found e = record {
   folds = λ h sound. folded_at c Same (rename (without_slash name) c) s (λ r d id k. k) found
       (tells_from (λ r d id k. k.1) (tells_rename (without_slash name) c)) h.fit;
   reply = λ h. refl;
-  runs = λ R k. runs_rename R k (without_slash name) c s found e;
 }
 
 own : (target name : List ℕ) (s : State) (c : Container) (b : Bool) → container_numbered c.number s ≡ Some c → Obeys (Call.Rename target name) s (by_own_name b (without_slash name) c s)

@@ -10,7 +10,7 @@ use Rattle.machine_model.specs.Effects.Launch.{launch_by_call}
 use Rattle.machine_model.proofs.Fold.RowLemmas.{Same, Is}
 use Rattle.machine_model.proofs.Fold.TellLemmas.{tells_from}
 use Rattle.machine_model.proofs.ObeyLemmas.{Obeys, obeys_answer, obeys_found, obeys_at}
-use Rattle.machine_model.proofs.Effects.LaunchLemmas.{Awake, awake_same, tells_launch_by_call, runs_launch_by_call}
+use Rattle.machine_model.proofs.Effects.LaunchLemmas.{Awake, awake_same, tells_launch_by_call}
 use Rattle.machine_model.proofs.Effects.MeetLemmas.{awake_if}
 use Rattle.engine_text.specs.declared.call.Call.{Call}
 use Rattle.engine_text.specs.declared.container.Container.{Container}
@@ -23,7 +23,7 @@ ran : (target : List ℕ) (s : State) (c : Container) (o : Option Program) (u : 
 ran target s c None u found e awake = obeys_answer (Call.Start target) s 400 _ refl
 ran target s c (Some program) u found e awake =
     obeys_found (Call.Start target) s c (Reply.Answer 204 []) (launch_by_call c.number) Awake found refl awake_same
-    (λ h sound. tells_from awake (tells_launch_by_call c.number)) (λ R k. runs_launch_by_call k c.number)
+    (λ h sound. tells_from awake (tells_launch_by_call c.number))
 
 by : (target : List ℕ) (s : State) (c : Container) (u : Status) → container_numbered c.number s ≡ Some c → c.life.status ≡ u → Obeys (Call.Start target) s (by_status u c s)
 by target s c Status.Created found e = ran target s c (program_of c.life.words 1) Status.Created found e (awake_if Status.Created c e refl)

@@ -29,8 +29,8 @@ taken n s (Some t) e h = given n t.reply (found_all (λ (t : Ticket). IsTicketRe
 pub take_obeys : (n connection : ℕ) (s : State) → Obeys (Call.Take n) s (outcome_of (Call.Take n) connection s)
 take_obeys n connection s =
     obeys_apart (Call.Take n) s (ticket_reply (ticket_numbered n s)) (change (end_ticket n)) (taken n s (ticket_numbered n s) refl)
-    (λ sound. tells_apart (end_ticket n) (λ s. refl) (λ s fit. fit)) (λ R k. k.on_end_ticket s n)
+    (λ sound. tells_apart (end_ticket n) (λ s. refl) (λ s fit. fit))
 
 pub drop_obeys : (n connection : ℕ) (s : State) → Obeys (Call.Drop n) s (outcome_of (Call.Drop n) connection s)
 drop_obeys n connection s =
-    obeys_apart (Call.Drop n) s Reply.Dropped (change (end_ticket n)) (λ h. refl) (λ sound. tells_apart (end_ticket n) (λ s. refl) (λ s fit. fit)) (λ R k. k.on_end_ticket s n)
+    obeys_apart (Call.Drop n) s Reply.Dropped (change (end_ticket n)) (λ h. refl) (λ sound. tells_apart (end_ticket n) (λ s. refl) (λ s fit. fit))

@@ -1,7 +1,7 @@
 -- What the calls of volumes obey.
 use Rattle.std.proofs.Common.{◌≡◌, ℕ, Bool, true, false, List, [], ◌∷◌, Option, Some, None, refl}
 use Rattle.machine_model.specs.State.{State}
-use Rattle.machine_model.specs.Chain.{Effect, still, tell}
+use Rattle.machine_model.specs.Chain.{tell}
 use Rattle.machine_model.specs.Outcome.{answers}
 use Rattle.machine_model.specs.Call.{outcome_of}
 use Rattle.machine_model.specs.EventTexts.{volume_event}
@@ -9,7 +9,6 @@ use Rattle.machine_model.specs.Calls.Create.{volume_named, make_volume, placed, 
 use Rattle.machine_model.specs.Calls.Volumes.{by_standing, with_volume, without_volume, remove_volume, is_in_use, unless_in_use}
 use Rattle.machine_model.specs.Views.{volume_body}
 use Rattle.machine_model.proofs.Fold.TellLemmas.{Tells, tells_then, tells_apart}
-use Rattle.machine_model.proofs.ClosureLemmas.{IsClosed}
 use Rattle.machine_model.proofs.ObeyLemmas.{Obeys, obeys_answer, obeys_apart}
 use Rattle.engine_text.specs.declared.call.Call.{Call}
 use Rattle.engine_text.specs.declared.container.Container.{Container}
@@ -28,15 +27,10 @@ pub tells_make_volume : {n : ℕ} {P : FoldRow → Container → Type 0} (name :
 tells_make_volume name labels =
     tells_then (tells_apart (λ s. record s { volumes = placed (new_volume name labels s.clock) s.volumes }) (λ s. refl) (λ s fit. fit)) (tells_volume Acts.Create name)
 
-pub runs_make_volume : (R : State → Effect → Type 0) → IsClosed R → (name : List ℕ) (labels : List Pair) (s : State) → volume_named name s ≡ None → R s (make_volume name labels s)
-runs_make_volume R k name labels s none =
-    let t : State = record s { volumes = placed (new_volume name labels s.clock) s.volumes } in
-    k.on_after s (still t) (tell (volume_event Acts.Create name t.clock ∷ []) t) (k.on_made_volume s name labels none) (k.on_volume t Acts.Create name)
-
 standing : (name : List ℕ) (labels : List Pair) (s : State) (o : Option Volume) → volume_named name s ≡ o → Obeys (Call.VolumeCreate name labels) s (by_standing o name labels s)
 standing name labels s (Some v) e = obeys_answer (Call.VolumeCreate name labels) s 201 _ refl
 standing name labels s None e =
-    obeys_apart (Call.VolumeCreate name labels) s (Reply.Answer 201 _) (make_volume name labels) (λ h. refl) (λ sound. tells_make_volume name labels) (λ R k. runs_make_volume R k name labels s e)
+    obeys_apart (Call.VolumeCreate name labels) s (Reply.Answer 201 _) (make_volume name labels) (λ h. refl) (λ sound. tells_make_volume name labels)
 
 pub volume_create_obeys : (name : List ℕ) (labels : List Pair) (connection : ℕ) (s : State) → Obeys (Call.VolumeCreate name labels) s (outcome_of (Call.VolumeCreate name labels) connection s)
 volume_create_obeys name labels connection s = standing name labels s (volume_named name s) refl
@@ -54,8 +48,6 @@ in_use name s true e = obeys_answer (Call.VolumeRemove name) s 409 _ refl
 in_use name s false e =
     obeys_apart (Call.VolumeRemove name) s (Reply.Answer 204 []) (remove_volume name) (λ h. refl)
     (λ sound. tells_then (tells_apart (without_volume name) (λ s. refl) (λ s fit. fit)) (tells_volume Acts.Destroy name))
-    (λ R k. k.on_after s (still (without_volume name s)) (tell (volume_event Acts.Destroy name s.clock ∷ []) (without_volume name s)) (k.on_gone_volume s name e)
-    (k.on_volume (without_volume name s) Acts.Destroy name))
 
 removes : (name : List ℕ) (s : State) (o : Option Volume) → Obeys (Call.VolumeRemove name) s (with_volume o name (λ v s. unless_in_use (is_in_use name s) name s) s)
 removes name s None = obeys_answer (Call.VolumeRemove name) s 404 _ refl

@@ -6,7 +6,6 @@ use Rattle.machine_model.specs.Call.{outcome_of}
 use Rattle.machine_model.specs.Tickets.{begins}
 use Rattle.machine_model.proofs.Fold.RowLemmas.{Same}
 use Rattle.machine_model.proofs.Fold.TellLemmas.{tells_from, tells_still}
-use Rattle.machine_model.proofs.ClosureLemmas.{runs_still}
 use Rattle.machine_model.proofs.ObeyLemmas.{Obeys, obeys_ticket, obeys_at}
 use Rattle.engine_text.specs.declared.call.Call.{Call}
 use Rattle.engine_text.specs.declared.call.Until.{Until}
@@ -16,4 +15,4 @@ pub wait_obeys : (target : List ℕ) (until : Until) (connection : ℕ) (s : Sta
 wait_obeys target until connection s =
     obeys_at (Call.Wait target until) s target (λ c. begins connection c (Asked.Wait until) still) refl refl
     (λ c found. obeys_ticket (Call.Wait target until) s connection c (Asked.Wait until) still Same found refl (λ r d id h. h)
-    (λ h sound. tells_from (λ r d id h. h.1) tells_still) (λ R k. runs_still k))
+    (λ h sound. tells_from (λ r d id h. h.1) tells_still))

@@ -18,8 +18,6 @@ use Rattle.machine_model.specs.Streams.{RunState, Coming, Live, Over, run_state}
 use Rattle.machine_model.specs.History.{greatest_moment, latest, is_by, is_due, IsLawfulCall, IsLawful, after_step}
 use Rattle.machine_model.proofs.ListLemmas.{all_weaken}
 use Rattle.machine_model.proofs.Fold.RowLemmas.{same_some}
-use Rattle.machine_model.proofs.DueLemmas.{runs_due}
-use Rattle.machine_model.proofs.CallLemmas.{obeys}
 use Rattle.machine_model.proofs.Kept.TableLemmas.{names_step, volumes_step, tickets_step}
 use Rattle.machine_model.proofs.Fits.StepLemmas.{mains_step}
 use Rattle.machine_model.proofs.Costs.CostLemmas.{Cost, IsMost, most_of}
@@ -40,6 +38,7 @@ use Rattle.engine_text.specs.declared.owner.Owner.TheVariants.{Container as OfCo
 use Rattle.engine_text.specs.declared.step.DueAction.{DueAction}
 use Rattle.engine_text.specs.declared.step.Step.{Step}
 use Rattle.engine_text.specs.declared.ticket.Ticket.{Ticket}
+use Rattle.machine_model.proofs.ClosureLemmas.{runs_call, runs_due}
 
 -- ---- counts
 
@@ -109,9 +108,9 @@ form_call s connection t c lawful h =
     let e : Effect = (outcome_of c connection m).effect in
     let opens = call_opens s connection t c lawful.1 h in
     let ready : IsTrue (is_ready m c) = subst IsTrue (sym (same_ready s t c)) opens.ready in
-    let counted : Counted full m e = call_costs Counted counted_priced c connection m lawful.0 ready in
-    let all = form_after s t 1 full e (omega arith) (most_of full full refl) counted (call_costs Paid paid_priced c connection m lawful.0 ready) (call_costs KeepsTimes times_priced c connection m lawful.0 ready)
-    ((obeys c connection m).runs KeepsExecs execs_closed) opens.times opens.clock (call_steps s connection t c lawful.1 h.counts counted.tickets) h in
+    let counted : Counted full m e = call_costs Counted counted_priced c connection m (λ p. lawful.0) (λ p. ready) in
+    let all = form_after s t 1 full e (omega arith) (most_of full full refl) counted (call_costs Paid paid_priced c connection m (λ p. lawful.0) (λ p. ready)) (call_costs KeepsTimes times_priced c connection m (λ p. lawful.0) (λ p. ready))
+    (runs_call execs_closed c connection m) opens.times opens.clock (call_steps s connection t c lawful.1 h.counts counted.tickets) h in
     record {
       names = names_step s (Step.Call connection t c) (number_fits (finished 1 e).state all.0) h.names;
       mains = mains_step s (Step.Call connection t c) (consistent s h) (fresh_of s h.names h.execs) h.mains;
@@ -148,7 +147,7 @@ due_by s (Some d) e lawful h =
     let x : Effect = due_effect d m in
     let counted : Counted due_cost m x = (costs_due counted_priced d).holds m in
     let more : length x.state.tickets ≤ length s.tickets + 0 = counted.tickets in
-    form_after s t 0 due_cost x (omega arith) (most_of due_cost full refl) counted ((costs_due paid_priced d).holds m) ((costs_due times_priced d).holds m) ((runs_due execs_closed d).holds m)
+    form_after s t 0 due_cost x (omega arith) (most_of due_cost full refl) counted ((costs_due paid_priced d).holds m) ((costs_due times_priced d).holds m) (runs_due execs_closed d m)
     (times_at s t (due_later s d e h) (due_low s d e) h.times) (due_until s d e lawful.1) (few_steps s x.state.tickets lawful.0 (omega (arith, more)) h.counts.tickets) h
 
 form_due : (s : State) → IsLawful s Step.Due → KeptForm s → KeptForm (after_step s Step.Due)

@@ -39,6 +39,12 @@ use Rattle.engine_text.specs.declared.script.Effect.{Effect as ProcessEffect}
 use Rattle.engine_text.specs.declared.script.Effect.TheVariants.{Lives, Wrote, Ended}
 use Rattle.engine_text.specs.declared.step.DueAction.{DueAction}
 use Rattle.engine_text.specs.declared.ticket.Asked.{Asked}
+use Rattle.machine_model.specs.Names.{holder}
+use Rattle.machine_model.specs.Consistency.{is_there}
+use Rattle.std.specs.Prelude.{IsTrue}
+use Rattle.std.proofs.Common.{false}
+use Rattle.machine_model.specs.Calls.Create.{volume_named}
+use Rattle.machine_model.specs.Calls.Volumes.{is_in_use}
 
 -- ---- costs
 
@@ -108,12 +114,12 @@ write_part (Ended code) owner = still
 abbrev pub AreFrom : ℕ → List DueAction → Type 0
 AreFrom t ds = AllByRecursion (λ d. t ≤ d.moment) ds
 
--- each single change is one of these
-pub record IsPriced (R : Cost → State → Effect → Type 0) : Type 0 where
+-- each single change is one of these; P says that calls are sound and find what they wait for
+pub record IsPriced (P : Type 0) (R : Cost → State → Effect → Type 0) : Type 0 where
   pub on_still : (s : State) → R none s (still s)
   pub on_after : (x y : Cost) (s : State) (a b : Effect) → R x s a → R y a.state b → R (plus x y) s (after a b)
-  pub on_more : (x y : Cost) (s : State) (e : Effect) → IsMost x y → R x s e → R y s e
-  pub on_told : (s : State) (v : Event) → R (tells 1) s (tell (v ∷ []) s)
+  pub on_more : (x y : Cost) (s : State) (e : Effect) → (P → IsMost x y) → R x s e → R y s e
+  pub on_told : (s : State) (v : Event) → v.moment ≡ s.clock → R (tells 1) s (tell (v ∷ []) s)
   pub on_mounts : (s : State) (a : Action) (c : Container) → container_numbered c.number s ≡ Some c → R (tells 16) s (tell (map (λ m. mount_event a m.volume c s.clock) c.life.mounts) s)
   pub on_ended : (s : State) (d : Died) → R none s (record { state = s; events = []; died = d ∷ [] })
   pub on_renew : (s : State) (n : ℕ) (f : Life → Life) → IsQuiet f → R none s (renew n f s)
@@ -121,7 +127,7 @@ pub record IsPriced (R : Cost → State → Effect → Type 0) : Type 0 where
   pub on_step : (s : State) (owner : Owner) (step : ℕ → Process → ProcessStep) → IsStep step
       → R none s (and_then (change (stepped step owner)) (write_part (effect_of (step s.clock) (process_of owner s.processes)) owner) s)
   pub on_move : (s : State) (owner : Owner) (f : Process → Process) → ((p : Process) → MoveFits s.clock p (f p)) → R none s (still (change_process owner f s))
-  pub on_feed : (s : State) (owner : Owner) (bytes : List ℕ) → length bytes ≤ room_at (process_of owner s.processes) → R none s (still (change_process owner (feed bytes s.clock) s))
+  pub on_feed : (s : State) (owner : Owner) (bytes : List ℕ) → (P → length bytes ≤ room_at (process_of owner s.processes)) → R none s (still (change_process owner (feed bytes s.clock) s))
   pub on_drop : (s : State) (n : ℕ) → R none s (still (drop_process (OfContainer n) s))
   pub on_end_exec : (s : State) (code n : ℕ) (p : Process) → process_of (OfExec n) s.processes ≡ Some p → R none s (end_exec code n s)
   pub on_end_execs : (s : State) (n : ℕ) → R none s (end_execs n s)
@@ -132,31 +138,32 @@ pub record IsPriced (R : Cost → State → Effect → Type 0) : Type 0 where
       → R (record { told = 1; spawns = 1; makes = 0; asks = 0; retries = 0 }) s
       (and_then (λ s. still (change_exec x.number (started s) s)) (change (spawn (OfExec x.number) program stdin exec_room)) s)
   pub on_timers : (s : State) (timers : List DueAction) → (AreFrom s.clock s.timers → AreFrom s.clock timers) → R none s (still (record s { timers = timers }))
-  pub on_destroyed : (s : State) (c : Container) → R none s (still (without c s))
-  pub on_begun : (s : State) (connection : ℕ) (c : Container) (asked : Asked) → R (record { told = 0; spawns = 0; makes = 0; asks = 1; retries = 0 }) s (still (begun connection c.number asked s))
+  pub on_destroyed : (s : State) (c : Container) → container_numbered c.number s ≡ Some c → R none s (still (without c s))
+  pub on_begun : (s : State) (connection : ℕ) (c : Container) (asked : Asked) → container_numbered c.number s ≡ Some c → R (record { told = 0; spawns = 0; makes = 0; asks = 1; retries = 0 }) s (still (begun connection c.number asked s))
   pub on_time_out : (s : State) (c : Container) → R none s (still (time_out c s))
   pub on_end_ticket : (s : State) (n : ℕ) → R none s (still (end_ticket n s))
-  pub on_volumes : (s : State) (name : List ℕ) (labels : List Pair) → R none s (still (record s { volumes = placed (new_volume name labels s.clock) s.volumes }))
-  pub on_gone_volume : (s : State) (name : List ℕ) → R none s (still (without_volume name s))
-  pub on_made : (s : State) (name : List ℕ) (spec : CreateSpec) → length spec.mounts ≤ 16
+  pub on_volumes : (s : State) (name : List ℕ) (labels : List Pair) → volume_named name s ≡ None → R none s (still (record s { volumes = placed (new_volume name labels s.clock) s.volumes }))
+  pub on_gone_volume : (s : State) (name : List ℕ) → is_in_use name s ≡ false → R none s (still (without_volume name s))
+  pub on_made : (s : State) (name : List ℕ) (spec : CreateSpec) → (P → length spec.mounts ≤ 16) → holder name s.containers ≡ None
+      → AllByRecursion (λ m. IsTrue (is_there (volume_named m.volume s))) spec.mounts
       → R (record { told = 0; spawns = 0; makes = 1; asks = 0; retries = 0 }) s (still (with_new (new_container name spec s) s))
-  pub on_made_exec : (s : State) (c : Container) (words : List (List ℕ)) (stdin out err : Bool)
+  pub on_made_exec : (s : State) (c : Container) (words : List (List ℕ)) (stdin out err : Bool) → container_numbered c.number s ≡ Some c
       → R (record { told = 0; spawns = 0; makes = 1; asks = 0; retries = 0 }) s (still (with_exec (new_exec c words stdin out err s) s))
-  pub on_renamed : (s : State) (c : Container) (name : List ℕ) → R none s (still (change_container c.number (named name) s))
+  pub on_renamed : (s : State) (c : Container) (name : List ℕ) → container_numbered c.number s ≡ Some c → holder name s.containers ≡ None → R none s (still (change_container c.number (named name) s))
 
 -- ---- chains of them
 
 pub record Costs (R : Cost → State → Effect → Type 0) (x : Cost) (e : State → Effect) : Type 0 where
   pub holds : (s : State) → R x s (e s)
 
-pub costs_still : {R : Cost → State → Effect → Type 0} → IsPriced R → Costs R none still
+pub costs_still : {P : Type 0} {R : Cost → State → Effect → Type 0} → IsPriced P R → Costs R none still
 costs_still k = record { holds = k.on_still }
 
-pub costs_then : {R : Cost → State → Effect → Type 0} {x y : Cost} {e f : State → Effect} → IsPriced R → Costs R x e → Costs R y f → Costs R (plus x y) (and_then e f)
+pub costs_then : {P : Type 0} {R : Cost → State → Effect → Type 0} {x y : Cost} {e f : State → Effect} → IsPriced P R → Costs R x e → Costs R y f → Costs R (plus x y) (and_then e f)
 costs_then {R} {x} {y} {e} {f} k first second = record { holds = λ s. k.on_after x y s (e s) (f (e s).state) (first.holds s) (second.holds (e s).state) }
 
-pub costs_most : {R : Cost → State → Effect → Type 0} {x y : Cost} {e : State → Effect} → IsPriced R → Costs R x e → is_most x y ≡ true → Costs R y e
-costs_most {R} {x} {y} {e} k one low = record { holds = λ s. k.on_more x y s (e s) (most_of x y low) (one.holds s) }
+pub costs_most : {P : Type 0} {R : Cost → State → Effect → Type 0} {x y : Cost} {e : State → Effect} → IsPriced P R → Costs R x e → is_most x y ≡ true → Costs R y e
+costs_most {R} {x} {y} {e} k one low = record { holds = λ s. k.on_more x y s (e s) (λ p. most_of x y low) (one.holds s) }
 
 pub costs_at : {R : Cost → State → Effect → Type 0} {x : Cost} (e : State → State → Effect) → ((s : State) → R x s (e s s)) → Costs R x (λ s. e s s)
 costs_at e k = record { holds = k }
@@ -164,32 +171,32 @@ costs_at e k = record { holds = k }
 from_none : (y : Cost) → IsMost none y
 from_none y = record { told = omega arith; spawns = omega arith; makes = omega arith; asks = omega arith; retries = omega arith }
 
-pub costs_nothing : {R : Cost → State → Effect → Type 0} (y : Cost) → IsPriced R → (s : State) → R y s (still s)
-costs_nothing y k s = k.on_more none y s (still s) (from_none y) (k.on_still s)
+pub costs_nothing : {P : Type 0} {R : Cost → State → Effect → Type 0} (y : Cost) → IsPriced P R → (s : State) → R y s (still s)
+costs_nothing y k s = k.on_more none y s (still s) (λ p. from_none y) (k.on_still s)
 
-with_by : (R : Cost → State → Effect → Type 0) (x : Cost) → IsPriced R → (f : Container → State → Effect) (n : ℕ) (s : State) (o : Option Container) → container_numbered n s ≡ o
+with_by : {P : Type 0} (R : Cost → State → Effect → Type 0) (x : Cost) → IsPriced P R → (f : Container → State → Effect) (n : ℕ) (s : State) (o : Option Container) → container_numbered n s ≡ o
     → ((c : Container) → container_numbered c.number s ≡ Some c → R x s (f c s)) → R x s (with_found o f s)
 with_by R x k f n s None e one = costs_nothing x k s
 with_by R x k f n s (Some c) e one = one c (subst (λ m. container_numbered m s ≡ Some c) (sym (found_number n c s.containers e)) e)
 
-pub costs_with : {R : Cost → State → Effect → Type 0} {x : Cost} {f : Container → State → Effect} → IsPriced R → (n : ℕ)
+pub costs_with : {P : Type 0} {R : Cost → State → Effect → Type 0} {x : Cost} {f : Container → State → Effect} → IsPriced P R → (n : ℕ)
     → ((s : State) (c : Container) → container_numbered c.number s ≡ Some c → R x s (f c s)) → Costs R x (with_container n f)
 costs_with {R} {x} {f} k n one = record { holds = λ s. with_by R x k f n s (container_numbered n s) refl (one s) }
 
-pub costs_tell : {R : Cost → State → Effect → Type 0} → IsPriced R → (event : Container → ℕ → Event) (n : ℕ) → Costs R (tells 1) (tell_of event n)
-costs_tell k event n = costs_with k n (λ s c found. k.on_told s (event c s.clock))
+pub costs_tell : {P : Type 0} {R : Cost → State → Effect → Type 0} → IsPriced P R → (event : Container → ℕ → Event) (n : ℕ) → ((c : Container) (t : ℕ) → (event c t).moment ≡ t) → Costs R (tells 1) (tell_of event n)
+costs_tell k event n at = costs_with k n (λ s c found. k.on_told s (event c s.clock) (at c s.clock))
 
-pub costs_mounts : {R : Cost → State → Effect → Type 0} → IsPriced R → (a : Action) (n : ℕ) → Costs R (tells 16) (tell_mounts a n)
+pub costs_mounts : {P : Type 0} {R : Cost → State → Effect → Type 0} → IsPriced P R → (a : Action) (n : ℕ) → Costs R (tells 16) (tell_mounts a n)
 costs_mounts k a n = costs_with k n (λ s c found. k.on_mounts s a c found)
 
-pub costs_renew : {R : Cost → State → Effect → Type 0} → IsPriced R → (n : ℕ) (f : Life → Life) → IsQuiet f → Costs R none (renew n f)
+pub costs_renew : {P : Type 0} {R : Cost → State → Effect → Type 0} → IsPriced P R → (n : ℕ) (f : Life → Life) → IsQuiet f → Costs R none (renew n f)
 costs_renew k n f mark = record { holds = λ s. k.on_renew s n f mark }
 
-pub costs_timers : {R : Cost → State → Effect → Type 0} → IsPriced R → (g : State → List DueAction) → ((s : State) → AreFrom s.clock s.timers → AreFrom s.clock (g s))
+pub costs_timers : {P : Type 0} {R : Cost → State → Effect → Type 0} → IsPriced P R → (g : State → List DueAction) → ((s : State) → AreFrom s.clock s.timers → AreFrom s.clock (g s))
     → Costs R none (change (λ s. record s { timers = g s }))
 costs_timers k g keeps = record { holds = λ s. k.on_timers s (g s) (keeps s) }
 
 -- each costs nothing
-pub costs_each : {R : Cost → State → Effect → Type 0} {A : Type 0} {f : A → State → Effect} → IsPriced R → ((x : A) → Costs R none (f x)) → (xs : List A) → Costs R none (each f xs)
+pub costs_each : {P : Type 0} {R : Cost → State → Effect → Type 0} {A : Type 0} {f : A → State → Effect} → IsPriced P R → ((x : A) → Costs R none (f x)) → (xs : List A) → Costs R none (each f xs)
 costs_each k one [] = costs_still k
 costs_each k one (x ∷ xs) = costs_then k (one x) (costs_each k one xs)

@@ -1,12 +1,11 @@
 -- What a destroy tells.
 use Rattle.std.proofs.Common.{◌≡◌, ℕ, ◌==◌, List, [], ◌∷◌, Option, Some, None, refl, sym, subst, not}
 use Rattle.container_table.specs.Lists.{remove_first}
-use Rattle.machine_model.specs.Chain.{Effect, and_then, change, tell, with_found, with_container}
+use Rattle.machine_model.specs.Chain.{and_then, change, tell, with_found, with_container}
 use Rattle.machine_model.specs.State.{State, container_numbered}
 use Rattle.machine_model.specs.EventTexts.{plain_event}
 use Rattle.machine_model.specs.Effects.Destroy.{without, destroy}
 use Rattle.machine_model.specs.Summary.{fold_on}
-use Rattle.machine_model.proofs.ClosureLemmas.{IsClosed, Runs, runs_then, runs_with, runs_tell}
 use Rattle.machine_model.proofs.Fold.RowLemmas.{RowsBut, found_number, nobody, gone}
 use Rattle.machine_model.proofs.Fold.TellLemmas.{Fit, LifeInRange, HasByte, Tells}
 use Rattle.machine_model.proofs.ChangeLemmas.{all_removed, distinct_removed, all_filtered}
@@ -58,8 +57,3 @@ apart n P Q s rows (Some c) e fit beside =
 -- whatever its row was
 pub tells_destroy : (n : ℕ) (P Q : FoldRow → Container → Type 0) → Tells n P (destroy n) Q
 tells_destroy n P Q = record { holds = λ s rows fit beside. apart n P Q s rows (container_numbered n s) refl fit beside }
-
--- ---- what it runs through
-
-pub runs_destroy : {R : State → Effect → Type 0} → IsClosed R → (n : ℕ) → Runs R (destroy n)
-runs_destroy k n = runs_then k (runs_tell k Destroy [] [] n) (runs_with k n (λ s c found. k.on_destroyed s c found))

@@ -1,23 +1,20 @@
 -- What the ends of execs and of main processes tell.
-use Rattle.std.specs.Prelude.{codes, decimal}
-use Rattle.std.proofs.Common.{◌≡◌, ℕ, ◌+◌, ◌^◌, ◌<◌, ◌==◌, false, not, [], ◌∷◌, refl, ap, sym, ◌∙◌, arith, subst}
+use Rattle.std.proofs.Common.{◌≡◌, ℕ, ◌+◌, ◌^◌, ◌<◌, ◌==◌, false, not, refl, ap, sym, ◌∙◌, arith, subst}
 use Rattle.std.proofs.lemmas.Fmt.{decimal_is_IsNumeral}
-use Rattle.container_table.specs.Timers.{cleared, with_timer}
 use Rattle.api_json.specs.Status.{is_paused}
-use Rattle.machine_model.specs.EventTexts.{pair, plain_event, die_event, exec_die_event}
+use Rattle.machine_model.specs.EventTexts.{plain_event, die_event, exec_die_event}
 use Rattle.machine_model.specs.State.{State, set_timer, drop_process, exec_numbered, running_execs, change_exec}
-use Rattle.machine_model.specs.Chain.{Effect, each, change, renew, tell_of, with_found, with_container}
+use Rattle.machine_model.specs.Chain.{each, change, renew, tell_of, with_found, with_container}
 use Rattle.machine_model.specs.Effects.EndMain.{end_exec, end_execs, exec_ended, ended, die, clear_deadlines, exited, no_goal, restarting, follow, decision_at, by_goal, by_status, end_main}
 use Rattle.machine_model.specs.Summary.{summary_row, exit_code}
 use Rattle.machine_model.specs.Ranges.{IsLifeInRange}
-use Rattle.machine_model.proofs.Effects.LaunchLemmas.{runs_launch_by_call, Awake, tells_launch_by_call}
-use Rattle.machine_model.proofs.Effects.DestroyLemmas.{runs_destroy, tells_destroy}
-use Rattle.machine_model.proofs.ClosureLemmas.{IsClosed, Runs, runs_still, runs_then, runs_at, runs_each, runs_found, runs_with, runs_mounts, runs_tell, runs_renew, runs_timers}
+use Rattle.machine_model.proofs.Effects.LaunchLemmas.{Awake, tells_launch_by_call}
+use Rattle.machine_model.proofs.Effects.DestroyLemmas.{tells_destroy}
 use Rattle.machine_model.proofs.Processes.CodeLemmas.{all_without}
 use Rattle.machine_model.proofs.Fold.RowLemmas.{Is, made}
 use Rattle.machine_model.proofs.Fold.TellLemmas.{Tells, tells_then, tells_from, tells_still, tells_each, tells_found, tells_at, tells_with, tells_row, tells_quiet, tells_mounts, tells_renew, tells_apart, row_is, HasByte}
 use Rattle.machine_model.proofs.ChangeLemmas.{all_updated}
-use Rattle.engine_text.specs.declared.event.Action.TheVariants.{Die, ExecDie, Stop, Restart, Unmount}
+use Rattle.engine_text.specs.declared.event.Action.TheVariants.{Stop, Restart, Unmount}
 use Rattle.restart_policy.specs.declared.decision.Decision.{Decision}
 use Rattle.restart_policy.specs.declared.decision.Decision.TheVariants.{Stay, Again}
 use Rattle.engine_text.specs.declared.owner.Owner.TheVariants.{Container as OfContainer, Exec as OfExec}
@@ -124,61 +121,3 @@ tells_end_main code n low =
     (tells_then (tells_mounts n Unmount)
     (tells_then (tells_decided n)
     (tells_then (awake_mark no_goal (λ l h. h) (λ c. refl) (λ l. refl)) tells_still))))))
-
--- ---- what it runs through
-
-pub runs_end_exec : {R : State → Effect → Type 0} → IsClosed R → (code number : ℕ) → Runs R (end_exec code number)
-runs_end_exec k code number =
-    runs_at (λ s. with_found (exec_numbered number s) _)
-    (λ s. (runs_found k (exec_numbered number s)
-    (λ (x : Exec). runs_then k (runs_tell k ExecDie (pair (codes "execID") x.id ∷ pair (codes "exitCode") (decimal code) ∷ []) [] x.container)
-    (runs_then k (record { holds = λ s. k.on_drop s (OfExec number) })
-    (record { holds = λ s. k.on_exec s number (exec_ended code) (record { number = λ x. refl; id = λ x. refl; container = λ x. refl }) })))).holds s)
-
-pub runs_end_execs : {R : State → Effect → Type 0} → IsClosed R → (n : ℕ) → Runs R (end_execs n)
-runs_end_execs k n =
-    runs_at (λ s. each (λ (x : Exec). end_exec 137 x.number) (running_execs n s)) (λ s. (runs_each k (λ (x : Exec). runs_end_exec k 137 x.number) (running_execs n s)).holds s)
-
-runs_die : {R : State → Effect → Type 0} → IsClosed R → (code n : ℕ) → Runs R (die code n)
-runs_die {R} k code n =
-    let gone : Runs R (change (drop_process (OfContainer n))) = runs_at (λ s. change (drop_process (OfContainer n))) (λ s. k.on_drop s (OfContainer n)) in
-    let ends = runs_at (λ s. renew n (ended code s.clock)) (λ s. k.on_renew s n (ended code s.clock) (record { mounts = λ l. refl; log = λ l. refl; starts = λ l. omega arith })) in
-    let told = runs_at (λ s t. record { state = t; events = []; died = record { number = n; code = code } ∷ [] }) (λ s. k.on_ended s (record { number = n; code = code })) in
-    let all = runs_then k gone (runs_then k ends told) in
-    record { holds = λ s. all.holds s }
-
-runs_follow : {R : State → Effect → Type 0} → IsClosed R → (d : Decision) (n : ℕ) → Runs R (follow d n)
-runs_follow k Stay n = runs_renew k n exited (record { mounts = λ l. refl; log = λ l. refl; starts = λ l. omega arith })
-runs_follow k (Again delay) n =
-    runs_then k (runs_renew k n (restarting delay) (record { mounts = λ l. refl; log = λ l. refl; starts = λ l. omega arith }))
-    (runs_timers k (λ s. with_timer (s.clock + delay) 3 n s.timers))
-
-runs_by_goal : {R : State → Effect → Type 0} → IsClosed R → (g : Goal) (c : Container) → Runs R (by_goal g c)
-runs_by_goal k Goal.Remove c = runs_destroy k c.number
-runs_by_goal k Goal.Stop c =
-    runs_then k (runs_renew k c.number exited (record { mounts = λ l. refl; log = λ l. refl; starts = λ l. omega arith })) (runs_tell k Stop [] [] c.number)
-runs_by_goal k Goal.Restart c =
-    runs_then k (runs_tell k Stop [] [] c.number) (runs_then k (runs_launch_by_call k c.number) (runs_tell k Restart [] [] c.number))
-runs_by_goal k Goal.None c = runs_at (λ s. follow (decision_at s.clock c.life) c.number) (λ s. (runs_follow k (decision_at s.clock c.life) c.number).holds s)
-
-runs_by_status : {R : State → Effect → Type 0} → IsClosed R → (u : Status) (c : Container) → Runs R (by_status u c)
-runs_by_status k Status.Dead c = runs_still k
-runs_by_status k Status.Created c = runs_by_goal k c.life.goal c
-runs_by_status k Status.Running c = runs_by_goal k c.life.goal c
-runs_by_status k Status.Paused c = runs_by_goal k c.life.goal c
-runs_by_status k Status.Restarting c = runs_by_goal k c.life.goal c
-runs_by_status k Status.Removing c = runs_by_goal k c.life.goal c
-runs_by_status k Status.Exited c = runs_by_goal k c.life.goal c
-
-runs_decided : {R : State → Effect → Type 0} → IsClosed R → (n : ℕ) → Runs R (with_container n (λ c. by_status c.life.status c))
-runs_decided k n = runs_with k n (λ s c found. (runs_by_status k c.life.status c).holds s)
-
-pub runs_end_main : {R : State → Effect → Type 0} → IsClosed R → (code n : ℕ) → Runs R (end_main code n)
-runs_end_main k code n =
-    runs_then k (runs_end_execs k n)
-    (runs_then k (runs_tell k Die (pair (codes "exitCode") (decimal code) ∷ []) [] n)
-    (runs_then k (runs_die k code n)
-    (runs_then k (runs_timers k (λ s. cleared 2 n (cleared 1 n s.timers)))
-    (runs_then k (runs_mounts k Unmount n)
-    (runs_then k (runs_decided k n)
-    (runs_then k (runs_renew k n no_goal (record { mounts = λ l. refl; log = λ l. refl; starts = λ l. omega arith })) (runs_still k)))))))

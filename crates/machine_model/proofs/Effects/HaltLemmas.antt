@@ -1,19 +1,14 @@
 -- What a halt tells.
-use Rattle.std.specs.Prelude.{codes, decimal, [], ◌∷◌}
-use Rattle.std.proofs.Common.{◌+◌, ◌*◌, ◌≡◌, ℕ, ◌<◌, ℤ, pos, negsuc, Option, refl, sym, ◌∙◌}
-use Rattle.container_table.specs.Timers.{with_timer}
-use Rattle.machine_model.specs.State.{timer_of, State}
-use Rattle.machine_model.specs.Chain.{Effect, change, renew}
-use Rattle.machine_model.specs.EventTexts.{pair, kill_event}
-use Rattle.machine_model.specs.Effects.Halt.{lesser, signal_used, seconds_used, set_deadline, halt}
+use Rattle.std.proofs.Common.{◌≡◌, ℕ, ◌<◌, ℤ, pos, negsuc, Option, refl, sym, ◌∙◌}
+use Rattle.machine_model.specs.Chain.{change, renew}
+use Rattle.machine_model.specs.EventTexts.{kill_event}
+use Rattle.machine_model.specs.Effects.Halt.{signal_used, seconds_used, set_deadline, halt}
 use Rattle.machine_model.specs.Summary.{summary_row}
 use Rattle.machine_model.specs.Ranges.{IsLifeInRange}
-use Rattle.machine_model.proofs.Effects.MeetLemmas.{runs_meet, tells_meet}
-use Rattle.machine_model.proofs.ClosureLemmas.{IsClosed, IsMark, Runs, runs_then, runs_tell, runs_renew, runs_timers}
+use Rattle.machine_model.proofs.Effects.MeetLemmas.{tells_meet}
 use Rattle.machine_model.proofs.Fold.RowLemmas.{Same, made}
 use Rattle.machine_model.proofs.Fold.TellLemmas.{Tells, tells_then, tells_quiet, tells_renew}
 use Rattle.machine_model.proofs.Effects.LaunchLemmas.{Awake}
-use Rattle.engine_text.specs.declared.event.Action.TheVariants.{Kill}
 use Rattle.engine_text.specs.declared.container.Container.{Container}
 use Rattle.engine_text.specs.declared.container.Life.{Life}
 use Rattle.engine_text.specs.declared.event.FoldRow.{FoldRow}
@@ -35,15 +30,3 @@ tells_halt mark seconds signal c keeps same low =
     tells_then (tells_quiet c.number (kill_event (signal_used signal c)) (λ c t rs. refl))
     (tells_then (same_mark mark keeps same)
     (tells_then (tells_deadline (seconds_used seconds c) c.number) (tells_meet (signal_used signal c) c.number low)))
-
--- ---- what it runs through
-
-runs_deadline : {R : State → Effect → Type 0} → IsClosed R → (z : ℤ) (n : ℕ) → Runs R (change (set_deadline z n))
-runs_deadline k (pos seconds) n = runs_timers k (λ s. with_timer (lesser (timer_of 1 n s) (s.clock + 1000 * seconds)) 1 n s.timers)
-runs_deadline k (negsuc m) n = record { holds = k.on_still }
-
-pub runs_halt : {R : State → Effect → Type 0} → IsClosed R → (mark : Life → Life) (seconds : Option ℤ) (signal : Option Signal) (c : Container) → IsMark mark → Runs R (halt mark seconds signal c)
-runs_halt k mark seconds signal c is =
-    runs_then k (runs_tell k Kill [] (pair (codes "signal") (decimal (signal_used signal c)) ∷ []) c.number)
-    (runs_then k (runs_renew k c.number mark is)
-    (runs_then k (runs_deadline k (seconds_used seconds c) c.number) (runs_meet k (signal_used signal c) c.number)))

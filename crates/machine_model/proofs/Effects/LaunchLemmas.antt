@@ -1,17 +1,15 @@
 -- What a launch tells.
-use Rattle.std.proofs.Common.{◌≡◌, ℕ, ◌+◌, ◌==◌, ◌≤◌, Bool, true, false, not, [], Option, Some, None, refl, ap, sym, ◌∙◌, subst, arith}
+use Rattle.std.proofs.Common.{◌≡◌, ℕ, ◌+◌, ◌==◌, ◌≤◌, Bool, true, false, not, Option, Some, None, refl, ap, sym, ◌∙◌, subst, arith}
 use Rattle.std.proofs.lemmas.Bool.Decides.{nat_tests}
 use Rattle.api_json.specs.Status.{is_paused}
 use Rattle.proc_kernel.specs.Catalogue.{program_of}
 use Rattle.proc_kernel.specs.Processes.{spawn as spawned}
 use Rattle.engine_text.specs.Scripts.{Program}
-use Rattle.machine_model.specs.Chain.{Effect, change, tell_of, renew}
-use Rattle.machine_model.specs.State.{State}
+use Rattle.machine_model.specs.Chain.{change, tell_of, renew}
 use Rattle.machine_model.specs.EventTexts.{plain_event}
 use Rattle.machine_model.specs.Effects.Launch.{spawn, launched, launch_program, launch, launch_by_call, afresh, container_room}
 use Rattle.machine_model.specs.Summary.{summary_row}
 use Rattle.machine_model.specs.Ranges.{HaveCodes}
-use Rattle.machine_model.proofs.ClosureLemmas.{IsClosed, Runs, runs_still, runs_then, runs_at, runs_with, runs_mounts, runs_tell, runs_renew}
 use Rattle.machine_model.proofs.Processes.ProgramCodeLemmas.{OfProgram, program_coded}
 use Rattle.machine_model.proofs.Processes.CodeLemmas.{coded_spawn, all_begun}
 use Rattle.machine_model.proofs.Fold.RowLemmas.{Is}
@@ -67,20 +65,3 @@ pub tells_launch_by_call : (n : ℕ) → Tells n Awake (launch_by_call n) Awake
 tells_launch_by_call n =
     let fresh : Tells n Awake (renew n afresh) Awake = tells_renew (λ s. afresh) (λ s l h. h) (λ s fit r c id h. (h.0, h.1)) in
     tells_then fresh (tells_launch n)
-
--- ---- what it runs through
-
-runs_program : {R : State → Effect → Type 0} → IsClosed R → (o : Option Program) (c : Container) → Runs R (launch_program o c)
-runs_program k None c = runs_still k
-runs_program k (Some program) c =
-    let begin = runs_at (λ s. renew c.number (launched s)) (λ s. k.on_renew s c.number (launched s) (record { mounts = λ l. refl; log = λ l. refl; starts = λ l. omega arith })) in
-    let spawns = runs_at (λ s. change (spawn (OfContainer c.number) program c.life.open_stdin (container_room c)))
-    (λ s. k.on_spawn s (OfContainer c.number) program c.life.open_stdin (container_room c)) in
-    runs_then k begin (runs_then k spawns (runs_then k (runs_mounts k Mount c.number) (runs_tell k Start [] [] c.number)))
-
-pub runs_launch : {R : State → Effect → Type 0} → IsClosed R → (n : ℕ) → Runs R (launch n)
-runs_launch k n = runs_with k n (λ s c found. (runs_program k (program_of c.life.words (c.life.starts + 1)) c).holds s)
-
-pub runs_launch_by_call : {R : State → Effect → Type 0} → IsClosed R → (n : ℕ) → Runs R (launch_by_call n)
-runs_launch_by_call k n =
-    runs_then k (runs_renew k n afresh (record { mounts = λ l. refl; log = λ l. refl; starts = λ l. omega arith })) (runs_launch k n)

@@ -1,20 +1,18 @@
 -- What steps of processes, signals and thaws tell.
-use Rattle.std.proofs.Common.{◌≡◌, ℕ, ◌<◌, ◌==◌, Bool, true, false, not, List, [], refl, ap, ◌∙◌, arith}
+use Rattle.std.proofs.Common.{◌≡◌, ℕ, ◌<◌, ◌==◌, Bool, true, false, not, refl, ap, ◌∙◌}
 use Rattle.api_json.specs.Status.{is_paused}
 use Rattle.proc_kernel.specs.Processes.{Process, ProcessStep, signal, thaw}
 use Rattle.proc_kernel.specs.Tables.{effect_of, process_of}
-use Rattle.machine_model.specs.Effects.Meet.{end_of, logged, put_output, write_record, by_effect, stepped, step_process, running, thaw_execs, wake_parts, thaw_container, send, woken, meet_signal}
-use Rattle.machine_model.specs.State.{State, running_execs}
-use Rattle.machine_model.specs.Chain.{Effect, and_then, in_order, each, change, renew, tell_of}
+use Rattle.machine_model.specs.Effects.Meet.{logged, put_output, by_effect, stepped, step_process, running, thaw_execs, wake_parts, thaw_container, send, woken, meet_signal}
+use Rattle.machine_model.specs.State.{running_execs}
+use Rattle.machine_model.specs.Chain.{and_then, in_order, each, change, renew, tell_of}
 use Rattle.machine_model.specs.EventTexts.{plain_event}
 use Rattle.machine_model.specs.Ranges.{IsCoded}
-use Rattle.machine_model.proofs.Effects.EndMainLemmas.{runs_end_exec, runs_end_main, tells_end_exec, tells_end_main, awake_mark}
-use Rattle.machine_model.proofs.ClosureLemmas.{IsClosed, Runs, runs_still, runs_then, runs_at, runs_each, runs_with, runs_tell, runs_renew, runs_process}
+use Rattle.machine_model.proofs.Effects.EndMainLemmas.{tells_end_exec, tells_end_main, awake_mark}
 use Rattle.machine_model.proofs.Processes.CodeLemmas.{StepsCoded, EndsCoded, all_changed, ends_coded, coded_thaw, coded_signal}
 use Rattle.machine_model.proofs.Fold.RowLemmas.{Same, Is, made}
 use Rattle.machine_model.proofs.Fold.TellLemmas.{Tells, tells_then, tells_from, tells_still, tells_each, tells_at, tells_with, tells_row, tells_renew, tells_apart, row_is}
 use Rattle.machine_model.proofs.Effects.LaunchLemmas.{Awake}
-use Rattle.engine_text.specs.declared.script.Stream.{Stream}
 use Rattle.engine_text.specs.declared.owner.Owner.{Owner}
 use Rattle.engine_text.specs.declared.owner.Owner.TheVariants.{Container as OfContainer, Exec as OfExec}
 use Rattle.engine_text.specs.declared.container.Container.{Container}
@@ -109,51 +107,3 @@ pub tells_meet : (number n : ℕ) → number < 128 → Tells n Same (meet_signal
 tells_meet number n low =
     tells_with (λ (c : Container). and_then (woken c.life.status n) (send true number n))
     (λ (c : Container) is. tells_then (tells_woken c.life.status n c refl) (tells_send true number n low))
-
--- ---- what they run through
-
-runs_written : {R : State → Effect → Type 0} → IsClosed R → (owner : Owner) (stream : Stream) (payload : List ℕ) → Runs R (write_record owner stream payload)
-runs_written k (OfContainer n) stream payload = record { holds = λ s. k.on_log s n stream payload }
-runs_written k (OfExec n) stream payload = record { holds = λ s. k.on_output s n stream payload }
-
-runs_end_of : {R : State → Effect → Type 0} → IsClosed R → (owner : Owner) (code : ℕ) → Runs R (end_of owner code)
-runs_end_of k (OfContainer n) code = runs_end_main k code n
-runs_end_of k (OfExec n) code = runs_end_exec k code n
-
-runs_effect : {R : State → Effect → Type 0} → IsClosed R → (e : ProcessEffect) (owner : Owner) → Runs R (by_effect e owner)
-runs_effect k Lives owner = runs_still k
-runs_effect k (Wrote stream payload) owner = runs_written k owner stream payload
-runs_effect k (Ended code) owner = runs_end_of k owner code
-
-pub runs_step : {R : State → Effect → Type 0} → IsClosed R → (step : ℕ → Process → ProcessStep) (owner : Owner) → Runs R (step_process step owner)
-runs_step k step owner =
-    let moved = runs_process k owner (λ s p. (step s.clock p).process) in
-    runs_at (λ s. and_then (change (stepped step owner)) (by_effect (effect_of (step s.clock) (process_of owner s.processes)) owner))
-    (λ s. (runs_then k moved (runs_effect k (effect_of (step s.clock) (process_of owner s.processes)) owner)).holds s)
-
-runs_thaw_execs : {R : State → Effect → Type 0} → IsClosed R → (n : ℕ) → Runs R (thaw_execs n)
-runs_thaw_execs k n =
-    runs_at (λ s. each (λ (x : Exec). step_process thaw (OfExec x.number)) (running_execs n s)) (λ s. (runs_each k (λ (x : Exec). runs_step k thaw (OfExec x.number)) (running_execs n s)).holds s)
-
-runs_wake : {R : State → Effect → Type 0} → IsClosed R → (n : ℕ) → Runs R (in_order (wake_parts n))
-runs_wake k n =
-    runs_then k (runs_tell k Unpause [] [] n)
-    (runs_then k (runs_renew k n running (record { mounts = λ l. refl; log = λ l. refl; starts = λ l. omega arith })) (runs_then k (runs_thaw_execs k n) (runs_still k)))
-
-pub runs_thaw : {R : State → Effect → Type 0} → IsClosed R → (n : ℕ) → Runs R (thaw_container n)
-runs_thaw k n = runs_then k (runs_wake k n) (runs_step k thaw (OfContainer n))
-
-pub runs_send : {R : State → Effect → Type 0} → IsClosed R → (thaws : Bool) (number n : ℕ) → Runs R (send thaws number n)
-runs_send k thaws number n = runs_step k (signal number thaws) (OfContainer n)
-
-runs_woken : {R : State → Effect → Type 0} → IsClosed R → (u : Status) (n : ℕ) → Runs R (woken u n)
-runs_woken k Status.Paused n = runs_wake k n
-runs_woken k Status.Created n = runs_still k
-runs_woken k Status.Running n = runs_still k
-runs_woken k Status.Restarting n = runs_still k
-runs_woken k Status.Removing n = runs_still k
-runs_woken k Status.Exited n = runs_still k
-runs_woken k Status.Dead n = runs_still k
-
-pub runs_meet : {R : State → Effect → Type 0} → IsClosed R → (number n : ℕ) → Runs R (meet_signal number n)
-runs_meet k number n = runs_with k n (λ s c found. (runs_then k (runs_woken k c.life.status n) (runs_send k true number n)).holds s)

@@ -24,6 +24,7 @@ use Rattle.engine_text.specs.declared.owner.Owner.TheVariants.{Container as OfCo
 use Rattle.engine_text.specs.declared.script.Effect.{Effect as ProcessEffect}
 use Rattle.engine_text.specs.declared.script.Effect.TheVariants.{Lives, Wrote, Ended}
 use Rattle.engine_text.specs.declared.container.Life.{Life}
+use Rattle.machine_model.proofs.Costs.CostLemmas.{IsMost}
 
 abbrev pub Started : ℕ → List Container → Type 0
 Started b cs = AllByRecursion (λ c. c.life.starts ≤ b) cs
@@ -139,11 +140,11 @@ raised : (P Q : Container → Type 0) (p : Container → Bool) (f : Container �
 raised P Q p f k m [] h = tt
 raised P Q p f k m (x ∷ xs) h = raised_by P Q (p x) x (f x) xs (update_first p f xs) (k x) (m x) h.0 (all_weaken P Q k xs h.1) (raised P Q p f k m xs h.1)
 
-pub counted_priced : IsPriced Counted
+pub counted_priced : IsPriced (Unit {0}) Counted
 counted_priced = record {
   on_still = λ s. counted_by none s s [] [] refl refl (omega arith) refl refl refl refl refl (λ b h. h) (λ b h. h);
   on_after = counted_after;
-  on_more = λ x y s e low h. record {
+  on_more = λ x y s e lows h. let low : IsMost x y = lows tt in record {
     numbers = omega (arith, h.numbers, low.makes);
     next_ticket = omega (arith, h.next_ticket, low.asks);
     tickets = omega (arith, h.tickets, low.asks);
@@ -155,7 +156,7 @@ counted_priced = record {
     clock = h.clock;
     calls = h.calls;
   };
-  on_told = λ s v. counted_by (tells 1) s s _ [] refl refl (omega arith) refl refl refl refl refl (λ b h. h) (λ b h. h);
+  on_told = λ s v at. counted_by (tells 1) s s _ [] refl refl (omega arith) refl refl refl refl refl (λ b h. h) (λ b h. h);
   on_mounts = λ s a c found. counted_by (tells 16) s s _ [] refl refl (omega arith) refl refl refl refl refl (λ b h. h) (λ b h. h);
   on_ended = λ s d. counted_by none s s [] _ refl refl (omega arith) refl refl refl refl refl (λ b h. h) (λ b h. h);
   on_renew = λ s n f mark. quiet_containers none s n f mark.starts mark.restarts;
@@ -202,9 +203,9 @@ counted_priced = record {
     calls = refl;
   };
   on_timers = λ s timers keeps. counted_by none s _ [] [] refl refl (omega arith) refl refl refl refl refl (λ b h. h) (λ b h. h);
-  on_destroyed = λ s c. counted_by none s _ [] [] refl refl (mapped_least (last_answer c) s.tickets) refl refl refl refl refl
+  on_destroyed = λ s c there. counted_by none s _ [] [] refl refl (mapped_least (last_answer c) s.tickets) refl refl refl refl refl
       (λ b h. all_removed (λ (d : Container). d.life.starts ≤ b) (λ d. d.number == c.number) s.containers h) (λ b h. all_removed (λ (d : Container). d.life.restarts ≤ b) (λ d. d.number == c.number) s.containers h);
-  on_begun = λ s connection c asked. record {
+  on_begun = λ s connection c asked there. record {
     numbers = omega arith;
     next_ticket = omega arith;
     tickets = let longer = length-append s.tickets (record { number = s.next_ticket; connection = connection; container = c.number; asked = asked; reply = None } ∷ []) in omega (arith, longer);
@@ -218,9 +219,9 @@ counted_priced = record {
   };
   on_time_out = λ s c. counted_by none s _ [] [] refl refl (mapped_least _ s.tickets) refl refl refl refl refl (λ b h. h) (λ b h. h);
   on_end_ticket = λ s n. counted_by none s _ [] [] refl refl (removed_least (λ t. t.number == n) s.tickets) refl refl refl refl refl (λ b h. h) (λ b h. h);
-  on_volumes = λ s name labels. counted_by none s _ [] [] refl refl (omega arith) refl refl refl refl refl (λ b h. h) (λ b h. h);
-  on_gone_volume = λ s name. counted_by none s _ [] [] refl refl (omega arith) refl refl refl refl refl (λ b h. h) (λ b h. h);
-  on_made = λ s name spec few. record {
+  on_volumes = λ s name labels free. counted_by none s _ [] [] refl refl (omega arith) refl refl refl refl refl (λ b h. h) (λ b h. h);
+  on_gone_volume = λ s name unused. counted_by none s _ [] [] refl refl (omega arith) refl refl refl refl refl (λ b h. h) (λ b h. h);
+  on_made = λ s name spec few free stand. record {
     numbers = omega arith;
     next_ticket = omega arith;
     tickets = omega arith;
@@ -232,7 +233,7 @@ counted_priced = record {
     clock = refl;
     calls = refl;
   };
-  on_made_exec = λ s c words stdin out err. record {
+  on_made_exec = λ s c words stdin out err there. record {
     numbers = omega arith;
     next_ticket = omega arith;
     tickets = omega arith;
@@ -244,7 +245,7 @@ counted_priced = record {
     clock = refl;
     calls = refl;
   };
-  on_renamed = λ s c name. counted_by none s _ [] [] refl refl (omega arith) refl refl refl refl refl
+  on_renamed = λ s c name there free. counted_by none s _ [] [] refl refl (omega arith) refl refl refl refl refl
       (λ b h. all_updated (λ (d : Container). d.life.starts ≤ b) (λ d. d.number == c.number) (named name) (λ d k. k) s.containers h)
       (λ b h. all_updated (λ (d : Container). d.life.restarts ≤ b) (λ d. d.number == c.number) (named name) (λ d k. k) s.containers h);
 }

@@ -34,6 +34,7 @@ use Rattle.engine_text.specs.declared.owner.Owner.{Owner}
 use Rattle.engine_text.specs.declared.owner.Owner.TheVariants.{Container as OfContainer, Exec as OfExec}
 use Rattle.engine_text.specs.declared.script.Effect.{Effect as ProcessEffect}
 use Rattle.engine_text.specs.declared.script.Effect.TheVariants.{Lives, Wrote, Ended}
+use Rattle.machine_model.proofs.Costs.CostLemmas.{IsMost}
 
 -- ---- how many processes are of execs
 
@@ -182,7 +183,7 @@ below_more ns next h = all_weaken (λ k. k < next) (λ k. k < next + 1) (λ k lo
 all_mapped_filtered : (p : Exec → Bool) (P : ℕ → Type 0) (xs : List Exec) → AllByRecursion P (map (λ x. x.number) xs) → AllByRecursion P (map (λ x. x.number) (filter p xs))
 all_mapped_filtered p P xs h = all_mapped P (λ (x : Exec). x.number) (filter p xs) (all_filtered (λ (x : Exec). P x.number) p xs (all_of_mapped P (λ (x : Exec). x.number) xs h))
 
-pub paid_priced : IsPriced Paid
+pub paid_priced : IsPriced (Unit {0}) Paid
 paid_priced = record {
   on_still = λ s few. (few, omega arith);
   on_after = λ x y s a b first second few.
@@ -190,8 +191,8 @@ paid_priced = record {
       let two = second one.0 in
       let both : length (a.events ++ b.events) ≡ length a.events + length b.events = length-append a.events b.events in
       (two.0, omega (arith, one.1, two.1, both));
-  on_more = λ x y s e low h few. let one = h few in (one.0, omega (arith, one.1, low.told));
-  on_told = λ s v few. (few, omega arith);
+  on_more = λ x y s e lows h few. let low : IsMost x y = lows tt in let one = h few in (one.0, omega (arith, one.1, low.told));
+  on_told = λ s v at few. (few, omega arith);
   on_mounts = λ s a c found few.
       let most : length c.life.mounts ≤ 16 = found_all (λ (d : Container). length d.life.mounts ≤ 16) (λ d. d.number == c.number) c s.containers found few.0 in
       let same : length (map (λ m. mount_event a m.volume c s.clock) c.life.mounts) ≡ length c.life.mounts = length-map c.life.mounts (λ m. mount_event a m.volume c s.clock) in
@@ -215,7 +216,7 @@ paid_priced = record {
     let same = paid_more s.processes (OfExec x.number) (spawned program s.clock stdin exec_room) in omega (arith, same),
   );
   on_timers = λ s timers keeps few. (few, omega arith);
-  on_destroyed = λ s c few. (
+  on_destroyed = λ s c there few. (
     (
       all_removed (λ (d : Container). length d.life.mounts ≤ 16) (λ d. d.number == c.number) s.containers few.0,
       distinct_filtered (λ (x : Exec). x.number) (λ x. not (x.container == c.number)) s.execs few.1,
@@ -223,16 +224,16 @@ paid_priced = record {
     ),
     omega arith,
   );
-  on_begun = λ s connection c asked few. (few, omega arith);
+  on_begun = λ s connection c asked there few. (few, omega arith);
   on_time_out = λ s c few. (few, omega arith);
   on_end_ticket = λ s n few. (few, omega arith);
-  on_volumes = λ s name labels few. (few, omega arith);
-  on_gone_volume = λ s name few. (few, omega arith);
-  on_made = λ s name spec most few. (
-    (all_append (λ (d : Container). length d.life.mounts ≤ 16) s.containers _ few.0 (most, tt), few.1, below_more (map (λ x. x.number) s.execs) s.next_number few.2),
+  on_volumes = λ s name labels free few. (few, omega arith);
+  on_gone_volume = λ s name unused few. (few, omega arith);
+  on_made = λ s name spec most free stand few. (
+    (all_append (λ (d : Container). length d.life.mounts ≤ 16) s.containers _ few.0 (most tt, tt), few.1, below_more (map (λ x. x.number) s.execs) s.next_number few.2),
     omega arith,
   );
-  on_made_exec = λ s c words stdin out err few. (
+  on_made_exec = λ s c words stdin out err there few. (
     let x : Exec = new_exec c words stdin out err s in
         let more : map (λ y. y.number) (s.execs ++ x ∷ []) ≡ map (λ y. y.number) s.execs ++ s.next_number ∷ [] = map-append (λ (y : Exec). y.number) s.execs (x ∷ []) in (
           few.0,
@@ -241,5 +242,5 @@ paid_priced = record {
         ),
     omega arith,
   );
-  on_renamed = λ s c name few. ((few_updated c.number (λ old. name) (λ l. l) s.containers (λ l. refl) few.0, few.1, few.2), omega arith);
+  on_renamed = λ s c name there free few. ((few_updated c.number (λ old. name) (λ l. l) s.containers (λ l. refl) few.0, few.1, few.2), omega arith);
 }

@@ -153,9 +153,8 @@ pub execs_closed : IsClosed KeepsExecs
 execs_closed = record {
   on_still = λ s h. h;
   on_after = λ s a b first second h. second (first h);
-  on_told = λ s a before behind c found h. h;
+  on_told = λ s v at h. h;
   on_mounts = λ s a c h. h;
-  on_volume = λ s a name h. h;
   on_ended = λ s d h. h;
   on_renew = λ s n f mark h. renewed n (λ name. name) f s.containers s.execs s.outputs s.next_number h;
   on_log = λ s n stream payload h. renewed n (λ name. name) (logged stream payload s.clock) s.containers s.execs s.outputs s.next_number h;

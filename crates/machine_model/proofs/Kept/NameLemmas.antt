@@ -205,9 +205,8 @@ pub names_closed : IsClosed KeepsNames
 names_closed = record {
   on_still = λ s. same s;
   on_after = λ s a b first second. (omega (arith, first.0, second.0), λ most h. second.1 most (first.1 (omega (arith, most, second.0)) h));
-  on_told = λ s a before behind c found. same s;
+  on_told = λ s v at. same s;
   on_mounts = λ s a c. same s;
-  on_volume = λ s a name. same s;
   on_ended = λ s d. same s;
   on_renew = λ s n f mark. (omega arith, λ most h. names_changed s.seed s.containers s.execs s.volumes s.next_number n f h);
   on_log = λ s n stream payload. (omega arith, λ most h. names_changed s.seed s.containers s.execs s.volumes s.next_number n (logged stream payload s.clock) h);

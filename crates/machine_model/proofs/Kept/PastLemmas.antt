@@ -11,13 +11,12 @@ use Rattle.machine_model.specs.Step.{at_moment, step_of, or_still, step_effect}
 use Rattle.machine_model.specs.History.{Charter, opening_state, after_step, state_from, state_after, events_from, events_of}
 use Rattle.machine_model.proofs.ListLemmas.{append_nil, append_assoc}
 use Rattle.machine_model.proofs.ClosureLemmas.{IsClosed}
-use Rattle.machine_model.proofs.DueLemmas.{runs_due}
-use Rattle.machine_model.proofs.CallLemmas.{obeys}
 use Rattle.engine_text.specs.declared.container.Removed.{Removed}
 use Rattle.engine_text.specs.declared.event.Event.{Event}
 use Rattle.engine_text.specs.declared.log.KeptLogs.{KeptLogs}
 use Rattle.engine_text.specs.declared.step.DueAction.{DueAction}
 use Rattle.engine_text.specs.declared.step.Step.{Step}
+use Rattle.machine_model.proofs.ClosureLemmas.{runs_call, runs_due}
 
 -- ---- the last of a list
 
@@ -67,9 +66,8 @@ pub tie_closed : IsClosed KeepsTie
 tie_closed = record {
   on_still = λ s h. h;
   on_after = λ s a b first second h. second (first h);
-  on_told = λ s a before behind c found h. h;
+  on_told = λ s v at h. h;
   on_mounts = λ s a c h. h;
-  on_volume = λ s a name h. h;
   on_ended = λ s d h. h;
   on_renew = λ s n f mark h. h;
   on_log = λ s n stream payload h. h;
@@ -92,11 +90,11 @@ tie_closed = record {
 
 due_tie : (s : State) (o : Option DueAction) → IsTied s → IsTied (or_still (step_of o s) s).state
 due_tie s None h = h
-due_tie s (Some d) h = (runs_due tie_closed d).holds (at_moment d.moment s) h
+due_tie s (Some d) h = runs_due tie_closed d (at_moment d.moment s) h
 
 step_tie : (s : State) (x : Step) → IsTied s → IsTied (after_step s x)
 step_tie s Step.Due h = due_tie s (least_due s) h
-step_tie s (Step.Call connection moment c) h = (obeys c connection (at_moment moment s)).runs KeepsTie tie_closed h
+step_tie s (Step.Call connection moment c) h = runs_call tie_closed c connection (at_moment moment s) h
 
 tie_from : (s : State) (h : List Step) → IsTied s → IsTied (state_from s h)
 tie_from s [] k = k
@@ -114,9 +112,8 @@ pub count_closed : IsClosed KeepsCount
 count_closed = record {
   on_still = λ s. (refl, refl);
   on_after = λ s a b first second. (second.0 ∙ first.0, second.1 ∙ first.1);
-  on_told = λ s a before behind c found. (refl, refl);
+  on_told = λ s v at. (refl, refl);
   on_mounts = λ s a c. (refl, refl);
-  on_volume = λ s a name. (refl, refl);
   on_ended = λ s d. (refl, refl);
   on_renew = λ s n f mark. (refl, refl);
   on_log = λ s n stream payload. (refl, refl);
@@ -153,13 +150,13 @@ due_counted : (es : List Event) (s : State) (o : Option DueAction) → IsCounted
 due_counted es s None h = subst (λ l. IsCounted l s) (sym (append_nil es)) h
 due_counted es s (Some d) h =
     let e : Effect = due_effect d (at_moment d.moment s) in
-    counted_more es e.events s e ((runs_due count_closed d).holds (at_moment d.moment s)) h
+    counted_more es e.events s e (runs_due count_closed d (at_moment d.moment s)) h
 
 step_counted : (es : List Event) (s : State) (x : Step) → IsCounted es s → IsCounted (es ++ (step_effect x s).events) (after_step s x)
 step_counted es s Step.Due h = due_counted es s (least_due s) h
 step_counted es s (Step.Call connection moment c) h =
     let e : Effect = (outcome_of c connection (at_moment moment s)).effect in
-    counted_more es e.events s e ((obeys c connection (at_moment moment s)).runs KeepsCount count_closed) h
+    counted_more es e.events s e (runs_call count_closed c connection (at_moment moment s)) h
 
 counted_from : (es : List Event) (s : State) (h : List Step) → IsCounted es s → IsCounted (es ++ events_from s h) (state_from s h)
 counted_from es s [] k = subst (λ l. IsCounted l s) (sym (append_nil es)) k

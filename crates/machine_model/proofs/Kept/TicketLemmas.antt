@@ -152,9 +152,8 @@ pub tickets_closed : IsClosed KeepsTickets
 tickets_closed = record {
   on_still = λ s h. h;
   on_after = λ s a b first second h. second (first h);
-  on_told = λ s a before behind c found h. h;
+  on_told = λ s v at h. h;
   on_mounts = λ s a c h. h;
-  on_volume = λ s a name h. h;
   on_ended = λ s d h. h;
   on_renew = λ s n f mark h.
       over s.containers (update_first (λ c. c.number == n) (made (λ name. name) f) s.containers) s.tickets s.next_ticket (λ m there. there_changed n m (λ name. name) f s.containers there) h;

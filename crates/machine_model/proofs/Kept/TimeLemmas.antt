@@ -76,12 +76,12 @@ fed bytes t (Some q) p e fits low =
     let more : size (feed bytes t p) ≡ size p + length bytes = feed_size bytes t p in
     omega (arith, room, more, low)
 
-pub times_priced : IsPriced KeepsTimes
+pub times_priced : IsPriced (Unit {0}) KeepsTimes
 times_priced = record {
   on_still = λ s h. h;
   on_after = λ x y s a b first second h. second (first h);
   on_more = λ x y s e low h. h;
-  on_told = λ s v h. h;
+  on_told = λ s v at h. h;
   on_mounts = λ s a c found h. h;
   on_ended = λ s d h. h;
   on_renew = λ s n f mark h. h;
@@ -90,7 +90,7 @@ times_priced = record {
   on_move = λ s owner f fits h.
       (All_changed (FitsAt s.clock) owner f (λ e k. ((fits e.process).timely k.0, let less = (fits e.process).input in omega (arith, less, k.1))) s.processes h.0, h.1);
   on_feed = λ s owner bytes fits h.
-      (all_found (FitsAt s.clock) owner (feed bytes s.clock) s.processes (λ e found k. (feed_timely bytes s.clock e.process k.0, fed bytes s.clock (process_of owner s.processes) e.process found fits k.1)) h.0, h.1);
+      (all_found (FitsAt s.clock) owner (feed bytes s.clock) s.processes (λ e found k. (feed_timely bytes s.clock e.process k.0, fed bytes s.clock (process_of owner s.processes) e.process found (fits tt) k.1)) h.0, h.1);
   on_drop = λ s n h. (All_without (FitsAt s.clock) (OfContainer n) s.processes h.0, h.1);
   on_end_exec = λ s code n p e h. times_level s _ (level_end code n s) (left_by_end (FitsAt s.clock) code n s h.0) h;
   on_end_execs = λ s n h. times_level s _ (level_ends n s) (left_by_ends (FitsAt s.clock) n s h.0) h;
@@ -101,13 +101,13 @@ times_priced = record {
   on_start_exec = λ s id x program stdin found fresh short h.
       (all_append (FitsAt s.clock) s.processes _ h.0 (spawned_fits program s.clock stdin exec_room (OfExec x.number) short, tt), h.1);
   on_timers = λ s timers keeps h. (h.0, keeps h.1);
-  on_destroyed = λ s c h. h;
-  on_begun = λ s connection c asked h. h;
+  on_destroyed = λ s c there h. h;
+  on_begun = λ s connection c asked there h. h;
   on_time_out = λ s c h. h;
   on_end_ticket = λ s n h. h;
-  on_volumes = λ s name labels h. h;
-  on_gone_volume = λ s name h. h;
-  on_made = λ s name spec most h. h;
-  on_made_exec = λ s c words stdin out err h. h;
-  on_renamed = λ s c name h. h;
+  on_volumes = λ s name labels free h. h;
+  on_gone_volume = λ s name unused h. h;
+  on_made = λ s name spec most free stand h. h;
+  on_made_exec = λ s c words stdin out err there h. h;
+  on_renamed = λ s c name there free h. h;
 }

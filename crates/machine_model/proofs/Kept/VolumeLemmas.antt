@@ -184,9 +184,8 @@ pub volumes_closed : IsClosed KeepsVolumes
 volumes_closed = record {
   on_still = λ s h. h;
   on_after = λ s a b first second h. second (first h);
-  on_told = λ s a before behind c found h. h;
+  on_told = λ s v at h. h;
   on_mounts = λ s a c h. h;
-  on_volume = λ s a name h. h;
   on_ended = λ s d h. h;
   on_renew = λ s n f mark h. volumes_changed s.containers s.volumes s.uses s.next_number n (λ name. name) f mark.mounts h;
   on_log = λ s n stream payload h. volumes_changed s.containers s.volumes s.uses s.next_number n (λ name. name) (logged stream payload s.clock) (λ l. refl) h;

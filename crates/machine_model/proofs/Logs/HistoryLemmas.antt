@@ -20,8 +20,6 @@ use Rattle.machine_model.specs.Calls.ExecCreate.{with_exec, new_exec}
 use Rattle.machine_model.proofs.ListLemmas.{append_nil, all_append, all_weaken, distinct_more, below_more, more_numbers}
 use Rattle.machine_model.proofs.Histories.{run_append}
 use Rattle.machine_model.proofs.ClosureLemmas.{IsClosed}
-use Rattle.machine_model.proofs.DueLemmas.{runs_due}
-use Rattle.machine_model.proofs.CallLemmas.{obeys}
 use Rattle.machine_model.proofs.Logs.GrowthLemmas.{Begins, Grows, Later, Logs, Owns, among, exec_standing, grows_after, grows_changed, grows_put, later_begun, later_refl, made_standing, owns_begun}
 use Rattle.machine_model.proofs.Logs.RemovalLemmas.{grows_destroyed}
 use Rattle.engine_text.specs.declared.container.Container.{Container}
@@ -31,6 +29,7 @@ use Rattle.engine_text.specs.declared.owner.Owner.{Owner}
 use Rattle.engine_text.specs.declared.owner.Owner.TheVariants.{Container as OfContainer, Exec as OfExec}
 use Rattle.engine_text.specs.declared.step.DueAction.{DueAction}
 use Rattle.engine_text.specs.declared.step.Step.{Step}
+use Rattle.machine_model.proofs.ClosureLemmas.{runs_call, runs_due}
 
 -- ---- every effect
 
@@ -59,9 +58,8 @@ pub logs_closed : (o : Owner) → IsClosed (Grows o)
 logs_closed o = record {
   on_still = λ s h. quiet o s s refl refl refl refl h;
   on_after = λ s a b first second h. grows_after o s a b first second h;
-  on_told = λ s a before behind c found h. quiet o s s refl refl refl refl h;
+  on_told = λ s v at h. quiet o s s refl refl refl refl h;
   on_mounts = λ s a c h. quiet o s s refl refl refl refl h;
-  on_volume = λ s a name h. quiet o s s refl refl refl refl h;
   on_ended = λ s d h. quiet o s s refl refl refl refl h;
   on_renew = λ s n f mark h. grows_changed o s n f (λ name. name) (λ l. ([], mark.log l ∙ sym (append_nil l.log))) h;
   on_log = λ s n stream payload h. grows_changed o s n (logged stream payload s.clock) (λ name. name) (λ l. (record_of l.starts stream payload s.clock ∷ [], refl)) h;
@@ -114,12 +112,12 @@ from_moment o s t e one calls =
 
 due_grows : (o : Owner) (s : State) (d : Option DueAction) → Grows o s (record { state = (or_still (step_of d s) s).state; events = []; died = [] })
 due_grows o s None h = quiet o s s refl refl refl refl h
-due_grows o s (Some d) h = from_moment o s d.moment (due_effect d (at_moment d.moment s)) ((runs_due (logs_closed o) d).holds (at_moment d.moment s)) 0 h
+due_grows o s (Some d) h = from_moment o s d.moment (due_effect d (at_moment d.moment s)) (runs_due (logs_closed o) d (at_moment d.moment s)) 0 h
 
 step_grows : (o : Owner) (s : State) (x : Step) → Grows o s (record { state = after_step s x; events = []; died = [] })
 step_grows o s Step.Due h = due_grows o s (least_due s) h
 step_grows o s (Step.Call connection moment c) h =
-    from_moment o s moment (outcome_of c connection (at_moment moment s)).effect ((obeys c connection (at_moment moment s)).runs (Grows o) (logs_closed o)) 1 h
+    from_moment o s moment (outcome_of c connection (at_moment moment s)).effect (runs_call (logs_closed o) c connection (at_moment moment s)) 1 h
 
 pub logs_grow : (o : Owner) (s : State) (h : List Step) → Grows o s (record { state = state_from s h; events = []; died = [] })
 logs_grow o s [] k = quiet o s s refl refl refl refl k
