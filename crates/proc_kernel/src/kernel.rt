@@ -3,7 +3,7 @@ ghost use Rattle.std.specs.VecDeque.{deque_len, deque_capacity};
 ghost use Rattle.engine_text.specs.Owner.{same_owner};
 ghost use Rattle.proc_kernel.specs.Processes.{run_due, spawn, feed, feed_end, freeze, thaw, signal, CanThaw};
 ghost use Rattle.proc_kernel.specs.Foretelling.{code_at};
-ghost use Rattle.proc_kernel.specs.Tables.{Table, change, process_of, after_step, effect_at, without, due_at, due_in, length_at, room_at, begun, OfProcess};
+ghost use Rattle.proc_kernel.specs.Tables.{Table, is_there, change, process_of, after_step, effect_at, without, due_at, due_in, length_at, room_at, begun, OfProcess};
 
 use super::rooms::{buffers_of, trays_of, widen};
 use super::slot::Slot;
@@ -158,9 +158,10 @@ impl Kernel {
         ensures bytes { self.new.bytes ≡ self.old.bytes }
     {
         self.spare -= 1;
-        if let Some(i) = place_of(self.slots.as_slice(), owner) {
-            self.slots[i].feed(piece, moment);
-        }
+        let Some(i) = place_of(self.slots.as_slice(), owner) else {
+            return;
+        };
+        self.slots[i].feed(piece, moment);
     }
 
     /// Lets that process's next op take effect at its due moment.
@@ -193,8 +194,7 @@ impl Kernel {
         _stop: Signal,
         room: u64,
     )
-        requires free { process_of owner self.old.processes ≡ None }
-        requires spare { 0 < self.old.spare }
+        requires { 0 < self.old.spare }
         ensures processes { self.new.processes
             ≡ self.old.processes ++ begun owner (spawn script moment stdin room) ∷ [] }
         ensures spare { self.new.spare + 1 ≡ self.old.spare }
@@ -214,6 +214,19 @@ impl Kernel {
     {
         if let Some(i) = place_of(self.slots.as_slice(), owner) {
             self.slots.remove(i);
+        }
+    }
+
+    /// Whether the owner has a process.
+    pub fn stands(&self, owner: Owner) -> bool
+        ensures { result ≡ is_there (process_of owner self.now.processes) }
+    {
+        match place_of(self.slots.as_slice(), owner) {
+            None => false,
+            Some(i) => {
+                let _slot = &self.slots[i];
+                true
+            }
         }
     }
 
