@@ -1,0 +1,322 @@
+-- What a step before the end of it keeps, so that the container may still settle.
+use Rattle.std.proofs.Common.{◌≡◌, ℕ, ◌+◌, ◌==◌, ◌<◌, ◌≤◌, ◌^◌, ◌||◌, Bool, true, false, List, [], ◌∷◌, Option, Some, None, refl, ap, sym, ◌∙◌, subst, arith, find, map, filter, length, suc, if◌then◌else◌, vec_capacity}
+use Rattle.std.specs.Prelude.{option_map}
+use Rattle.std.specs.List.{list_any}
+use Rattle.engine_text.specs.Scripts.{Program}
+use Rattle.engine_text.specs.declared.container.Container.{Container}
+use Rattle.engine_text.specs.declared.container.Life.{Life}
+use Rattle.engine_text.specs.declared.container.Goal.{Goal}
+use Rattle.engine_text.specs.declared.exec.Exec.{Exec}
+use Rattle.engine_text.specs.Owner.{same_owner}
+use Rattle.engine_text.specs.declared.container.Removed.{Removed}
+use Rattle.engine_text.specs.declared.log.KeptLogs.{KeptLogs}
+use Rattle.engine_text.specs.declared.log.OwnedLog.{OwnedLog}
+use Rattle.engine_text.specs.declared.owner.Owner.{Owner}
+use Rattle.proc_kernel.specs.Tables.{Entry}
+use Rattle.engine_text.specs.declared.event.Event.{Event}
+use Rattle.engine_text.specs.declared.event.Action.{Action}
+use Rattle.std.proofs.lemmas.Bool.{eqb-true}
+use Rattle.engine_text.specs.declared.status.Status.{Status}
+use Rattle.engine_text.specs.declared.step.DueAction.{DueAction}
+use Rattle.container_table.specs.Lists.{update_first, remove_first}
+use Rattle.container_table.specs.Timers.{is_timer}
+use Rattle.proc_kernel.specs.Catalogue.{program_of}
+use Rattle.machine_model.specs.State.{State, container_numbered, exec_numbered, running_execs, change_life, drop_process, change_exec, clear_timer}
+use Rattle.machine_model.specs.EventTexts.{exec_die_event, plain_event}
+use Rattle.machine_model.specs.Chain.{Effect, and_then, change, tell_of, with_found}
+use Rattle.machine_model.specs.Effects.EndMain.{end_exec, exec_ended, end_execs, die, clear_deadlines, by_status, by_goal, follow, decision_at}
+use Rattle.machine_model.specs.Effects.Launch.{launch, launch_by_call, launch_program, container_room}
+use Rattle.machine_model.proofs.ChainLemmas.{Keeps, keeps_each}
+use Rattle.machine_effects.specs.Memory.{Room}
+use Rattle.machine_effects.specs.Marks.{marked, renewed}
+use Rattle.machine_effects.specs.Fit.{AreFew, CanLaunch, CanRemove, CanSettle, exec_numbers, outputs_of}
+use Rattle.machine_effects.specs.Outputs.{is_output_of}
+use Rattle.machine_effects.specs.declared.kit.Kit.{Kit}
+use Rattle.machine_effects.specs.Effects.EndMain.{begun, followed, goal_effect, concluded}
+use Rattle.machine_effects.proofs.UpdateLemmas.{All_updated, length_updated}
+use Rattle.machine_effects.specs.declared.marks.Mark.{Mark}
+
+-- ---- tellings change nothing
+
+pub told : (s : State) (o : Option Container) (f : Container → State → Effect) → ((c : Container) (z : State) → (f c z).state ≡ z) → (with_found o f s).state ≡ s
+told s None f still = refl
+told s (Some c) f still = still c s
+
+-- ---- what is found of a container that is changed
+
+found_either : {A : Type 0} (p : A → Bool) (f : A → A) (b : Bool) (x : A) (xs ys : List A) → p x ≡ b → p (f x) ≡ p x → find p ys ≡ option_map f (find p xs) → find p (if b then f x ∷ xs else x ∷ ys) ≡ option_map f (if b then Some x else find p xs)
+found_either p f true x xs ys e k h = rw (k ∙ e) refl
+found_either p f false x xs ys e k h = rw e h
+
+pub found_updated : {A : Type 0} (p : A → Bool) (f : A → A) (xs : List A) → ((x : A) → p (f x) ≡ p x) → find p (update_first p f xs) ≡ option_map f (find p xs)
+found_updated p f [] keeps = refl
+found_updated p f (x ∷ xs) keeps = found_either p f (p x) x xs (update_first p f xs) refl (keeps x) (found_updated p f xs keeps)
+
+-- ---- marks
+
+pub mark_words : (m : Mark) (l : Life) → (marked m l).words ≡ l.words
+mark_words Mark.ByHand l = refl
+mark_words Mark.Running l = refl
+mark_words Mark.Paused l = refl
+mark_words Mark.Exited l = refl
+mark_words Mark.Cancelled l = refl
+mark_words Mark.Died l = refl
+mark_words Mark.Removing l = refl
+mark_words Mark.Afresh l = refl
+mark_words Mark.NoGoal l = refl
+mark_words Mark.ToRemove l = refl
+mark_words (Mark.Waiting delay) l = refl
+mark_words (Mark.Ended code moment) l = refl
+
+pub mark_starts : (m : Mark) (l : Life) → (marked m l).starts ≡ l.starts
+mark_starts Mark.ByHand l = refl
+mark_starts Mark.Running l = refl
+mark_starts Mark.Paused l = refl
+mark_starts Mark.Exited l = refl
+mark_starts Mark.Cancelled l = refl
+mark_starts Mark.Died l = refl
+mark_starts Mark.Removing l = refl
+mark_starts Mark.Afresh l = refl
+mark_starts Mark.NoGoal l = refl
+mark_starts Mark.ToRemove l = refl
+mark_starts (Mark.Waiting delay) l = refl
+mark_starts (Mark.Ended code moment) l = refl
+
+named_by : (m : Mark) (script : Option Program) (o : Option Container) → ((c : Container) → o ≡ Some c → script ≡ program_of c.life.words (c.life.starts + 1))
+    → (c : Container) → option_map (renewed (marked m)) o ≡ Some c → script ≡ program_of c.life.words (c.life.starts + 1)
+named_by m script None named c e = absurd (cc)
+named_by m script (Some d) named c e =
+    let is : renewed (marked m) d ≡ c = cc in
+    let first : script ≡ program_of d.life.words (d.life.starts + 1) = named d refl in
+    let second : program_of d.life.words (d.life.starts + 1) ≡ program_of (marked m d.life).words ((marked m d.life).starts + 1) =
+    ap (λ ws. program_of ws (d.life.starts + 1)) (sym (mark_words m d.life)) ∙ ap (λ k. program_of (marked m d.life).words (k + 1)) (sym (mark_starts m d.life)) in
+    first ∙ (second ∙ ap (λ (x : Container). program_of x.life.words (x.life.starts + 1)) is)
+
+-- ---- what a removal finds
+
+-- two states with the same execs by number, the same outputs by owner, and as many removals
+pub record IsAlike (n : ℕ) (s t : State) : Type 0 where
+  pub removed : t.removed ≡ s.removed
+  pub kept : t.kept ≡ s.kept
+  pub numbers : exec_numbers n t ≡ exec_numbers n s
+  pub outputs : length (outputs_of n t) ≡ length (outputs_of n s)
+
+pub remove_alike : (n : ℕ) (kit : Kit) (room : Room) (s t : State) → IsAlike n s t → CanRemove n kit room s → CanRemove n kit room t
+remove_alike n kit room s t a h = record {
+  removed = subst (λ (l : List Removed). length l < room.removed) (sym a.removed) h.removed;
+  kept = subst (λ (l : List KeptLogs). length l < room.kept) (sym a.kept) h.kept;
+  numbers = h.numbers ∙ sym a.numbers;
+  empty = h.empty;
+  logs = subst (λ k. k + 1 ≤ vec_capacity kit.logs) (sym a.outputs) h.logs;
+}
+
+-- the same containers, processes apart
+pub launch_alike : (n : ℕ) (script : Option Program) (s t : State) → t.containers ≡ s.containers → t.next_pid ≡ s.next_pid → CanLaunch n script s → CanLaunch n script t
+launch_alike n script s t cs pid h = record {
+  few = subst (λ (l : List Container). AreFew l) (sym cs) h.few;
+  pid = subst (λ k. k < 2 ^ 63) (sym pid) h.pid;
+  named = λ c at. h.named c (ap (find (λ (d : Container). d.number == n)) (sym cs) ∙ at);
+}
+
+numbers_either : {A B : Type 0} (h : A → B) (p : A → Bool) (b d : Bool) (x y : A) (xs ys : List A) → p y ≡ d → p x ≡ d → h y ≡ h x → map h (filter p ys) ≡ map h (filter p xs)
+    → map h (filter p (if b then y ∷ xs else x ∷ ys)) ≡ map h (if d then x ∷ filter p xs else filter p xs)
+numbers_either h p true true x y xs ys e k same rest = ap (λ c. map h (if c then y ∷ filter p xs else filter p xs)) e ∙ ap (λ z. z ∷ map h (filter p xs)) same
+numbers_either h p true false x y xs ys e k same rest = ap (λ c. map h (if c then y ∷ filter p xs else filter p xs)) e
+numbers_either h p false true x y xs ys e k same rest = ap (λ c. map h (if c then x ∷ filter p ys else filter p ys)) k ∙ ap (λ l. h x ∷ l) rest
+numbers_either h p false false x y xs ys e k same rest = ap (λ c. map h (if c then x ∷ filter p ys else filter p ys)) k ∙ rest
+
+-- a change that leaves the test and the name leaves the names of those that pass
+pub names_updated : {A B : Type 0} (h : A → B) (p q : A → Bool) (f : A → A) (xs : List A) → ((x : A) → p (f x) ≡ p x) → ((x : A) → h (f x) ≡ h x) → map h (filter p (update_first q f xs)) ≡ map h (filter p xs)
+names_updated h p q f [] keeps same = refl
+names_updated h p q f (x ∷ xs) keeps same = numbers_either h p (q x) (p x) x (f x) xs (update_first q f xs) (keeps x) refl (same x) (names_updated h p q f xs keeps same)
+
+any_either : {A B : Type 0} (q : B → Bool) (g : A → B) (x : A) (xs : List A) → list_any (λ y. q (g y)) xs ≡ list_any q (map g xs) → list_any (λ y. q (g y)) (x ∷ xs) ≡ list_any q (g x ∷ map g xs)
+any_either q g x xs e = ap (λ b. q (g x) || b) e
+
+any_mapped : {A B : Type 0} (q : B → Bool) (g : A → B) (xs : List A) → list_any (λ y. q (g y)) xs ≡ list_any q (map g xs)
+any_mapped q g [] = refl
+any_mapped q g (x ∷ xs) = any_either q g x xs (any_mapped q g xs)
+
+-- whether an output is one of these execs goes by their numbers
+pub is_output_by : (n : ℕ) (xs ys : List Exec) (o : OwnedLog) → map (λ (x : Exec). x.number) (filter (λ (x : Exec). x.container == n) ys) ≡ map (λ (x : Exec). x.number) (filter (λ (x : Exec). x.container == n) xs) → is_output_of n ys o ≡ is_output_of n xs o
+is_output_by n xs ys o e =
+    any_mapped (λ k. same_owner o.owner (Owner.Exec k)) (λ (x : Exec). x.number) (filter (λ (x : Exec). x.container == n) ys)
+    ∙ (ap (list_any (λ k. same_owner o.owner (Owner.Exec k))) e
+    ∙ sym (any_mapped (λ k. same_owner o.owner (Owner.Exec k)) (λ (x : Exec). x.number) (filter (λ (x : Exec). x.container == n) xs)))
+
+kept_either : {A : Type 0} (b d : Bool) (x : A) (xs ys : List A) → b ≡ d → xs ≡ ys → (if b then x ∷ xs else xs) ≡ (if d then x ∷ ys else ys)
+kept_either b d x xs ys e h = cc
+
+pub filter_same_test : {A : Type 0} (p q : A → Bool) → ((x : A) → p x ≡ q x) → (xs : List A) → filter p xs ≡ filter q xs
+filter_same_test p q same [] = refl
+filter_same_test p q same (x ∷ xs) = kept_either (p x) (q x) x (filter p xs) (filter q xs) (same x) (filter_same_test p q same xs)
+
+alike_exec_ended : (n k code : ℕ) (s : State) → IsAlike n s (change_exec k (exec_ended code) (drop_process (Owner.Exec k) s))
+alike_exec_ended n k code s =
+    let names : exec_numbers n (change_exec k (exec_ended code) s) ≡ exec_numbers n s = names_updated (λ (x : Exec). x.number) (λ (x : Exec). x.container == n) (λ (x : Exec). x.number == k) (exec_ended code) s.execs (λ x. refl) (λ x. refl) in
+    record {
+      removed = refl;
+      kept = refl;
+      numbers = names;
+      outputs = ap length (filter_same_test (is_output_of n (change_exec k (exec_ended code) s).execs) (is_output_of n s.execs) (λ o. is_output_by n s.execs (change_exec k (exec_ended code) s).execs o names) s.outputs);
+    }
+
+pub launch_renew : (n : ℕ) (script : Option Program) (m : Mark) (s : State) → CanLaunch n script s → CanLaunch n script (change_life n (marked m) s)
+launch_renew n script m s h = record {
+  few = All_updated (λ (c : Container). c.life.starts < 2 ^ 63) (λ (c : Container). c.life.starts < 2 ^ 63) (λ (c : Container). c.number == n) (renewed (marked m))
+      (λ c p. subst (λ k. k < 2 ^ 63) (sym (mark_starts m c.life)) p) (λ c p. p) s.containers h.few;
+  pid = h.pid;
+  named = λ c e. named_by m script (container_numbered n s) h.named c (sym (found_updated (λ (d : Container). d.number == n) (renewed (marked m)) s.containers (λ d. refl)) ∙ e);
+}
+
+-- a mark of the container
+pub settle_renew : (n : ℕ) (kit : Kit) (room : Room) (m : Mark) (s : State) → CanSettle n kit room s → CanSettle n kit room (change_life n (marked m) s)
+settle_renew n kit room m s h = record {
+  clock = h.clock;
+  launch = launch_renew n kit.script m s h.launch;
+  remove = remove_alike n kit room s (change_life n (marked m) s) (record { removed = refl; kept = refl; numbers = refl; outputs = refl }) h.remove;
+  execs = h.execs;
+  timers = h.timers;
+}
+
+settle_exec : (n : ℕ) (kit : Kit) (room : Room) (k code : ℕ) (s : State) → CanSettle n kit room s → CanSettle n kit room (change_exec k (exec_ended code) (drop_process (Owner.Exec k) s))
+settle_exec n kit room k code s h =
+    let t : State = change_exec k (exec_ended code) (drop_process (Owner.Exec k) s) in
+    record {
+      clock = h.clock;
+      launch = launch_alike n kit.script s t refl refl h.launch;
+      remove = remove_alike n kit room s t (alike_exec_ended n k code s) h.remove;
+      execs = subst (λ j. j ≤ room.scratch) (sym (length_updated (λ (x : Exec). x.number == k) (exec_ended code) s.execs)) h.execs;
+      timers = h.timers;
+    }
+
+exec_found : (n : ℕ) (kit : Kit) (room : Room) (code k : ℕ) (o : Option Exec) (s : State) → CanSettle n kit room s
+    → CanSettle n kit room (with_found o (λ (x : Exec). and_then (tell_of (exec_die_event x.id code) x.container) (and_then (change (drop_process (Owner.Exec k))) (change (change_exec k (exec_ended code))))) s).state
+exec_found n kit room code k None s h = h
+exec_found n kit room code k (Some x) s h =
+    subst (λ (z : State). CanSettle n kit room (change_exec k (exec_ended code) (drop_process (Owner.Exec k) z)))
+    (sym (told s (container_numbered x.container s) _ (λ c z. refl))) (settle_exec n kit room k code s h)
+
+pub settle_end_exec : (n : ℕ) (kit : Kit) (room : Room) (code k : ℕ) → Keeps (CanSettle n kit room) (end_exec code k)
+settle_end_exec n kit room code k s h = exec_found n kit room code k (exec_numbered k s) s h
+
+pub settle_end_execs : (n : ℕ) (kit : Kit) (room : Room) → Keeps (CanSettle n kit room) (end_execs n)
+settle_end_execs n kit room s h = keeps_each (CanSettle n kit room) _ (λ (x : Exec). settle_end_exec n kit room 137 x.number) (running_execs n s) s h
+
+-- a change of the processes alone
+pub settle_processes : (n : ℕ) (kit : Kit) (room : Room) (es : List Entry) (s : State) → CanSettle n kit room s → CanSettle n kit room (record s { processes = es })
+settle_processes n kit room es s h = record {
+  clock = h.clock;
+  launch = launch_alike n kit.script s (record s { processes = es }) refl refl h.launch;
+  remove = remove_alike n kit room s (record s { processes = es }) (record { removed = refl; kept = refl; numbers = refl; outputs = refl }) h.remove;
+  execs = h.execs;
+  timers = h.timers;
+}
+
+pub settle_die : (n : ℕ) (kit : Kit) (room : Room) (code : ℕ) → Keeps (CanSettle n kit room) (die code n)
+settle_die n kit room code s h =
+    settle_renew n kit room (Mark.Ended code s.clock) (drop_process (Owner.Container n) s)
+    (settle_processes n kit room (drop_process (Owner.Container n) s).processes s h)
+
+fewer_either : (b : Bool) (x : DueAction) (xs ys : List DueAction) → length ys ≤ length xs → length (if b then xs else x ∷ ys) ≤ suc (length xs)
+fewer_either true x xs ys h = omega arith
+fewer_either false x xs ys h = omega (arith, h)
+
+pub fewer : (p : DueAction → Bool) (xs : List DueAction) → length (remove_first p xs) ≤ length xs
+fewer p [] = omega arith
+fewer p (x ∷ xs) = fewer_either (p x) x xs (remove_first p xs) (fewer p xs)
+
+pub settle_clear : (n : ℕ) (kit : Kit) (room : Room) (rank k : ℕ) (s : State) → CanSettle n kit room s → CanSettle n kit room (clear_timer rank k s)
+settle_clear n kit room rank k s h = record {
+  clock = h.clock;
+  launch = launch_alike n kit.script s (clear_timer rank k s) refl refl h.launch;
+  remove = remove_alike n kit room s (clear_timer rank k s) (record { removed = refl; kept = refl; numbers = refl; outputs = refl }) h.remove;
+  execs = h.execs;
+  timers = omega (arith, h.timers, fewer (is_timer rank k) s.timers);
+}
+
+-- up to the conclusion
+pub settle_ended : (n : ℕ) (kit : Kit) (room : Room) (code : ℕ) (s a b d : State) → CanSettle n kit room s → a ≡ (end_execs n s).state → b ≡ (die code n a).state → d ≡ clear_deadlines n b → CanSettle n kit room d
+settle_ended n kit room code s a b d h first second third =
+    let P : State → Type 0 = CanSettle n kit room in
+    subst P (sym third) (settle_clear n kit room 2 n _ (settle_clear n kit room 1 n b
+    (subst P (sym second) (settle_die n kit room code a (subst P (sym first) (settle_end_execs n kit room s h))))))
+
+-- ---- launch
+
+none_of : (o : Option Container) (s : State) (c : Container) → o ≡ Some c → program_of c.life.words (c.life.starts + 1) ≡ None
+    → (with_found o (λ (c : Container). launch_program (program_of c.life.words (c.life.starts + 1)) c) s).state ≡ s
+none_of None s c e h = refl
+none_of (Some d) s c e h =
+    let is : d ≡ c = cc in
+    ap (λ (x : Container). (launch_program (program_of x.life.words (x.life.starts + 1)) x s).state) is ∙ ap (λ p. (launch_program p c s).state) h
+
+-- words that name no program
+pub launch_none : (n : ℕ) (s : State) (c : Container) → container_numbered n s ≡ Some c → program_of c.life.words (c.life.starts + 1) ≡ None → s ≡ (launch n s).state
+launch_none n s c e h = sym (none_of (container_numbered n s) s c e h)
+
+pub begun_is : (program : Program) (c : Container) (s : State) → (launch_program (Some program) c s).state ≡ begun c.number program c.life.open_stdin (container_room c) s
+begun_is program c s =
+    let z : State = begun c.number program c.life.open_stdin (container_room c) s in
+    ap (λ (y : State). (tell_of (plain_event Action.Start) c.number y).state) (told z (container_numbered c.number z) _ (λ d y. refl))
+    ∙ told z (container_numbered c.number z) _ (λ d y. refl)
+
+some_of : (n : ℕ) (o : Option Container) (s : State) (c : Container) (program : Program) → o ≡ Some c → c.number ≡ n → program_of c.life.words (c.life.starts + 1) ≡ Some program
+    → (with_found o (λ (c : Container). launch_program (program_of c.life.words (c.life.starts + 1)) c) s).state ≡ begun n program c.life.open_stdin (container_room c) s
+some_of n None s c program e k h = absurd (cc)
+some_of n (Some d) s c program e k h =
+    let is : d ≡ c = cc in
+    ap (λ (x : Container). (launch_program (program_of x.life.words (x.life.starts + 1)) x s).state) is ∙ (ap (λ p. (launch_program p c s).state) h
+    ∙ (begun_is program c s ∙ ap (λ m. begun m program c.life.open_stdin (container_room c) s) k))
+
+is_number : (m n : ℕ) → (m == n) ≡ true → m ≡ n
+is_number m n e = eqb-true m n e
+
+passes_either : {A : Type 0} (p : A → Bool) (b : Bool) (x c : A) (o : Option A) → p x ≡ b → (o ≡ Some c → p c ≡ true) → (if b then Some x else o) ≡ Some c → p c ≡ true
+passes_either p true x c o h rest e = let is : x ≡ c = cc in ap p (sym is) ∙ h
+passes_either p false x c o h rest e = rest e
+
+pub passes : {A : Type 0} (p : A → Bool) (xs : List A) (c : A) → find p xs ≡ Some c → p c ≡ true
+passes p [] c e = absurd (cc)
+passes p (x ∷ xs) c e = passes_either p (p x) x c (find p xs) refl (passes p xs c) e
+
+-- the container of a number has it
+pub has_number : (n : ℕ) (s : State) (c : Container) → container_numbered n s ≡ Some c → c.number ≡ n
+has_number n s c e = is_number c.number n (passes (λ (d : Container). d.number == n) s.containers c e)
+
+-- words that name a program
+pub launch_some : (n : ℕ) (s : State) (c : Container) (program : Program) → container_numbered n s ≡ Some c → program_of c.life.words (c.life.starts + 1) ≡ Some program
+    → begun n program c.life.open_stdin (container_room c) s ≡ (launch n s).state
+launch_some n s c program e h = sym (some_of n (container_numbered n s) s c program e (has_number n s c e) h)
+
+-- ---- the conclusion
+
+followed_is : (n : ℕ) (c : Container) (s : State) → container_numbered n s ≡ Some c → followed n s ≡ follow (decision_at s.clock c.life) n s
+followed_is n c s e = ap (λ o. with_found o (λ (d : Container) (z : State). follow (decision_at z.clock d.life) n z) s) e
+
+pub tell_still : (event : Container → ℕ → Event) (n : ℕ) (s : State) → (tell_of event n s).state ≡ s
+tell_still event n s = told s (container_numbered n s) _ (λ c z. refl)
+
+goal_is : (n : ℕ) (c : Container) (s : State) → container_numbered n s ≡ Some c → c.number ≡ n → (g : Goal) → (goal_effect g n s).state ≡ (by_goal g c s).state
+goal_is n c s e k Goal.Remove = ap (λ m. (goal_effect Goal.Remove m s).state) (sym k)
+goal_is n c s e k Goal.Stop = ap (λ m. (goal_effect Goal.Stop m s).state) (sym k) ∙ sym (tell_still (plain_event Action.Stop) c.number _)
+goal_is n c s e k Goal.Restart =
+    ap (λ m. (launch_by_call m s).state) (sym k)
+    ∙ (ap (λ z. (launch_by_call c.number z).state) (sym (tell_still (plain_event Action.Stop) c.number s))
+    ∙ sym (tell_still (plain_event Action.Restart) c.number _))
+goal_is n c s e k Goal.None = ap (λ (x : Effect). x.state) (followed_is n c s e) ∙ ap (λ m. (follow (decision_at s.clock c.life) m s).state) (sym k)
+
+status_is : (n : ℕ) (c : Container) (s : State) → (u : Status) → (u ≡ Status.Dead → ⊥) → (by_status u c s).state ≡ (by_goal c.life.goal c s).state
+status_is n c s Status.Dead other = absurd (other refl)
+status_is n c s Status.Created other = refl
+status_is n c s Status.Running other = refl
+status_is n c s Status.Paused other = refl
+status_is n c s Status.Restarting other = refl
+status_is n c s Status.Removing other = refl
+status_is n c s Status.Exited other = refl
+
+-- by its goal, but in dead
+pub concluded_is : (n : ℕ) (c : Container) (s a : State) → container_numbered n s ≡ Some c → (c.life.status ≡ Status.Dead → ⊥) → a ≡ (goal_effect c.life.goal n s).state → a ≡ (concluded n s).state
+concluded_is n c s a e other h =
+    h ∙ (goal_is n c s e (has_number n s c e) c.life.goal ∙ (sym (status_is n c s c.life.status other)
+    ∙ ap (λ o. (with_found o (λ (d : Container). by_status d.life.status d) s).state) (sym e)))

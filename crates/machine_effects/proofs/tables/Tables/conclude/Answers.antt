@@ -1,0 +1,10 @@
+use Rattle.std.proofs.Common.{sym}
+use Rattle.machine_effects.specs.Held.{container_in}
+use Rattle.machine_effects.proofs.SettleLemmas.{concluded_is}
+use Rattle.machine_effects.proofs.tables.Tables.conclude.Goals as goal
+
+pub returns-in_default-status : goal.returns-in_default-status
+returns-in_default-status c = record {
+  state = concluded_is c.args.number (container_in c.in-Some.h.now) c.args.self.now.state c.by_goal.new.self.state (sym c.in-Some.ensures) c.in_default-status.not-Dead c.by_goal.ensures.state;
+  room = c.by_goal.ensures.room;
+}

@@ -1,0 +1,13 @@
+pub mod Effects
+pub mod Fit
+pub mod Foretold
+pub mod Held
+pub mod Marks
+pub mod Memory
+pub mod Outputs
+pub mod Places
+pub mod PrefixSearch
+pub mod Running
+pub mod Settled
+pub mod Values
+pub mod Views

@@ -1,0 +1,8 @@
+pub mod Containers
+pub mod Execs
+pub mod Outputs
+pub mod Volumes
+pub mod Tickets
+pub mod Removals
+pub mod Moments
+pub mod Tables

@@ -1,0 +1,7 @@
+-- own: the fields of the table of execs as what they mean.
+use Rattle.machine_effects.specs.Values.Execs.{ExecRows}
+use Rattle.machine_effects.specs.declared.execs.Execs.TheInside.{Inside}
+
+-- The execs.
+abbrev pub exec_rows : Inside → ExecRows
+exec_rows m = record { execs = m.items.items }

@@ -1,0 +1,49 @@
+-- own: the tables as the state that they mean.
+use Rattle.std.specs.Prelude.{vec_capacity}
+use Rattle.machine_model.specs.State.{State}
+use Rattle.machine_effects.specs.Held.{tickets_in}
+use Rattle.machine_effects.specs.Memory.{Memory}
+use Rattle.machine_effects.specs.declared.tables.Tables.TheInside.{Inside}
+
+-- The state.
+abbrev pub state_of : Inside → State
+state_of m = record {
+  containers = m.containers.containers;
+  execs = m.execs.execs;
+  outputs = m.outputs.outputs;
+  processes = m.kernel.processes;
+  timers = m.containers.timers;
+  volumes = m.volumes.volumes;
+  uses = m.volumes.uses;
+  tickets = tickets_in m.seed m.tickets.tickets;
+  removed = m.removals.removed;
+  kept = m.removals.kept;
+  next_number = m.next_number;
+  next_ticket = m.next_ticket;
+  next_pid = m.next_pid;
+  event_count = m.event_count;
+  event_moments = m.moments.moments;
+  call_count = m.call_count;
+  step_count = m.step_count;
+  clock = m.clock;
+  seed = m.seed;
+}
+
+-- The state and the room.
+abbrev pub memory_of : Inside → Memory
+memory_of m = record {
+  state = state_of m;
+  room = record {
+    timers = m.containers.room;
+    tickets = m.tickets.room;
+    removed = m.removals.removed_room;
+    kept = m.removals.kept_room;
+    moments = m.moments.room;
+    scratch = vec_capacity m.scratch;
+  };
+  spare = m.kernel.spare;
+  bytes = m.kernel.bytes;
+  logs = m.containers.logs;
+  outputs = m.outputs.rooms;
+  scratch = m.scratch.items;
+}

@@ -1,0 +1,123 @@
+// The table of containers: their logs and timers with them.
+ghost use Rattle.std.specs.Prelude.{◌≡◌, ℕ, ◌+◌, ◌<◌, ◌≤◌, ◌==◌, [], length, find, option_map, option_copied, OnOk};
+ghost use Rattle.container_table.specs.Lists.{remove_first};
+ghost use Rattle.container_table.specs.Reference.{container_by};
+ghost use Rattle.container_table.specs.Timers.{cleared, with_timer};
+ghost use Rattle.machine_effects.specs.Fit.{AreFew};
+ghost use Rattle.machine_effects.specs.Held.{container_in};
+ghost use Rattle.machine_effects.specs.Marks.{marked, with_life, launched_at};
+
+use super::held::Held;
+use super::marks::Mark;
+use super::{find, lives, timers};
+use engine_text::{DueAction, Found, NoMemory};
+use std::alloc::Global;
+use std::marker::Model;
+
+/// The containers in order of creation, and the timers of all.
+#[derive(Drop)]
+pub struct Containers {
+    held: Vec<Held>,
+    timers: Vec<DueAction>,
+}
+
+impl Model for Containers {
+    ghost use Rattle.machine_effects.specs.Values.Containers.{ContainerRows};
+
+    ghost Value = { ContainerRows };
+
+    ghost use Rattle.machine_effects.specs.Views.Containers.{container_rows};
+
+    ghost view = { container_rows };
+}
+
+impl Containers {
+    /// None; it takes no memory.
+    pub fn new(alloc: Global) -> Containers
+        ensures containers { result.containers ≡ [] }
+        ensures timers { result.timers ≡ [] }
+    {
+        Containers {
+            held: Vec::new(alloc),
+            timers: Vec::new(alloc),
+        }
+    }
+
+    /// That is noted in the container's life.
+    pub fn renew(&mut self, number: u64, noted: Mark)
+        ensures containers { self.new.containers ≡ with_life number (marked noted) self.old.containers }
+        ensures timers { self.new.timers ≡ self.old.timers }
+        ensures room { self.new.room ≡ self.old.room }
+    {
+        lives::renew(&mut self.held, number, noted);
+    }
+
+    /// The container's life begins anew, with that process id.
+    pub fn launch(&mut self, number: u64, moment: u64, pid: u64)
+        requires { AreFew self.old.containers }
+        ensures containers { self.new.containers
+            ≡ with_life number (launched_at pid moment) self.old.containers }
+        ensures timers { self.new.timers ≡ self.old.timers }
+        ensures room { self.new.room ≡ self.old.room }
+    {
+        lives::launch(&mut self.held, number, moment, pid);
+    }
+
+    /// The container with that number.
+    pub fn numbered(&self, number: u64) -> Option<&Held>
+        ensures { option_map container_in (option_copied result)
+            ≡ find (λ c. c.number == number) self.now.containers }
+    {
+        lives::numbered(self.held.as_slice(), number)
+    }
+
+    /// The container that a reference names.
+    pub fn find(&self, reference: &str) -> Found
+        ensures { result ≡ container_by self.now.containers reference.now }
+    {
+        find::container_by(self.held.as_slice(), reference)
+    }
+
+    /// The container is gone.
+    pub fn remove(&mut self, number: u64) -> Option<Held>
+        ensures containers { self.new.containers
+            ≡ remove_first (λ c. c.number == number) self.old.containers }
+        ensures held { option_map container_in result
+            ≡ find (λ c. c.number == number) self.old.containers }
+        ensures timers { self.new.timers ≡ self.old.timers }
+        ensures room { self.new.room ≡ self.old.room }
+    {
+        lives::remove(&mut self.held, number)
+    }
+
+    /// The timer of that rank and number is gone.
+    pub fn clear(&mut self, rank: u8, number: u64)
+        ensures containers { self.new.containers ≡ self.old.containers }
+        ensures timers { self.new.timers ≡ cleared rank number self.old.timers }
+        ensures room { self.new.room ≡ self.old.room }
+    {
+        timers::clear(&mut self.timers, rank, number);
+    }
+
+    /// There is a timer of that rank and number at the moment, in the place of an earlier one.
+    pub fn set(&mut self, moment: u64, rank: u8, number: u64)
+        requires { length self.old.timers < self.old.room }
+        ensures containers { self.new.containers ≡ self.old.containers }
+        ensures timers { self.new.timers ≡ with_timer moment rank number self.old.timers }
+        ensures room { self.new.room ≡ self.old.room }
+    {
+        timers::set(&mut self.timers, moment, rank, number);
+    }
+
+    /// Makes room for a timer more.
+    pub fn reserve_timer(&mut self) -> Result<(), NoMemory>
+        ensures containers { self.new.containers ≡ self.old.containers }
+        ensures timers { self.new.timers ≡ self.old.timers }
+        ensures room { OnOk result (length self.new.timers < self.new.room) }
+    {
+        match self.timers.reserve(1) {
+            Ok(()) => Ok(()),
+            Err(_) => Err(NoMemory),
+        }
+    }
+}

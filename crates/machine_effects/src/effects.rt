@@ -1,0 +1,10 @@
+// The effects of a step, one method each.
+mod cancel;
+mod deliver;
+mod destroy;
+mod due;
+mod end_main;
+mod freeze;
+mod launch;
+mod meet;
+mod settle;

@@ -1,0 +1,29 @@
+// The signal of a kill.
+ghost use Rattle.std.specs.Prelude.{◌≡◌, ◌<◌};
+ghost use Rattle.machine_model.specs.Calls.Kill.{deliver};
+ghost use Rattle.machine_effects.specs.Fit.{AreTimely, CanSettle, died_of};
+
+use crate::kit::Kit;
+use crate::marks::Mark;
+use crate::tables::Tables;
+use engine_text::Signal;
+
+impl Tables {
+    /// The signal of a kill, which may be a final one.
+    pub fn deliver(&mut self, last: bool, sent: Signal, number: u64, kit: Kit) -> Option<u8>
+        requires signal { sent.number < 32 }
+        requires timely { AreTimely self.old.state }
+        requires fit { CanSettle number kit self.old.room self.old.state }
+        requires spare { 0 < self.old.spare }
+        ensures state { self.new.state ≡ (deliver last sent.number number self.old.state).state }
+        ensures died { died_of number result ≡ (deliver last sent.number number self.old.state).died }
+        ensures room { self.new.room ≡ self.old.room }
+    {
+        if last {
+            self.renew(number, Mark::ByHand);
+            self.meet_signal(sent, number, kit)
+        } else {
+            self.send(sent, false, number, kit)
+        }
+    }
+}

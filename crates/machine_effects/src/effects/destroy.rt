@@ -1,0 +1,43 @@
+// The removal of a container.
+ghost use Rattle.std.specs.Prelude.{◌≡◌};
+ghost use Rattle.machine_model.specs.Effects.Destroy.{destroy};
+ghost use Rattle.machine_effects.specs.Fit.{CanRemove};
+
+use crate::held::Fate;
+use crate::kit::Kit;
+use crate::tables::Tables;
+use engine_text::{KeptLogs, Log, OwnedLog, OwnedLogs, Owner, Removed};
+
+impl Tables {
+    /// The container is gone; what is kept of it goes into the kit's lists.
+    pub fn destroy(&mut self, number: u64, kit: Kit)
+        requires { CanRemove number kit self.old.room self.old.state }
+        ensures state { self.new.state ≡ (destroy number self.old.state).state }
+        ensures room { self.new.room ≡ self.old.room }
+        ensures spare { self.new.spare ≡ self.old.spare }
+    {
+        let Some(h) = self.containers.remove(number) else {
+            return;
+        };
+        let code = h.container.life.code;
+        let Kit {
+            script: _,
+            mut logs,
+            execs,
+        } = kit;
+        logs.push_reserved(OwnedLog {
+            owner: Owner::Container(number),
+            log: Log::from_vec(h.records),
+        });
+        self.outputs.take_of(&self.execs, number, &mut logs);
+        self.execs.remove_of(number);
+        self.volumes.release(number);
+        self.tickets.answer(number, Fate::Gone(code));
+        let removed = Removed { number, execs };
+        let kept = KeptLogs {
+            number,
+            logs: OwnedLogs::from_vec(logs),
+        };
+        self.removals.add(removed, kept);
+    }
+}

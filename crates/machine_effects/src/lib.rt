@@ -1,0 +1,36 @@
+//! The tables of every part of the machine's state, and one method for each effect of a step.
+#![tactic(auto)]
+
+mod containers;
+mod death;
+mod effects;
+mod events;
+mod exec_rows;
+mod execs;
+mod find;
+mod foretell;
+mod held;
+mod kit;
+mod lives;
+mod marks;
+mod moments;
+mod outputs;
+mod ready;
+mod removals;
+mod tables;
+mod tickets;
+mod timers;
+mod volumes;
+
+pub use containers::Containers;
+pub use death::Death;
+pub use execs::Execs;
+pub use held::{Fate, Held, HeldOutput, HeldTicket, Ready};
+pub use kit::Kit;
+pub use marks::Mark;
+pub use moments::Moments;
+pub use outputs::Outputs;
+pub use removals::Removals;
+pub use tables::Tables;
+pub use tickets::Tickets;
+pub use volumes::Volumes;

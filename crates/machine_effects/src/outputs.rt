@@ -1,0 +1,95 @@
+// The outputs of execs.
+ghost use Rattle.std.specs.Prelude.{◌≡◌, ℕ, ◌+◌, ◌<◌, ◌≤◌, ◌==◌, [], ◌∷◌, ◌++◌, not, length, map, filter, slice_index_or, vec_len, vec_capacity};
+ghost use Rattle.std.specs.List.{remove};
+ghost use Rattle.machine_effects.specs.Held.{output_in, outputs_in};
+ghost use Rattle.machine_effects.specs.Outputs.{is_output_of};
+ghost use Rattle.machine_effects.specs.declared.held.HeldOutput.{HeldOutput};
+
+use super::execs::Execs;
+use super::held::HeldOutput;
+use engine_text::{Log, OwnedLog};
+use std::alloc::Global;
+use std::marker::Model;
+
+/// The output of each exec that has started.
+#[derive(Drop)]
+pub struct Outputs {
+    held: Vec<HeldOutput>,
+}
+
+impl Model for Outputs {
+    ghost use Rattle.machine_effects.specs.Values.Outputs.{OutputRows};
+
+    ghost Value = { OutputRows };
+
+    ghost use Rattle.machine_effects.specs.Views.Outputs.{output_rows};
+
+    ghost view = { output_rows };
+}
+
+// Whether the output is of one of the container's execs.
+fn is_of(o: &HeldOutput, execs: &Execs, number: u64) -> bool
+    ensures { result ≡ is_output_of number execs.now.execs (output_in o.now) }
+{
+    execs.owns(number, o.owner)
+}
+
+// The output at that place goes over into the list.
+fn move_at(held: &mut Vec<HeldOutput>, place: usize, into: &mut Vec<OwnedLog>)
+    requires place { place < vec_len held.old }
+    requires room { vec_len into.old < vec_capacity into.old }
+    ensures held { held.new.items ≡ remove held.old.items place }
+    ensures len { vec_len held.new + 1 ≡ vec_len held.old }
+    ensures into { (o : HeldOutput) → into.new.items
+        ≡ into.old.items ++ output_in (slice_index_or held.old.items place o) ∷ [] }
+    ensures more { vec_len into.new ≡ vec_len into.old + 1 }
+    ensures capacity { vec_capacity into.new ≡ vec_capacity into.old }
+{
+    let HeldOutput { owner, records } = held.remove(place);
+    into.push_reserved(OwnedLog {
+        owner,
+        log: Log::from_vec(records),
+    });
+}
+
+// Those of the container's execs go over into the list.
+fn sift(held: &mut Vec<HeldOutput>, execs: &Execs, number: u64, into: &mut Vec<OwnedLog>)
+    requires { length (filter (is_output_of number execs.now.execs) (outputs_in held.old.items))
+        + vec_len into.old ≤ vec_capacity into.old }
+    ensures held { outputs_in held.new.items
+        ≡ filter (λ o. not (is_output_of number execs.now.execs o)) (outputs_in held.old.items) }
+    ensures into { into.new.items
+        ≡ into.old.items ++ filter (is_output_of number execs.now.execs) (outputs_in held.old.items) }
+{
+    let mut i = 0;
+    while i < held.len() {
+        if is_of(&held[i], execs, number) {
+            move_at(held, i, into);
+        } else {
+            i += 1;
+        }
+    }
+}
+
+impl Outputs {
+    /// None; it takes no memory.
+    pub fn new(alloc: Global) -> Outputs
+        ensures { result.outputs ≡ [] }
+    {
+        Outputs {
+            held: Vec::new(alloc),
+        }
+    }
+
+    /// The outputs of the container's execs go over into the list.
+    pub fn take_of(&mut self, execs: &Execs, number: u64, into: &mut Vec<OwnedLog>)
+        requires { length (filter (is_output_of number execs.now.execs) self.old.outputs)
+            + vec_len into.old ≤ vec_capacity into.old }
+        ensures outputs { self.new.outputs
+            ≡ filter (λ o. not (is_output_of number execs.now.execs o)) self.old.outputs }
+        ensures into { into.new.items
+            ≡ into.old.items ++ filter (is_output_of number execs.now.execs) self.old.outputs }
+    {
+        sift(&mut self.held, execs, number, into);
+    }
+}

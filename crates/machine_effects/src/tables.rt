@@ -1,0 +1,289 @@
+// The tables of the machine: every part of its state.
+ghost use Rattle.std.specs.Prelude.{◌≡◌, ℕ, ◌+◌, ◌<◌, ◌≤◌, ◌^◌, length, map, min, option_map, option_copied, slice_index, IfOk, OnOk};
+ghost use Rattle.engine_text.specs.declared.owner.Owner as owners;
+ghost use Rattle.proc_kernel.specs.Processes.{thaw, signal};
+ghost use Rattle.proc_kernel.specs.Tables.{effect_of, process_of};
+ghost use Rattle.proc_kernel.specs.Foretelling.{code_at};
+ghost use Rattle.container_table.specs.Reference.{container_by};
+ghost use Rattle.machine_model.specs.Consistency.{is_there};
+ghost use Rattle.machine_model.specs.State.{container_numbered, exec_numbered, running_execs, is_live, change_life, clear_timer, set_timer, drop_process, change_exec};
+ghost use Rattle.machine_model.specs.Calls.Pause.{freeze_process};
+ghost use Rattle.machine_model.specs.Effects.EndMain.{exec_ended};
+ghost use Rattle.machine_model.specs.Effects.Meet.{stepped};
+ghost use Rattle.machine_model.specs.Step.{counted};
+ghost use Rattle.machine_effects.specs.Fit.{AreFew, AreTimely};
+ghost use Rattle.machine_effects.specs.Effects.EndMain.{begun};
+ghost use Rattle.machine_effects.specs.Held.{container_in};
+ghost use Rattle.machine_effects.specs.Marks.{marked};
+ghost use Rattle.machine_effects.specs.Memory.{HasRoom, standing};
+
+use super::containers::Containers;
+use super::execs::Execs;
+use super::held::Held;
+use super::marks::Mark;
+use super::moments::Moments;
+use super::outputs::Outputs;
+use super::removals::Removals;
+use super::tickets::Tickets;
+use super::volumes::Volumes;
+use engine_text::{Effect, Event, Exec, Found, NoMemory, Owner, Script, Signal};
+use proc_kernel::Kernel;
+use std::alloc::Global;
+use std::marker::Model;
+
+/// Every part of the machine's state.
+#[derive(Drop)]
+pub struct Tables {
+    pub(super) containers: Containers,
+    pub(super) execs: Execs,
+    pub(super) outputs: Outputs,
+    pub(super) kernel: Kernel,
+    pub(super) volumes: Volumes,
+    pub(super) tickets: Tickets,
+    pub(super) removals: Removals,
+    pub(super) moments: Moments,
+    pub(super) scratch: Vec<u64>,
+    pub(super) next_number: u64,
+    pub(super) next_ticket: u64,
+    pub(super) next_pid: u64,
+    pub(super) event_count: u64,
+    pub(super) call_count: u64,
+    pub(super) step_count: u64,
+    pub(super) clock: u64,
+    pub(super) seed: [u8; 32],
+}
+
+impl Model for Tables {
+    ghost use Rattle.machine_effects.specs.Memory.{Memory};
+
+    ghost Value = { Memory };
+
+    ghost use Rattle.machine_effects.specs.Views.Tables.{memory_of};
+
+    ghost view = { memory_of };
+}
+
+impl Tables {
+    /// That is noted in the container's life.
+    pub fn renew(&mut self, number: u64, noted: Mark)
+        ensures state { self.new.state ≡ change_life number (marked noted) self.old.state }
+        ensures room { self.new.room ≡ self.old.room }
+        ensures spare { self.new.spare ≡ self.old.spare }
+    {
+        self.containers.renew(number, noted);
+    }
+
+    /// The owner's process is gone.
+    pub fn drop_process(&mut self, owner: Owner)
+        ensures state { self.new.state ≡ drop_process owner self.old.state }
+        ensures room { self.new.room ≡ self.old.room }
+        ensures spare { self.new.spare ≡ self.old.spare }
+        ensures scratch { self.new.scratch ≡ self.old.scratch }
+    {
+        self.kernel.remove(owner);
+    }
+
+    /// The timer of that rank and number is gone.
+    pub fn clear_timer(&mut self, rank: u8, number: u64)
+        ensures state { self.new.state ≡ clear_timer rank number self.old.state }
+        ensures room { self.new.room ≡ self.old.room }
+        ensures spare { self.new.spare ≡ self.old.spare }
+    {
+        self.containers.clear(rank, number);
+    }
+
+    /// There is a timer of that rank and number at the moment, in the place of an earlier one.
+    pub fn set_timer(&mut self, rank: u8, number: u64, moment: u64)
+        requires { length self.old.state.timers < self.old.room.timers }
+        ensures state { self.new.state ≡ set_timer rank number moment self.old.state }
+        ensures room { self.new.room ≡ self.old.room }
+        ensures spare { self.new.spare ≡ self.old.spare }
+    {
+        self.containers.set(moment, rank, number);
+    }
+
+    /// The moment of the step.
+    pub fn clock(&self) -> u64
+        ensures { result ≡ self.now.state.clock }
+    {
+        self.clock
+    }
+
+    /// The container with that number.
+    pub fn numbered(&self, number: u64) -> Option<&Held>
+        ensures { option_map container_in (option_copied result) ≡ container_numbered number self.now.state }
+    {
+        self.containers.numbered(number)
+    }
+
+    /// The exec with that number.
+    pub fn exec(&self, number: u64) -> Option<&Exec>
+        ensures { option_copied result ≡ exec_numbered number self.now.state }
+    {
+        self.execs.numbered(number)
+    }
+
+    /// The container that a reference names.
+    pub fn find(&self, reference: &str) -> Found
+        ensures { result ≡ container_by self.now.state.containers reference.now }
+    {
+        self.containers.find(reference)
+    }
+
+    /// Whether the owner's process lives.
+    pub fn stands(&self, owner: Owner) -> bool
+        ensures { result ≡ is_live owner self.now.state }
+    {
+        self.kernel.stands(owner)
+    }
+
+    /// The numbers of the container's running execs.
+    pub fn running(&self, alloc: Global, number: u64) -> Result<Vec<u64>, NoMemory>
+        ensures { IfOk result (λ v. v.items ≡ map (λ x. x.number) (running_execs number self.now.state)) }
+    {
+        let mut numbers = Vec::new(alloc);
+        if numbers.reserve(self.execs.len()).is_err() {
+            return Err(NoMemory);
+        }
+        self.execs.list_running(&self.kernel, number, &mut numbers);
+        Ok(numbers)
+    }
+
+    /// The code with which that signal would end the container's process, if it would.
+    pub fn signal_code(&self, number: u64, sent: Signal, thaws: bool) -> Option<u8>
+        requires { sent.number < 32 }
+        ensures { (t : ℕ) → result ≡ code_at (signal sent.number thaws t)
+            (process_of (owners.Owner.Container number) self.now.state.processes) }
+    {
+        self.kernel
+            .signal_code(Owner::Container(number), sent, thaws)
+    }
+
+    pub(super) fn has_exec(&self, number: u64) -> bool
+        ensures { result ≡ is_there (exec_numbered number self.now.state) }
+    {
+        self.execs.has(number)
+    }
+
+    // The exec has ended with that code.
+    pub(super) fn end_row(&mut self, code: u8, number: u64)
+        ensures state { self.new.state ≡ change_exec number (exec_ended code) self.old.state }
+        ensures room { self.new.room ≡ self.old.room }
+        ensures spare { self.new.spare ≡ self.old.spare }
+        ensures scratch { self.new.scratch ≡ self.old.scratch }
+    {
+        self.execs.end(number, code);
+    }
+
+    // Notes which of the container's execs run.
+    pub(super) fn note_running(&mut self, number: u64)
+        requires { length self.old.state.execs ≤ self.old.room.scratch }
+        ensures state { self.new.state ≡ self.old.state }
+        ensures room { self.new.room ≡ self.old.room }
+        ensures spare { self.new.spare ≡ self.old.spare }
+        ensures scratch { self.new.scratch ≡ map (λ x. x.number) (running_execs number self.old.state) }
+    {
+        self.execs
+            .list_running(&self.kernel, number, &mut self.scratch);
+    }
+
+    pub(super) fn noted(&self) -> usize
+        ensures { result ≡ length self.now.scratch }
+    {
+        self.scratch.len()
+    }
+
+    pub(super) fn noted_at(&self, place: usize) -> u64
+        requires { place < length self.now.scratch }
+        ensures { result ≡ slice_index self.now.scratch place }
+    {
+        self.scratch[place]
+    }
+
+    /// The owner's process goes on.
+    pub fn thaw_process(&mut self, owner: Owner) -> Effect
+        requires { AreTimely self.old.state }
+        ensures state { self.new.state ≡ stepped thaw owner self.old.state }
+        ensures effect { result ≡ effect_of (thaw self.old.state.clock) (process_of owner self.old.state.processes) }
+        ensures room { self.new.room ≡ self.old.room }
+        ensures spare { self.new.spare ≡ self.old.spare }
+        ensures scratch { self.new.scratch ≡ self.old.scratch }
+    {
+        self.kernel.thaw(owner, self.clock)
+    }
+
+    /// The signal comes to the owner's process.
+    pub fn signal_process(&mut self, owner: Owner, sent: Signal, thaws: bool) -> Effect
+        requires timely { AreTimely self.old.state }
+        requires signal { sent.number < 32 }
+        ensures state { self.new.state ≡ stepped (signal sent.number thaws) owner self.old.state }
+        ensures effect { result
+            ≡ effect_of (signal sent.number thaws self.old.state.clock) (process_of owner self.old.state.processes) }
+        ensures room { self.new.room ≡ self.old.room }
+        ensures spare { self.new.spare ≡ self.old.spare }
+    {
+        self.kernel.signal(owner, sent, thaws, self.clock)
+    }
+
+    /// The owner's process is frozen.
+    pub fn freeze_process(&mut self, owner: Owner)
+        ensures state { self.new.state ≡ (freeze_process owner self.old.state).state }
+        ensures room { self.new.room ≡ self.old.room }
+        ensures spare { self.new.spare ≡ self.old.spare }
+        ensures scratch { self.new.scratch ≡ self.old.scratch }
+    {
+        self.kernel.freeze(owner, self.clock);
+    }
+
+    // The container's life and process begin, with room for so many bytes.
+    pub(super) fn begin(&mut self, number: u64, script: Script, stdin: bool, room: u64)
+        requires few { AreFew self.old.state.containers }
+        requires pid { self.old.state.next_pid < 2 ^ 63 }
+        requires spare { 0 < self.old.spare }
+        ensures state { self.new.state ≡ begun number script stdin room self.old.state }
+        ensures room { self.new.room ≡ self.old.room }
+    {
+        self.containers.launch(number, self.clock, self.next_pid);
+        let stop = Signal { number: 15 };
+        let owner = Owner::Container(number);
+        self.kernel
+            .spawn(owner, script, self.clock, stdin, stop, room);
+        self.next_pid += 1;
+    }
+
+    /// The effects stand at that moment.
+    pub fn stand_at(&mut self, moment: u64)
+        ensures { self.new ≡ standing moment self.old }
+    {
+        self.clock = moment;
+    }
+
+    /// The step and its events are counted.
+    pub fn count(&mut self, events: &[Event], calls: u64)
+        requires steps { self.old.state.step_count < 2 ^ 60 }
+        requires calls { self.old.state.call_count + calls < 2 ^ 63 }
+        requires events { self.old.state.event_count + length events.now < 2 ^ 64 }
+        requires moments { min 65536 (length self.old.state.event_moments + length events.now) ≤ self.old.room.moments }
+        ensures state { self.new.state ≡ counted events.now calls self.old.state }
+        ensures room { self.new.room ≡ self.old.room }
+        ensures spare { self.new.spare ≡ self.old.spare }
+    {
+        self.moments.add(events);
+        self.event_count += events.len() as u64;
+        self.call_count += calls;
+        self.step_count += 1;
+    }
+
+    /// Makes room for the end of a main process, and what may follow it.
+    pub fn make_room(&mut self, alloc: Global) -> Result<(), NoMemory>
+        ensures state { self.new.state ≡ self.old.state }
+        ensures room { OnOk result (HasRoom self.new) }
+    {
+        if self.scratch.reserve(self.execs.len()).is_err() {
+            return Err(NoMemory);
+        }
+        self.containers.reserve_timer()?;
+        self.removals.reserve()?;
+        self.kernel.reserve(alloc, 1, 0)
+    }
+}

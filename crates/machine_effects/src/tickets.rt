@@ -1,0 +1,147 @@
+// The table of tickets.
+ghost use Rattle.std.specs.Prelude.{◌≡◌, ℕ, ◌<◌, [], length, map, slice_get, Some};
+ghost use Rattle.machine_effects.specs.Held.{last_ready, late_ready, ready_by, ready_or, answered_by};
+ghost use Rattle.machine_effects.specs.Places.{at_place};
+ghost use Rattle.machine_effects.specs.declared.held.HeldTicket.{HeldTicket};
+
+use super::held::{Fate, HeldTicket, Ready};
+use engine_text::Asked;
+use std::alloc::Global;
+use std::marker::Model;
+
+/// The tickets in order of number.
+#[derive(Drop)]
+pub struct Tickets {
+    items: Vec<HeldTicket>,
+}
+
+impl Model for Tickets {
+    ghost use Rattle.machine_effects.specs.Values.Tickets.{TicketRows};
+
+    ghost Value = { TicketRows };
+
+    ghost use Rattle.machine_effects.specs.Views.Tickets.{ticket_rows};
+
+    ghost view = { ticket_rows };
+}
+
+// What a ticket is answered when its container goes, whose last code is this.
+fn last_ready(asked: Asked, code: u8) -> Ready
+    ensures { result ≡ last_ready asked code }
+{
+    match asked {
+        Asked::Stop => Ready::Done,
+        Asked::Restart => Ready::Done,
+        Asked::Remove => Ready::Done,
+        Asked::Wait(_) => Ready::Waited(code),
+    }
+}
+
+// What it is answered when the removal of its container times out.
+fn late_ready(asked: Asked) -> Option<Ready>
+    ensures { result ≡ late_ready asked }
+{
+    match asked {
+        Asked::Stop => None,
+        Asked::Restart => None,
+        Asked::Remove => Some(Ready::TimedOut),
+        Asked::Wait(_) => None,
+    }
+}
+
+// What it is answered by what befell its container.
+fn ready_by(fate: Fate, asked: Asked) -> Option<Ready>
+    ensures { result ≡ ready_by fate asked }
+{
+    match fate {
+        Fate::Gone(code) => Some(last_ready(asked, code)),
+        Fate::TimedOut => late_ready(asked),
+    }
+}
+
+// What is ready stays.
+fn ready_or(ready: Option<Ready>, more: Option<Ready>) -> Option<Ready>
+    ensures { result ≡ ready_or ready more }
+{
+    match ready {
+        None => more,
+        Some(r) => Some(r),
+    }
+}
+
+// What is ready for the ticket, which is answered if it is of the container.
+fn answered(t: &HeldTicket, number: u64, fate: Fate) -> Option<Ready>
+    ensures { result ≡ (answered_by fate number t.now).ready }
+{
+    if t.container == number {
+        ready_or(t.ready, ready_by(fate, t.asked))
+    } else {
+        t.ready
+    }
+}
+
+impl Tickets {
+    /// None; it takes no memory.
+    pub fn new(alloc: Global) -> Tickets
+        ensures { result.tickets ≡ [] }
+    {
+        Tickets {
+            items: Vec::new(alloc),
+        }
+    }
+
+    /// How many they are.
+    pub fn len(&self) -> usize
+        ensures { result ≡ length self.now.tickets }
+    {
+        self.items.len()
+    }
+
+    /// The ticket at that place.
+    pub fn at(&self, place: usize) -> &HeldTicket
+        requires { place < length self.now.tickets }
+        ensures { slice_get self.now.tickets place ≡ Some result.now }
+    {
+        &self.items[place]
+    }
+
+    /// The ticket at that place has that reply, or none.
+    pub fn put(&mut self, place: usize, ready: Option<Ready>)
+        requires { place < length self.old.tickets }
+        ensures tickets { self.new.tickets
+            ≡ at_place (λ t. record t { ready = ready }) place self.old.tickets }
+        ensures room { self.new.room ≡ self.old.room }
+    {
+        let t = &mut self.items[place];
+        t.ready = ready;
+    }
+
+    // What is ready for the ticket at that place, if it is answered.
+    fn answered_at(&self, place: usize, number: u64, fate: Fate) -> Option<Ready>
+        requires { place < length self.now.tickets }
+        ensures { (t : HeldTicket) → slice_get self.now.tickets place ≡ Some t
+            → result ≡ (answered_by fate number t).ready }
+    {
+        answered(self.at(place), number, fate)
+    }
+
+    // The ticket at that place is answered, if it is of the container.
+    fn answer_at(&mut self, place: usize, number: u64, fate: Fate)
+        requires { place < length self.old.tickets }
+        ensures tickets { self.new.tickets ≡ at_place (answered_by fate number) place self.old.tickets }
+        ensures room { self.new.room ≡ self.old.room }
+    {
+        let ready = self.answered_at(place, number, fate);
+        self.put(place, ready);
+    }
+
+    /// Each ticket of the container is answered by what befell it.
+    pub fn answer(&mut self, number: u64, fate: Fate)
+        ensures tickets { self.new.tickets ≡ map (answered_by fate number) self.old.tickets }
+        ensures room { self.new.room ≡ self.old.room }
+    {
+        for i in 0..self.len() {
+            self.answer_at(i, number, fate);
+        }
+    }
+}
