@@ -3,6 +3,4 @@ mod ValueLemmas
 mod FloatLemmas
 mod DecimalLemmas
 mod EventLemmas
-pub mod RiseLemmas
-pub mod CreateLemmas
 mod StandardFacts

@@ -11,6 +11,8 @@ use Rattle.api_json.specs.ExecCreate.{exec_start_in}
 use Rattle.api_json.specs.Create.{create_in, seconds_in}
 use Rattle.api_json.specs.Filters.{rows_in}
 use Rattle.api_json.specs.EventRules.{attributes_fit, is_decimal_below}
+use Rattle.api_json.specs.Status.{status_word}
+use Rattle.engine_text.specs.declared.status.Status.{Status}
 use Rattle.engine_text.specs.declared.pairs.Pair.{Pair}
 use Rattle.engine_text.specs.declared.event.Action.{Action}
 use Rattle.engine_text.specs.declared.event.EventKind.TheVariants as Kind
@@ -128,3 +130,7 @@ padded_code = refl
 -- a volume is not started
 no_start : attributes_fit Kind.Volume Action.Start [] ≡ false
 no_start = refl
+
+-- a dead container is dead, and not exited
+dead_word : status_word Status.Dead ≡ codes "dead"
+dead_word = refl

@@ -90,20 +90,25 @@ state_data c = object (
     member (codes "StartedAt") (moment c.started) (
     member (codes "Status") (text (status_word c.status)) no_members)))))))))))
 
--- a container as ContainerInspect tells it: `Path` is the first word, `Args` are the others, and a slash begins the name
-abbrev pub container_data : ContainerParts → Data
-container_data c = object (
+-- a container whose `Config`, `HostConfig` and `State` are these: `Path` is the first word, `Args` are the others, and a
+-- slash begins the name
+abbrev pub container_object : ContainerParts → Data → Data → Data → Data
+container_object c config host state = object (
     member (codes "Args") (words_data (drop 1 c.words)) (
-    member (codes "Config") (config_data c) (
+    member (codes "Config") config (
     member (codes "Created") (moment (Some c.created)) (
-    member (codes "HostConfig") (host_config_data c.policy) (
+    member (codes "HostConfig") host (
     member (codes "Id") (text c.id) (
     member (codes "Image") (text image_name) (
     member (codes "Mounts") (list_of mount_data c.mounts) (
     member (codes "Name") (text (codes "/" ++ c.name)) (
     member (codes "Path") (text (first_word c.words)) (
     member (codes "RestartCount") (natural c.restarts) (
-    member (codes "State") (state_data c) no_members)))))))))))
+    member (codes "State") state no_members)))))))))))
+
+-- a container as ContainerInspect tells it
+abbrev pub container_data : ContainerParts → Data
+container_data c = container_object c (config_data c) (host_config_data c.policy) (state_data c)
 
 -- the body of ContainerInspect: compact JSON, as all bodies
 abbrev pub container_text : ContainerParts → List ℕ

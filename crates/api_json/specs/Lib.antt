@@ -17,4 +17,4 @@ pub mod MountForms
 pub mod HostConfig
 pub mod Create
 pub mod Views
-pub mod CreateLaws
+pub mod Object

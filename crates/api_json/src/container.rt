@@ -6,13 +6,14 @@ ghost use Rattle.api_json.specs.Container as spec;
 ghost use Rattle.api_json.specs.Views.{container_shown};
 
 use super::mount::mounts_value;
+use super::object::Object;
 use super::status::{is_dead, is_paused, is_restarting, status_word};
 use super::values::{
-    IMAGE_NAME, body_text, first_word, later_words, moment_string, pairs_value, slash_name,
+    IMAGE_NAME, body_text, first_word, later_words, moment_value, name_value, pairs_value,
     words_value,
 };
 use engine_text::{Mounts, NoMemory, Pairs, Policy, Signal, Status, Text, Words, signal_name};
-use serde_json::{Value, json};
+use serde_json::Value;
 use std::alloc::{AllocError, Global};
 
 /// What the text of a container tells: moments in milliseconds, `stop_after` in seconds, and `pid`
@@ -64,30 +65,39 @@ fn config_value(alloc: Global, container: &ContainerView<'_>) -> Result<Value, A
     ensures { IfOk result (λ v. view v ≡ spec.config_data (container_shown container.now)) }
 {
     let words = words_value(alloc, container.words.as_slice())?;
+    let object = Object::new(alloc)
+        .with(alloc, "Cmd", words)?
+        .text(alloc, "Image", IMAGE_NAME)?;
     let labels = pairs_value(alloc, container.labels.as_slice())?;
-    json!(in alloc; {
-        "Cmd": words,
-        "Image": IMAGE_NAME,
-        "Labels": labels,
-        "OpenStdin": container.open_stdin,
-        "StdinOnce": container.stdin_once,
-        "StopSignal": signal_name(container.stop_signal),
-        "StopTimeout": container.stop_after,
-        "Tty": false,
-    })
+    let object = object
+        .with(alloc, "Labels", labels)?
+        .flag(alloc, "OpenStdin", container.open_stdin)?
+        .flag(alloc, "StdinOnce", container.stdin_once)?
+        .text(alloc, "StopSignal", signal_name(container.stop_signal))?
+        .with(alloc, "StopTimeout", Value::from(container.stop_after))?
+        .flag(alloc, "Tty", false)?;
+    Ok(object.value())
+}
+
+// The restart policy.
+fn policy_value(alloc: Global, policy: &Policy) -> Result<Value, AllocError>
+    ensures { IfOk result (λ v. view v ≡ spec.policy_data policy.now) }
+{
+    let object = Object::new(alloc)
+        .number(alloc, "MaximumRetryCount", most_retries(policy) as u64)?
+        .text(alloc, "Name", policy_word(policy))?;
+    Ok(object.value())
 }
 
 // What was asked of the host.
 fn host_config_value(alloc: Global, policy: &Policy) -> Result<Value, AllocError>
     ensures { IfOk result (λ v. view v ≡ spec.host_config_data policy.now) }
 {
-    json!(in alloc; {
-        "AutoRemove": false,
-        "RestartPolicy": {
-            "MaximumRetryCount": most_retries(policy),
-            "Name": policy_word(policy),
-        },
-    })
+    let policy = policy_value(alloc, policy)?;
+    let object = Object::new(alloc)
+        .flag(alloc, "AutoRemove", false)?
+        .with(alloc, "RestartPolicy", policy)?;
+    Ok(object.value())
 }
 
 // Running: a process lives, or the status is restarting.
@@ -103,21 +113,60 @@ fn state_value(alloc: Global, container: &ContainerView<'_>) -> Result<Value, Al
     requires finished { IsMoment container.now.finished }
     ensures { IfOk result (λ v. view v ≡ spec.state_data (container_shown container.now)) }
 {
-    let finished = moment_string(alloc, container.finished)?;
-    let started = moment_string(alloc, container.started)?;
-    json!(in alloc; {
-        "Dead": is_dead(container.status),
-        "Error": "",
-        "ExitCode": container.code,
-        "FinishedAt": finished,
-        "OOMKilled": false,
-        "Paused": is_paused(container.status),
-        "Pid": container.pid,
-        "Restarting": is_restarting(container.status),
-        "Running": is_running(container.pid, container.status),
-        "StartedAt": started,
-        "Status": status_word(container.status),
-    })
+    let finished = moment_value(alloc, container.finished)?;
+    let object = Object::new(alloc)
+        .flag(alloc, "Dead", is_dead(container.status))?
+        .text(alloc, "Error", "")?
+        .number(alloc, "ExitCode", container.code as u64)?
+        .with(alloc, "FinishedAt", finished)?
+        .flag(alloc, "OOMKilled", false)?
+        .flag(alloc, "Paused", is_paused(container.status))?
+        .number(alloc, "Pid", container.pid)?
+        .flag(alloc, "Restarting", is_restarting(container.status))?
+        .flag(
+            alloc,
+            "Running",
+            is_running(container.pid, container.status),
+        )?;
+    let started = moment_value(alloc, container.started)?;
+    let object = object
+        .with(alloc, "StartedAt", started)?
+        .text(alloc, "Status", status_word(container.status))?;
+    Ok(object.value())
+}
+
+// A container of these parts.
+fn container_object(
+    alloc: Global,
+    container: &ContainerView<'_>,
+    config: Value,
+    host: Value,
+    state: Value,
+) -> Result<Value, AllocError>
+    requires { container.now.created ≤ 9_000_000_000_000 }
+    ensures { IfOk result (λ v. view v ≡ spec.container_object (container_shown container.now)
+        (view config) (view host) (view state)) }
+{
+    let words = container.words.as_slice();
+    let later = words_value(alloc, later_words(words))?;
+    let object = Object::new(alloc)
+        .with(alloc, "Args", later)?
+        .with(alloc, "Config", config)?;
+    let created = moment_value(alloc, Some(container.created))?;
+    let object = object
+        .with(alloc, "Created", created)?
+        .with(alloc, "HostConfig", host)?
+        .text(alloc, "Id", container.id)?
+        .text(alloc, "Image", IMAGE_NAME)?;
+    let mounts = mounts_value(alloc, container.mounts.as_slice())?;
+    let object = object.with(alloc, "Mounts", mounts)?;
+    let name = name_value(alloc, container.name)?;
+    let object = object
+        .with(alloc, "Name", name)?
+        .text(alloc, "Path", first_word(words))?
+        .number(alloc, "RestartCount", container.restarts)?
+        .with(alloc, "State", state)?;
+    Ok(object.value())
 }
 
 // A container.
@@ -127,27 +176,10 @@ fn container_value(alloc: Global, container: &ContainerView<'_>) -> Result<Value
     requires finished { IsMoment container.now.finished }
     ensures { IfOk result (λ v. view v ≡ spec.container_data (container_shown container.now)) }
 {
-    let words = container.words.as_slice();
-    let later = words_value(alloc, later_words(words))?;
     let config = config_value(alloc, container)?;
-    let created = moment_string(alloc, Some(container.created))?;
     let host = host_config_value(alloc, container.policy)?;
-    let mounts = mounts_value(alloc, container.mounts.as_slice())?;
-    let name = slash_name(alloc, container.name)?;
     let state = state_value(alloc, container)?;
-    json!(in alloc; {
-        "Args": later,
-        "Config": config,
-        "Created": created,
-        "HostConfig": host,
-        "Id": container.id,
-        "Image": IMAGE_NAME,
-        "Mounts": mounts,
-        "Name": name,
-        "Path": first_word(words),
-        "RestartCount": container.restarts,
-        "State": state,
-    })
+    container_object(alloc, container, config, host, state)
 }
 
 /// The text of a container; its moments are at most 9,000,000,000,000.

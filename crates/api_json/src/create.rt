@@ -3,7 +3,6 @@ ghost use Rattle.std.specs.Prelude.{◌≡◌, ◌++◌, IfOk, OnErr, option_cop
 ghost use Rattle.serde_json.specs.View.{view, members_view};
 ghost use Rattle.api_json.specs.Fault.{Answers};
 ghost use Rattle.api_json.specs.Create as spec;
-ghost use Rattle.api_json.specs.CreateLaws as law;
 
 use super::fault::{BodyFault, BodyKey, Refused};
 use super::fields::{field, flag, needed_text, read_body, text_field, unset_flag, whole_field};
@@ -172,12 +171,3 @@ pub fn read_create(alloc: Global, name: Option<&str>, body: &[u8]) -> Result<Cre
     let body = read_body(alloc, body)?;
     create_in(alloc, name, &body)
 }
-
-/// Laws of creates that are read: the signal and the seconds are in range, the labels' keys rise,
-/// and the name is the given one.
-pub fn law_creates_keep_to_limits()
-    ensures signal { law.SignalIsInRange }
-    ensures seconds { law.SecondsAreInRange }
-    ensures labels { law.LabelsRise }
-    ensures name { law.NameIsKept }
-{}

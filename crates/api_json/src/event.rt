@@ -1,6 +1,7 @@
 // The lines of events (Docker Engine API v1.43, SystemEvents).
 ghost use Rattle.std.specs.Prelude.{◌≡◌, ◌≤◌, IfOk, IfErr, true};
 ghost use Rattle.std.specs.Option.{option_map};
+ghost use Rattle.serde_json.specs.Data.{object};
 ghost use Rattle.serde_json.specs.View.{view};
 ghost use Rattle.api_json.specs.Event as spec;
 ghost use Rattle.api_json.specs.EventRules.{attributes_fit as fit};
@@ -8,33 +9,41 @@ ghost use Rattle.api_json.specs.EventRules.{attributes_fit as fit};
 use super::event_rules::{action_word, attributes_fit, kind_word, read_action, read_kind};
 use super::fault::{BodyFault, Refused};
 use super::lists::read_pairs;
+use super::object::Object;
 use super::values::pairs_value;
 use engine_text::{Bytes, Event, NoMemory, Text};
 use json_laws::{line_of_value, value_of_line};
-use serde_json::{Value, json};
+use serde_json::Value;
 use std::alloc::{AllocError, Global};
 
 /// The greatest moment, in milliseconds.
 const GREATEST_MOMENT: u64 = 9_000_000_000_000;
+
+// What an event is of.
+fn actor_value(alloc: Global, event: &Event) -> Result<Value, AllocError>
+    ensures { IfOk result (λ v. view v ≡ object (spec.actor_members event.now)) }
+{
+    let attributes = pairs_value(alloc, event.attributes.as_slice())?;
+    let object = Object::new(alloc)
+        .with(alloc, "Attributes", attributes)?
+        .text(alloc, "ID", event.id.as_str())?;
+    Ok(object.value())
+}
 
 // The value of an event.
 fn event_value(alloc: Global, event: &Event) -> Result<Value, AllocError>
     requires { event.now.moment ≤ 9_000_000_000_000 }
     ensures { IfOk result (λ v. view v ≡ spec.event_data event.now) }
 {
-    let attributes = pairs_value(alloc, event.attributes.as_slice())?;
-    let id = event.id.as_str();
-    let seconds = event.moment / 1_000;
-    let nanos = event.moment * 1_000_000;
-    let actor = json!(in alloc; {"Attributes": attributes, "ID": id})?;
-    json!(in alloc; {
-        "Action": action_word(event.action),
-        "Actor": actor,
-        "Type": kind_word(event.kind),
-        "scope": "local",
-        "time": seconds,
-        "timeNano": nanos,
-    })
+    let actor = actor_value(alloc, event)?;
+    let object = Object::new(alloc)
+        .text(alloc, "Action", action_word(event.action))?
+        .with(alloc, "Actor", actor)?
+        .text(alloc, "Type", kind_word(event.kind))?
+        .text(alloc, "scope", "local")?
+        .number(alloc, "time", event.moment / 1_000)?
+        .number(alloc, "timeNano", event.moment * 1_000_000)?;
+    Ok(object.value())
 }
 
 // The line of an event, as bytes that are compared.

@@ -4,9 +4,10 @@ ghost use Rattle.serde_json.specs.View.{view};
 ghost use Rattle.api_json.specs.Exec as spec;
 ghost use Rattle.api_json.specs.Views.{exec_shown};
 
+use super::object::Object;
 use super::values::{body_text, first_word, later_words, words_value};
 use engine_text::{NoMemory, Text, Words};
-use serde_json::{Value, json};
+use serde_json::Value;
 use std::alloc::{AllocError, Global};
 
 /// What the text of an exec tells: `container` is the container's id, `live` whether its process
@@ -39,12 +40,12 @@ fn process_value(alloc: Global, words: &[Text]) -> Result<Value, AllocError>
     ensures { IfOk result (λ v. view v ≡ spec.process_data words.now) }
 {
     let later = words_value(alloc, later_words(words))?;
-    json!(in alloc; {
-        "arguments": later,
-        "entrypoint": first_word(words),
-        "privileged": false,
-        "tty": false,
-    })
+    let object = Object::new(alloc)
+        .with(alloc, "arguments", later)?
+        .text(alloc, "entrypoint", first_word(words))?
+        .flag(alloc, "privileged", false)?
+        .flag(alloc, "tty", false)?;
+    Ok(object.value())
 }
 
 // An exec.
@@ -52,20 +53,19 @@ fn exec_value(alloc: Global, exec: &ExecView<'_>) -> Result<Value, AllocError>
     ensures { IfOk result (λ v. view v ≡ spec.exec_data (exec_shown exec.now)) }
 {
     let process = process_value(alloc, exec.words.as_slice())?;
-    let code = code_value(exec.code);
-    json!(in alloc; {
-        "CanRemove": false,
-        "ContainerID": exec.container,
-        "DetachKeys": "",
-        "ExitCode": code,
-        "ID": exec.id,
-        "OpenStderr": exec.err,
-        "OpenStdin": exec.stdin,
-        "OpenStdout": exec.out,
-        "Pid": exec.pid,
-        "ProcessConfig": process,
-        "Running": exec.live,
-    })
+    let object = Object::new(alloc)
+        .flag(alloc, "CanRemove", false)?
+        .text(alloc, "ContainerID", exec.container)?
+        .text(alloc, "DetachKeys", "")?
+        .with(alloc, "ExitCode", code_value(exec.code))?
+        .text(alloc, "ID", exec.id)?
+        .flag(alloc, "OpenStderr", exec.err)?
+        .flag(alloc, "OpenStdin", exec.stdin)?
+        .flag(alloc, "OpenStdout", exec.out)?
+        .number(alloc, "Pid", exec.pid)?
+        .with(alloc, "ProcessConfig", process)?
+        .flag(alloc, "Running", exec.live)?;
+    Ok(object.value())
 }
 
 /// The text of an exec.

@@ -15,13 +15,14 @@ mod list;
 mod lists;
 mod mount;
 mod mount_forms;
+mod object;
 mod status;
 mod values;
 mod volume;
 mod volume_create;
 
 pub use container::{ContainerView, container_body};
-pub use create::{law_creates_keep_to_limits, read_create};
+pub use create::read_create;
 pub use event::{event_line, law_event_line_reads_back, read_event_line};
 pub use event_rules::{action_word, attributes_fit, kind_word, read_action, read_kind};
 pub use exec::{ExecView, exec_body};
@@ -33,6 +34,3 @@ pub use status::{status_text, status_word};
 pub use values::IMAGE_NAME;
 pub use volume::{VolumeView, volume_body, volumes_body};
 pub use volume_create::{VolumeSpec, read_volume};
-
-#[cfg(test)]
-mod tests;

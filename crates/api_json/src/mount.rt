@@ -4,8 +4,9 @@ ghost use Rattle.serde_json.specs.View.{view};
 ghost use Rattle.api_json.specs.Mount as spec;
 ghost use Rattle.api_json.specs.Values.{list_of};
 
+use super::object::Object;
 use engine_text::Mount;
-use serde_json::{Value, json};
+use serde_json::Value;
 use std::alloc::{AllocError, Global};
 
 /// Where a volume's data lie.
@@ -26,15 +27,15 @@ fn mount_object(
     ensures { IfOk result
         (λ v. view v ≡ spec.mount_object target.now volume.now writes source.now) }
 {
-    json!(in alloc; {
-        "Destination": target,
-        "Driver": "local",
-        "Mode": "",
-        "Name": volume,
-        "RW": writes,
-        "Source": source,
-        "Type": "volume",
-    })
+    let object = Object::new(alloc)
+        .text(alloc, "Destination", target)?
+        .text(alloc, "Driver", "local")?
+        .text(alloc, "Mode", "")?
+        .text(alloc, "Name", volume)?
+        .flag(alloc, "RW", writes)?
+        .text(alloc, "Source", source)?
+        .text(alloc, "Type", "volume")?;
+    Ok(object.value())
 }
 
 // A mount.

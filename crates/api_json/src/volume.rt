@@ -6,9 +6,10 @@ ghost use Rattle.api_json.specs.Views.{volume_shown};
 ghost use Rattle.api_json.specs.Volume as spec;
 
 use super::mount::source_of;
+use super::object::Object;
 use super::values::{body_text, moment_string, pairs_value};
 use engine_text::{ListedVolume, NoMemory, Pairs, Text};
-use serde_json::{Value, json};
+use serde_json::Value;
 use std::alloc::{AllocError, Global};
 
 /// What the text of a volume tells; `created` is a moment in milliseconds.
@@ -30,15 +31,15 @@ fn volume_object(
     ensures { IfOk result
         (λ v. view v ≡ spec.volume_object created.now (view labels) source.now name.now) }
 {
-    json!(in alloc; {
-        "CreatedAt": created,
-        "Driver": "local",
-        "Labels": labels,
-        "Mountpoint": source,
-        "Name": name,
-        "Options": {},
-        "Scope": "local",
-    })
+    let object = Object::new(alloc)
+        .text(alloc, "CreatedAt", created)?
+        .text(alloc, "Driver", "local")?
+        .with(alloc, "Labels", labels)?
+        .text(alloc, "Mountpoint", source)?
+        .text(alloc, "Name", name)?
+        .with(alloc, "Options", Object::new(alloc).value())?
+        .text(alloc, "Scope", "local")?;
+    Ok(object.value())
 }
 
 // A volume.
@@ -96,7 +97,10 @@ fn list_value(alloc: Global, volumes: &[ListedVolume]) -> Result<Value, AllocErr
 fn volumes_object(alloc: Global, volumes: Value) -> Result<Value, AllocError>
     ensures { IfOk result (λ v. view v ≡ spec.volumes_object (view volumes)) }
 {
-    json!(in alloc; {"Volumes": volumes, "Warnings": []})
+    let object = Object::new(alloc)
+        .with(alloc, "Volumes", volumes)?
+        .with(alloc, "Warnings", Value::Array(Vec::new(alloc)))?;
+    Ok(object.value())
 }
 
 /// The text of a list of volumes, as they stand; their moments are at most 9,000,000,000,000.

@@ -2,10 +2,11 @@ pub mod CutLemmas
 pub mod TextLemmas
 pub mod NumeralLemmas
 pub mod VersionLemmas
+pub mod StepLemmas
+pub mod QueryLemmas
+pub mod SoundLemmas
 pub mod ClassLemmas
 pub mod ParameterLemmas
-pub mod FilterLemmas
-pub mod ListLemmas
-pub mod AskedLemmas
+pub mod CallLemmas
 pub mod StandardFacts
 pub mod StatusLemmas

@@ -1,15 +1,13 @@
 -- A direct answer has one of four statuses.
 use Rattle.std.specs.Prelude.{IsTrue}
-use Rattle.std.proofs.Common.{◌≡◌, ℕ, List, Bool, true, false, cond, Result, Ok, Err, refl, sym, ap, subst, ◌∙◌}
+use Rattle.std.proofs.Common.{◌≡◌, Bool, true, false, Result, Ok, refl, sym, ap, subst, ◌∙◌}
 use Rattle.engine_text.specs.declared.call.Call.{Call}
 use Rattle.http_edge.specs.Message.{Request}
-use Rattle.http_edge.specs.Asks.{asks_upgrade}
 use Rattle.api_json.specs.ExecCreate.{exec_start_of}
 use Rattle.api_routes.specs.Fault.{status_of}
 use Rattle.api_routes.specs.Calls.{of_body}
 use Rattle.api_routes.specs.RouteClass.{Asked, route_class, ask, in_chunks, exec_start_class}
-use Rattle.api_routes.specs.Built.{is_built, if_built}
-use Rattle.api_routes.specs.Class.{class_of, read_class, or_refusal}
+use Rattle.api_routes.specs.Class.{class_of}
 use Rattle.api_routes.specs.Laws.{is_direct_status}
 use Rattle.api_routes.specs.declared.class.Class.{Class}
 use Rattle.api_routes.specs.declared.class.Class.TheVariants.{Direct, Ask, Stream}
@@ -20,13 +18,10 @@ use Rattle.api_routes.specs.declared.fault.Fault.{Fault}
 use Rattle.api_routes.specs.declared.fault.Fault.TheVariants as fault
 use Rattle.api_routes.specs.declared.route.Route.{Route}
 use Rattle.api_routes.specs.declared.route.Route.TheVariants as to
-use Rattle.api_routes.proofs.ClassLemmas.{went-on, read-last}
+use Rattle.api_routes.proofs.ClassLemmas.{went-on, same-class, class-by}
 
-abbrev pub read_well : Class → Result Class Fault
+abbrev read_well : Class → Result Class Fault
 read_well class = Ok class
-
-same-class : (x y : Class) → read_well x ≡ read_well y → x ≡ y
-same-class x y h = cc
 
 same-answer : (a b : DirectAnswer) → Direct a ≡ Direct b → a ≡ b
 same-answer a b h = cc
@@ -105,25 +100,8 @@ fault-status fault.NoStream = refl
 fault-status fault.LinksLeftOut = refl
 fault-status (fault.Body b) = refl
 
-built-direct : (class : Class) (a : DirectAnswer) → if_built class ≡ Ok (Direct a) → class ≡ Direct a
-built-direct (Direct b) a h = same-class (Direct b) (Direct a) h
-built-direct (Ask c) a h = by (is_built c) h
-  where
-    by : (b : Bool) → cond b (Ok (Ask c)) (Err fault.NotBuilt) ≡ Ok (Direct a) → Ask c ≡ Direct a
-    by true e = absurd (never-asks c a e)
-    by false e = let no : ⊥ = cc in absurd no
-built-direct (Stream c t) a h = by (is_built c) h
-  where
-    by : (b : Bool) → cond b (Ok (Stream c t)) (Err fault.NotBuilt) ≡ Ok (Direct a) → Stream c t ≡ Direct a
-    by true e = absurd (never-streams c t a e)
-    by false e = let no : ⊥ = cc in absurd no
-
-of-result : (m t b : List ℕ) (u : Bool) (read : Result Class Fault) (a : DirectAnswer) → read_class m t b u ≡ read → or_refusal m read ≡ Direct a → IsTrue (is_direct_status a.status)
-of-result m t b u (Ok class) a e h =
-    let last = read-last m t b u (Direct a) (e ∙ ap Ok h) in
-    direct-status last.1.route _ a (last.1.reads ∙ ap Ok (built-direct last.0 a last.2))
-of-result m t b u (Err f) a e h = subst (λ x. IsTrue (is_direct_status x.status)) (same-answer _ a h) (fault-status f)
-
 pub class-status : (r : Request) (a : DirectAnswer) → class_of r ≡ Direct a → IsTrue (is_direct_status a.status)
-unfolding class_of
-class-status r a h = of-result r.method r.target r.body (asks_upgrade r) _ a refl h
+class-status r a =
+    class-by r (λ class. class ≡ Direct a → IsTrue (is_direct_status a.status))
+    (λ fault h. subst (λ x. IsTrue (is_direct_status x.status)) (same-answer _ a h) (fault-status fault))
+    (λ class read built h. direct-status read.route _ a (read.reads ∙ ap Ok h))

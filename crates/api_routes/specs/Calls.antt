@@ -12,6 +12,7 @@ use Rattle.api_json.specs.ExecCreate.{exec_of}
 use Rattle.api_json.specs.VolumeCreate.{volume_of}
 use Rattle.api_json.specs.Filters.{filter_of}
 use Rattle.api_json.specs.declared.fault.BodyFault.{BodyFault}
+use Rattle.call_bounds.specs.Soundness.{far}
 use Rattle.api_routes.specs.Fault.{and_then}
 use Rattle.api_routes.specs.Query.{value_or_empty}
 use Rattle.api_routes.specs.Keys.{flag, create_name, new_name, signal_in, kill_signal, seconds_in, limit_in, tail_in, condition_in, time_in}
@@ -72,14 +73,10 @@ remove_call target query =
 
 -- ---- logs and attach
 
--- the greatest moment that logs may ask for
-abbrev pub latest : ℕ
-latest = 9999999999999
-
 -- an absent or zero end means none
 abbrev pub end_of : Option ℕ → ℕ
-end_of None = latest
-end_of (Some moment) = if moment == 0 then latest else moment
+end_of None = far
+end_of (Some moment) = if moment == 0 then far else moment
 
 abbrev pub asked_logs : List ℕ → Option ℕ → Option ℕ → Option ℕ → LogAsk
 asked_logs query since until tail = record {

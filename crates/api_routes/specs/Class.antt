@@ -1,6 +1,5 @@
 -- The class of a request: what answers it (Docker Engine API v1.43; own: the order of refusals).
-use Rattle.std.specs.Prelude.{ℕ, List, Bool, Option, Some, None, codes, Result, Ok, Err, if◌then◌else◌}
-use Rattle.engine_text.specs.Texts.{same_bytes}
+use Rattle.std.specs.Prelude.{ℕ, List, Bool, Option, Some, None, Result, Ok, Err, if◌then◌else◌}
 use Rattle.route_laws.specs.Segments.{segments}
 use Rattle.http_edge.specs.Message.{Request}
 use Rattle.http_edge.specs.Asks.{asks_upgrade}
@@ -9,13 +8,12 @@ use Rattle.api_routes.specs.Fault.{and_then, status_of, message_of}
 use Rattle.api_routes.specs.Path.{path_of, query_of, parameter_of}
 use Rattle.api_routes.specs.Version.{behind_version}
 use Rattle.api_routes.specs.RouteClass.{route_class}
-use Rattle.api_routes.specs.Built.{if_built}
+use Rattle.call_bounds.specs.Built.{is_built}
 use Rattle.api_routes.specs.declared.class.Class.{Class}
-use Rattle.api_routes.specs.declared.class.Class.TheVariants.{Direct}
-use Rattle.api_routes.specs.declared.class.DirectKind.{DirectKind}
-use Rattle.api_routes.specs.declared.class.DirectKind.TheVariants.{Message, MessageHead}
+use Rattle.api_routes.specs.declared.class.Class.TheVariants.{Direct, Ask, Stream}
+use Rattle.api_routes.specs.declared.class.DirectKind.TheVariants.{Message}
 use Rattle.api_routes.specs.declared.fault.Fault.{Fault}
-use Rattle.api_routes.specs.declared.fault.Fault.TheVariants.{PageNotFound}
+use Rattle.api_routes.specs.declared.fault.Fault.TheVariants.{PageNotFound, NotBuilt}
 use Rattle.api_routes.specs.declared.route.Route.{Route}
 
 -- a route, or the fault that none fits
@@ -23,7 +21,13 @@ abbrev pub or_not_found : Option Route → Result Route Fault
 or_not_found None = Err PageNotFound
 or_not_found (Some route) = Ok route
 
--- a request's version, then its route, the path's parameter, what the route reads, and whether its call is served
+-- a class whose call is built
+abbrev pub if_built : Class → Result Class Fault
+if_built (Direct answer) = Ok (Direct answer)
+if_built (Ask c) = if is_built c then Ok (Ask c) else Err NotBuilt
+if_built (Stream c takeover) = if is_built c then Ok (Stream c takeover) else Err NotBuilt
+
+-- a request's version, then its route, the path's parameter, what the route reads, and whether its call is built
 abbrev pub read_class : List ℕ → List ℕ → List ℕ → Bool → Result Class Fault
 read_class method target body upgrade =
     and_then (behind_version (segments (path_of target))) (λ path.
@@ -32,19 +36,14 @@ read_class method target body upgrade =
     and_then (route_class route (record { name = name; query = query_of target; body = body; upgrade = upgrade })) (λ class.
     if_built class))))
 
--- the answer to HEAD has no body
-abbrev pub message_kind : List ℕ → DirectKind
-message_kind method = if same_bytes method (codes "HEAD") then MessageHead else Message
-
 -- the answer that tells a fault
-abbrev pub refusal : List ℕ → Fault → Class
-refusal method fault =
-    Direct (record { status = status_of fault; text = message_of fault; kind = message_kind method })
+abbrev pub refusal : Fault → Class
+refusal fault = Direct (record { status = status_of fault; text = message_of fault; kind = Message })
 
 -- the class that was read, or the answer that tells the fault
-abbrev pub or_refusal : List ℕ → Result Class Fault → Class
-or_refusal method (Ok class) = class
-or_refusal method (Err fault) = refusal method fault
+abbrev pub or_refusal : Result Class Fault → Class
+or_refusal (Ok class) = class
+or_refusal (Err fault) = refusal fault
 
 unfoldable pub class_of : Request → Class
-class_of r = or_refusal r.method (read_class r.method r.target r.body (asks_upgrade r))
+class_of r = or_refusal (read_class r.method r.target r.body (asks_upgrade r))

@@ -6,9 +6,7 @@ pub mod Numeral
 pub mod Version
 pub mod Query
 pub mod Keys
-pub mod Built
 pub mod Calls
 pub mod RouteClass
 pub mod Class
-pub mod Sound
 pub mod Laws

@@ -8,7 +8,7 @@ use Rattle.api_routes.specs.Calls.{of_body, create_call, list_call, stop_call, r
 use Rattle.api_routes.specs.declared.class.Class.{Class}
 use Rattle.api_routes.specs.declared.class.Class.TheVariants.{Direct, Ask, Stream}
 use Rattle.api_routes.specs.declared.class.DirectKind.{DirectKind}
-use Rattle.api_routes.specs.declared.class.DirectKind.TheVariants.{Json, Plain, PlainHead}
+use Rattle.api_routes.specs.declared.class.DirectKind.TheVariants.{Json, Plain}
 use Rattle.api_routes.specs.declared.class.Takeover.{Takeover}
 use Rattle.api_routes.specs.declared.class.Takeover.TheVariants as takes
 use Rattle.api_routes.specs.declared.fault.Fault.{Fault}
@@ -49,7 +49,7 @@ exec_start_class id upgrade detach =
 -- the class of a route's request, or its first fault: of the body, and then of the query's keys in the order of the route's list
 abbrev pub route_class : Route → Asked → Result Class Fault
 route_class to.Ping a = Ok (fixed (codes "OK") Plain)
-route_class to.PingHead a = Ok (fixed (codes "OK") PlainHead)
+route_class to.PingHead a = Ok (fixed (codes "OK") Plain)
 route_class to.Version a = Ok (fixed version_body Json)
 route_class to.Create a = ask (create_call a.query a.body)
 route_class to.List a = ask (list_call a.query)

@@ -16,7 +16,7 @@ pub enum Class {
 #[derive(Drop)]
 pub struct DirectAnswer {
     pub status: u16,
-    /// The message of `Message` and `MessageHead`, and the body itself of the others.
+    /// The message of `Message`, and the body itself of the others; to HEAD it isn't sent.
     pub text: Text,
     pub kind: DirectKind,
 }
@@ -26,14 +26,10 @@ pub struct DirectAnswer {
 pub enum DirectKind {
     /// As the message of a JSON object.
     Message,
-    /// The head of such an answer alone, without its body.
-    MessageHead,
     /// As a JSON body.
     Json,
     /// As a plain body.
     Plain,
-    /// The head of a plain body alone.
-    PlainHead,
 }
 
 /// How a stream uses its connection.

@@ -25,12 +25,9 @@ mod version;
 
 pub use class::{Class, DirectAnswer, DirectKind, Takeover};
 pub use fault::Fault;
-pub use laws::{law_asked_calls, law_direct_statuses, law_served_calls};
+pub use laws::{law_class_calls, law_direct_statuses};
 pub use method::Method;
 pub use numeral::number_of;
 pub use route::Route;
 pub use routes::Routes;
 pub use table::law_one_route_fits;
-
-#[cfg(test)]
-mod tests;

@@ -66,7 +66,7 @@ pub(crate) fn route_class(
 {
     match route {
         Route::Ping => Ok(fixed(alloc, "OK", DirectKind::Plain)?),
-        Route::PingHead => Ok(fixed(alloc, "OK", DirectKind::PlainHead)?),
+        Route::PingHead => Ok(fixed(alloc, "OK", DirectKind::Plain)?),
         Route::Version => Ok(fixed(alloc, VERSION_BODY, DirectKind::Json)?),
         Route::Create => Ok(Class::Ask(create_call(alloc, query, body)?)),
         Route::List => Ok(Class::Ask(list_call(alloc, query)?)),

@@ -23,25 +23,14 @@ pub struct Routes {
     table: Table,
 }
 
-// How the message of a refused request is written.
-fn message_kind(method: &str) -> DirectKind
-    ensures { result ≡ spec.message_kind method.now }
-{
-    if method == "HEAD" {
-        DirectKind::MessageHead
-    } else {
-        DirectKind::Message
-    }
-}
-
 // The answer that tells a fault.
-fn refusal(alloc: Global, method: &str, fault: &Fault) -> Result<Class, NoMemory>
-    ensures { IfOk result (λ c. c ≡ spec.refusal method.now fault.now) }
+fn refusal(alloc: Global, fault: &Fault) -> Result<Class, NoMemory>
+    ensures { IfOk result (λ c. c ≡ spec.refusal fault.now) }
 {
     Ok(Class::Direct(DirectAnswer {
         status: fault.status(),
         text: fault.message(alloc)?,
-        kind: message_kind(method),
+        kind: DirectKind::Message,
     }))
 }
 
@@ -86,8 +75,8 @@ impl Routes {
         if_built(class)
     }
 
-    /// The class of a request by its parts.
-    pub(crate) fn class_of(
+    // The class of a request by its parts.
+    fn class_of(
         &self,
         alloc: Global,
         method: &str,
@@ -95,12 +84,12 @@ impl Routes {
         body: &[u8],
         upgrade: bool,
     ) -> Result<Class, NoMemory>
-        ensures { IfOk result (λ c. c ≡ spec.or_refusal method.now
+        ensures { IfOk result (λ c. c ≡ spec.or_refusal
             (spec.read_class method.now target.now body.now upgrade)) }
     {
         match self.read_class(alloc, method, target, body, upgrade) {
             Ok(class) => Ok(class),
-            Err(Refused::Fault(fault)) => refusal(alloc, method, &fault),
+            Err(Refused::Fault(fault)) => refusal(alloc, &fault),
             Err(Refused::NoMemory) => Err(NoMemory),
         }
     }

@@ -31,7 +31,7 @@ use Rattle.engine_text.specs.declared.event.Action.TheVariants.{Create, Start}
 use Rattle.engine_text.specs.declared.owner.Owner.TheVariants.{Container as OfContainer}
 use Rattle.engine_text.specs.declared.policy.Policy.{Policy}
 use Rattle.engine_text.specs.declared.status.Status.{Status}
-use Rattle.container_machine.specs.Built.{is_built, is_built_create}
+use Rattle.call_bounds.specs.Built.{is_built, is_built_create}
 use Rattle.container_machine.specs.Kept.{IsKept, IsKeptContainer, IsKeptMain, HasMain, is_idle, IsUndue}
 use Rattle.container_machine.specs.Launched.{launched_in}
 use Rattle.container_machine.specs.Memory.{Memory, IsRoomy}
@@ -60,12 +60,16 @@ both_true : (a b : Bool) → a && b ≡ true → b ≡ true
 both_true true b e = e
 both_true false b e = absurd (cc)
 
+first_true : (a b : Bool) → a && b ≡ true → a ≡ true
+first_true true b e = refl
+first_true false b e = absurd (cc)
+
 kept_created : (s : State) (t : ℕ) (name : List ℕ) (spec : CreateSpec) → IsKept s → IsNext s t → IsTrue (is_built_create spec) → holder name s.containers ≡ None
     → KeepsBy (create.created (create.new_container name spec (at_moment t s)) (at_moment t s))
 kept_created s t name spec k n built free =
     let c : Container = create.new_container name spec (at_moment t s) in
     let bare : spec.mounts ≡ [] = no_mounts spec built in
-    let plain : spec.policy ≡ Policy.No = no_policy spec.policy (both_true _ _ built) in
+    let plain : spec.policy ≡ Policy.No = no_policy spec.policy (both_true _ _ (first_true _ _ built)) in
     let new : IsNew (at_moment t s) c = record { number = refl; id = refl; free = free; status = refl; goal = refl; mounts = bare; policy = plain; log = refl; pid = refl; starts = refl; restarts = refl; created = n.greatest; started = refl; finished = refl } in
     let e : Event = plain_event Create c t in
     let m : MayCount (at_moment t s) 1 = may_count s t 1 (omega arith) k n in

@@ -1,6 +1,5 @@
 pub mod Held
 pub mod Memory
-pub mod Built
 pub mod Kept
 pub mod Launched
 pub mod Lives

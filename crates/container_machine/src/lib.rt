@@ -2,7 +2,6 @@
 #![tactic(auto)]
 
 mod answers;
-mod built;
 mod calls;
 mod due;
 mod events;
@@ -19,7 +18,7 @@ mod refusals;
 mod tests;
 mod texts;
 
-pub use built::is_built;
+pub use call_bounds::is_built;
 pub use held::Held;
 pub use machine::Machine;
 pub use prepared::{Change, Prepared, PreparedDue};

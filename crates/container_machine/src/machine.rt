@@ -11,17 +11,17 @@ ghost use Rattle.machine_model.specs.Due.{least_due};
 ghost use Rattle.machine_model.specs.Step.{call_outcome, due_step};
 ghost use Rattle.machine_model.specs.History.{IsLawful, greatest_moment, is_due};
 ghost use Rattle.machine_model.specs.Ready.{is_ready};
-ghost use Rattle.container_machine.specs.Built.{is_built};
+ghost use Rattle.call_bounds.specs.Built.{is_built};
 ghost use Rattle.container_machine.specs.Held.{container_in, containers_in};
 ghost use Rattle.container_machine.specs.Memory.{IsRoomy};
 ghost use Rattle.container_machine.specs.Kept.{IsKept, IsOrderly};
 ghost use Rattle.container_machine.specs.Prepared.{Makes, prepared_effect, IsReady, IsFor, IsCommitted, end_event, code_due, IsRoomyDue, IsReadyDue, IsStepped};
 
-use super::built::is_built;
 use super::events::die_event;
 use super::held::Held;
 use super::prepared::{Change, Prepared, PreparedDue};
 use super::{due, find, lives, names};
+use call_bounds::is_built;
 use engine_text::{
     Call, DueAction, Effect, Event, Found, NoMemory, Owner, Reply, Signal, Text, id_of,
     law_ids_differ,

@@ -13,7 +13,8 @@ pub mod Streams
 pub mod Call
 pub mod Due
 pub mod Step
-pub mod Soundness
+pub use Rattle.call_bounds.specs.Soundness
+pub use Rattle.call_bounds.specs.Built
 pub mod Ready
 pub mod History
 pub mod Summary

@@ -1,7 +1,7 @@
 // Create: the image first, then the name.
 ghost use Rattle.std.specs.Prelude.{◌≡◌, ◌++◌, [], codes, IfOk, IsTrue};
 ghost use Rattle.machine_model.specs.Calls.Create as spec;
-ghost use Rattle.container_machine.specs.Built.{is_built_create};
+ghost use Rattle.call_bounds.specs.Built.{is_built_create};
 ghost use Rattle.container_machine.specs.Prepared.{Makes};
 
 use crate::answers::refuse;

@@ -1,7 +1,7 @@
 // Lists of two containers: the first started, the second with a label.
 ghost use Rattle.std.specs.Prelude.{◌≡◌, ◌+◌, ◌<◌, ◌^◌, IfOk, IsTrue};
 ghost use Rattle.engine_text.specs.declared.call.Call as calls;
-ghost use Rattle.machine_model.specs.Soundness.{is_sound, is_filter, is_list_key};
+ghost use Rattle.call_bounds.specs.Soundness.{is_sound, is_filter, is_list_key};
 
 use super::{Fault, T, create, is_answer, start, tick, words};
 use crate::Machine;

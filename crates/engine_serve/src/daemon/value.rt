@@ -38,7 +38,7 @@ fn turned(reply: Reply) -> Turned
 impl Daemon {
     ghost use Rattle.std.specs.Prelude.{ℕ, [], IfOk, IsTrue};
     ghost use Rattle.std.specs.Option.{option_map};
-    ghost use Rattle.machine_model.specs.Soundness.{IsSound};
+    ghost use Rattle.call_bounds.specs.Soundness.{IsSound};
     ghost use Rattle.session_model.specs.Turning.{MayAsk, Turn};
     ghost use Rattle.engine_serve.specs.Built.{is_served, AreBuilt};
     ghost use Rattle.engine_serve.specs.Storing.{charter_of, pass_of, IsClear, Ends};

@@ -1,4 +1,0 @@
-mod bodies;
-mod events;
-mod refusals;
-mod texts;

@@ -1,0 +1,43 @@
+-- The calls that aren't built yet (own: a request for one is answered 501 "not built"). Building a call takes its line away.
+use Rattle.std.specs.Prelude.{Bool, true, false, ◌&&◌, not, Option, Some, None, IsTrue}
+use Rattle.engine_text.specs.Policy.{is_no}
+use Rattle.engine_text.specs.declared.call.Call.{Call}
+use Rattle.engine_text.specs.declared.call.CreateSpec.{CreateSpec}
+use Rattle.call_bounds.specs.Soundness.{is_full}
+
+-- Of creates those with mounts, a restart policy or open standard input.
+abbrev pub is_built_create : CreateSpec → Bool
+is_built_create spec = not (is_full spec.mounts) && is_no spec.policy && not spec.open_stdin
+
+-- Whether a call is built: all are but these.
+abbrev pub is_built : Call → Bool
+is_built (Call.Create spec) = is_built_create spec
+is_built (Call.Stop target wait signal) = false
+is_built (Call.Restart target wait signal) = false
+is_built (Call.Kill target signal) = false
+is_built (Call.Pause target) = false
+is_built (Call.Unpause target) = false
+is_built (Call.Rename target name) = false
+is_built (Call.Wait target until) = false
+is_built (Call.Remove target force) = false
+is_built (Call.Logs target ask) = false
+is_built (Call.Attach target ask) = false
+is_built (Call.ExecCreate target words stdin out err) = false
+is_built (Call.ExecStart id detach) = false
+is_built (Call.ExecInspect id) = false
+is_built (Call.VolumeCreate name labels) = false
+is_built (Call.VolumeInspect name) = false
+is_built (Call.VolumeRemove name) = false
+is_built (Call.VolumeList filter) = false
+is_built (Call.Events since until filter) = false
+is_built Call.JournalRead = false
+is_built (Call.Feed owner run bytes) = false
+is_built (Call.FeedEnd owner run) = false
+is_built (Call.Take ticket) = false
+is_built (Call.Drop ticket) = false
+is_built _ = true
+
+-- Of no call, and of a call that is built.
+abbrev pub AreBuilt : Option Call → Type 0
+AreBuilt None = Unit {0}
+AreBuilt (Some c) = IsTrue (is_built c)
