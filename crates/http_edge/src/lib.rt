@@ -27,5 +27,3 @@ pub use reader::{Next, RequestReader, Stopped};
 pub use shown_fields::Fields;
 pub use view::{Buffers, RequestView};
 
-#[cfg(test)]
-mod tests;

@@ -1,8 +1,8 @@
 // Requests, whole and in pieces.
 ghost use Rattle.std.specs.Prelude.{◌<◌};
 
-use crate::{Next, RequestReader, Stopped};
 use engine_ports::{Got, MemSource, NoMemory};
+use http_edge::{Next, RequestReader, Stopped};
 use std::alloc::Global;
 use std::process::Abort;
 use std::test::Fail;

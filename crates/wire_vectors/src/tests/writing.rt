@@ -1,6 +1,6 @@
 // Heads, answers and chunks, byte for byte.
-use crate::{Form, Head, write_answer, write_chunk, write_head, write_last, write_refusal};
 use engine_ports::{Failed, MemSink, NoMemory};
+use http_edge::{Form, Head, write_answer, write_chunk, write_head, write_last, write_refusal};
 use std::alloc::Global;
 use std::test::Fail;
 

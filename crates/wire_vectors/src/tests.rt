@@ -1,0 +1,10 @@
+mod bodies;
+mod creates;
+mod events;
+mod programs;
+mod reading;
+mod refusals;
+mod routes;
+mod tables;
+mod texts;
+mod writing;
