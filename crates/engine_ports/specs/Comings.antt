@@ -3,7 +3,6 @@ use Rattle.std.specs.Prelude.{ℕ, List, map}
 use Rattle.engine_ports.specs.Clock.{ClockView}
 use Rattle.engine_ports.specs.Door.{Outside, outside}
 use Rattle.engine_ports.specs.Memory.{Supply, Store, source_of, sink_of}
-use Rattle.engine_ports.specs.declared.door.Parts.{Parts}
 use Rattle.engine_ports.specs.declared.memory.coming.Waiting.{Waiting}
 use Rattle.engine_ports.specs.declared.memory.coming.Departed.{Departed}
 
