@@ -1,13 +1,13 @@
 ghost use Rattle.std.specs.Prelude.{◌≡◌, ℕ, Some, None, ◌<◌, ◌+◌, ◌≤◌, [], ◌∷◌, ◌++◌, position, All, IfOk, OnOk, OnErr, map, length, option_map, slice_get};
 ghost use Rattle.std.specs.VecDeque.{deque_len, deque_capacity};
-ghost use Rattle.engine_text.specs.Owner.{same_owner};
 ghost use Rattle.proc_kernel.specs.Processes.{run_due, spawn, feed, feed_end, freeze, thaw, signal, CanThaw};
 ghost use Rattle.proc_kernel.specs.Foretelling.{code_at};
 ghost use Rattle.proc_kernel.specs.Tables.{Table, is_there, change, process_of, after_step, effect_at, without, due_at, due_in, length_at, room_at, begun, OfProcess};
 
-use super::rooms::{buffers_of, trays_of, widen};
+use super::rooms::{deepen, refill};
+use super::seats::Seats;
 use super::slot::Slot;
-use engine_text::{Buffer, Bytes, Effect, NoMemory, Owner, Script, Signal, same_owner};
+use engine_text::{Buffer, Bytes, Effect, NoMemory, Owner, Script, Signal};
 use std::alloc::Global;
 use std::collections::VecDeque;
 use std::marker::Model;
@@ -16,7 +16,9 @@ use std::marker::Model;
 /// milliseconds; an owner without a process is passed over by each call but `spawn`.
 #[derive(Drop)]
 pub struct Kernel {
+    seats: Seats,
     slots: Vec<Slot>,
+    depth: usize,
     trays: Vec<VecDeque<Bytes>>,
     buffers: Vec<Buffer>,
     spare: usize,
@@ -35,13 +37,6 @@ impl Model for Kernel {
     ghost invariant = { IsSoundKernel };
 }
 
-/// Where the process of that owner stands.
-fn place_of(slots: &[Slot], owner: Owner) -> Option<usize>
-    ensures { result ≡ position (λ s. same_owner s.owner owner) slots.now }
-{
-    slots.iter().position(|s| same_owner(s.owner, owner))
-}
-
 impl Kernel {
     /// A kernel without processes; it takes no memory.
     pub fn new(alloc: Global) -> Kernel
@@ -50,7 +45,9 @@ impl Kernel {
         ensures bytes { result.bytes ≡ 0 }
     {
         Kernel {
+            seats: Seats::new(alloc),
             slots: Vec::new(alloc),
+            depth: 0,
             trays: Vec::new(alloc),
             buffers: Vec::new(alloc),
             spare: 0,
@@ -69,14 +66,13 @@ impl Kernel {
         if records <= self.spare && bytes <= self.bytes {
             return Ok(());
         }
-        let buffers = buffers_of(alloc, records, bytes)?;
-        let trays = trays_of(alloc, records)?;
+        self.seats.reserve(records)?;
         if self.slots.reserve(records).is_err() {
             return Err(NoMemory);
         }
-        widen(&mut self.slots, self.spare, records)?;
-        self.buffers = buffers;
-        self.trays = trays;
+        let depth = self.depth;
+        self.depth = deepen(alloc, &mut self.slots, &mut self.trays, depth, records)?;
+        refill(alloc, &mut self.buffers, self.bytes, records, bytes)?;
         self.spare = records;
         self.bytes = bytes;
         Ok(())
@@ -100,7 +96,7 @@ impl Kernel {
         ensures spare { self.new.spare ≡ self.old.spare }
         ensures bytes { self.new.bytes ≡ self.old.bytes }
     {
-        if let Some(i) = place_of(self.slots.as_slice(), owner) {
+        if let Some(i) = self.seats.place_of(owner) {
             self.slots[i].feed_end(moment);
         }
     }
@@ -111,7 +107,7 @@ impl Kernel {
         ensures spare { self.new.spare ≡ self.old.spare }
         ensures bytes { self.new.bytes ≡ self.old.bytes }
     {
-        if let Some(i) = place_of(self.slots.as_slice(), owner) {
+        if let Some(i) = self.seats.place_of(owner) {
             self.slots[i].freeze(moment);
         }
     }
@@ -125,7 +121,7 @@ impl Kernel {
         ensures spare { self.new.spare ≡ self.old.spare }
         ensures bytes { self.new.bytes ≡ self.old.bytes }
     {
-        match place_of(self.slots.as_slice(), owner) {
+        match self.seats.place_of(owner) {
             None => Effect::Lives,
             Some(i) => self.slots[i].thaw(moment),
         }
@@ -143,7 +139,7 @@ impl Kernel {
         ensures spare { self.new.spare ≡ self.old.spare }
         ensures bytes { self.new.bytes ≡ self.old.bytes }
     {
-        match place_of(self.slots.as_slice(), owner) {
+        match self.seats.place_of(owner) {
             None => Effect::Lives,
             Some(i) => self.slots[i].signal(sent.number, thaws, moment),
         }
@@ -158,10 +154,12 @@ impl Kernel {
         ensures bytes { self.new.bytes ≡ self.old.bytes }
     {
         self.spare -= 1;
-        let Some(i) = place_of(self.slots.as_slice(), owner) else {
+        let Some(i) = self.seats.place_of(owner) else {
             return;
         };
-        self.slots[i].feed(piece, moment);
+        let slot = &mut self.slots[i];
+        slot.feed(piece, moment);
+        self.depth = self.depth.min(slot.places());
     }
 
     /// Lets that process's next op take effect at its due moment.
@@ -177,7 +175,7 @@ impl Kernel {
         ensures bytes { self.new.bytes ≡ self.old.bytes }
     {
         let buffer = self.take_buffer();
-        match place_of(self.slots.as_slice(), owner) {
+        match self.seats.place_of(owner) {
             None => Effect::Lives,
             Some(i) => self.slots[i].run_due(buffer, moment),
         }
@@ -203,6 +201,7 @@ impl Kernel {
         self.spare -= 1;
         let tray = self.trays.pop().unwrap();
         let slot = Slot::begin(owner, script, moment, stdin, room, tray);
+        self.seats.push_reserved(owner);
         self.slots.push_reserved(slot);
     }
 
@@ -212,7 +211,8 @@ impl Kernel {
         ensures spare { self.new.spare ≡ self.old.spare }
         ensures bytes { self.new.bytes ≡ self.old.bytes }
     {
-        if let Some(i) = place_of(self.slots.as_slice(), owner) {
+        if let Some(i) = self.seats.place_of(owner) {
+            self.seats.remove(i);
             self.slots.remove(i);
         }
     }
@@ -221,7 +221,7 @@ impl Kernel {
     pub fn stands(&self, owner: Owner) -> bool
         ensures { result ≡ is_there (process_of owner self.now.processes) }
     {
-        match place_of(self.slots.as_slice(), owner) {
+        match self.seats.place_of(owner) {
             None => false,
             Some(i) => {
                 let _slot = &self.slots[i];
@@ -261,7 +261,7 @@ impl Kernel {
     pub fn next_due(&self, owner: Owner) -> Option<u64>
         ensures { result ≡ due_at (process_of owner self.now.processes) }
     {
-        match place_of(self.slots.as_slice(), owner) {
+        match self.seats.place_of(owner) {
             None => None,
             Some(i) => self.slots[i].next_due(),
         }
@@ -271,7 +271,7 @@ impl Kernel {
     pub fn input_room(&self, owner: Owner) -> u64
         ensures { result ≡ room_at (process_of owner self.now.processes) }
     {
-        match place_of(self.slots.as_slice(), owner) {
+        match self.seats.place_of(owner) {
             None => 0,
             Some(i) => self.slots[i].input_room(),
         }
@@ -281,7 +281,7 @@ impl Kernel {
     pub fn record_length(&self, owner: Owner) -> usize
         ensures { result ≡ length_at (process_of owner self.now.processes) }
     {
-        match place_of(self.slots.as_slice(), owner) {
+        match self.seats.place_of(owner) {
             None => 0,
             Some(i) => self.slots[i].record_length(),
         }
@@ -293,7 +293,7 @@ impl Kernel {
         ensures { (t : ℕ) → result
             ≡ code_at (signal sent.number thaws t) (process_of owner self.now.processes) }
     {
-        match place_of(self.slots.as_slice(), owner) {
+        match self.seats.place_of(owner) {
             None => None,
             Some(i) => self.slots[i].signal_code(sent.number, thaws),
         }
@@ -303,7 +303,7 @@ impl Kernel {
     pub fn thaw_code(&self, owner: Owner) -> Option<u8>
         ensures { (t : ℕ) → result ≡ code_at (thaw t) (process_of owner self.now.processes) }
     {
-        match place_of(self.slots.as_slice(), owner) {
+        match self.seats.place_of(owner) {
             None => None,
             Some(i) => self.slots[i].thaw_code(),
         }
@@ -313,7 +313,7 @@ impl Kernel {
     pub fn due_code(&self, owner: Owner) -> Option<u8>
         ensures { (t : ℕ) → result ≡ code_at (run_due t) (process_of owner self.now.processes) }
     {
-        match place_of(self.slots.as_slice(), owner) {
+        match self.seats.place_of(owner) {
             None => None,
             Some(i) => self.slots[i].due_code(),
         }
