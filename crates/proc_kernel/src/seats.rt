@@ -77,7 +77,8 @@ fn rows_born_before(rows: &[Row], turn: u64) -> usize
 
 /// Whether that row stands at that place.
 fn has_row(rows: &[Row], at: usize, row: Row) -> bool
-    ensures { IsTrue result → (at < length rows.now) × (is_row row (slice_index_or rows.now at row) ≡ true) }
+    ensures { IsTrue result
+        → (at < length rows.now) × (is_row row (slice_index_or rows.now at row) ≡ true) }
 {
     match rows.get(at) {
         None => false,
