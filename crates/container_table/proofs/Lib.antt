@@ -1,2 +1,3 @@
 pub mod TimerFacts
 pub mod LeastLemmas
+pub mod PlacedLemmas

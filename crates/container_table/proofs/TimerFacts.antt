@@ -27,6 +27,10 @@ none_due = refl
 set_again : with_timer 9 1 2 (timer 5 1 2 ∷ timer 5 0 2 ∷ []) ≡ timer 5 0 2 ∷ timer 9 1 2 ∷ []
 set_again = refl
 
+-- timers stand in order of rank and number, whatever their moments
+in_order_of_rank : with_timer 3 1 2 (timer 5 1 1 ∷ timer 1 2 0 ∷ []) ≡ timer 5 1 1 ∷ timer 3 1 2 ∷ timer 1 2 0 ∷ []
+in_order_of_rank = refl
+
 -- cleared and found by both
 cleared_one : cleared 1 2 (timer 5 1 3 ∷ timer 5 1 2 ∷ []) ≡ timer 5 1 3 ∷ []
 cleared_one = refl

@@ -1,3 +1,4 @@
 pub mod Lists
 pub mod Reference
 pub mod Timers
+pub mod Order

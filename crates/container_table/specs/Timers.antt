@@ -1,7 +1,7 @@
--- Timers of containers, and the least of what is due (own: in order of moment, rank and number).
-use Rattle.std.specs.Prelude.{ℕ, ◌==◌, ◌&&◌, ◌||◌, not, nat_lt, List, [], ◌∷◌, ◌++◌, Bool, Option, find}
+-- Timers of containers, listed by rank and number, and the least of what is due (own: in order of moment, rank and number).
+use Rattle.std.specs.Prelude.{ℕ, ◌==◌, ◌&&◌, ◌||◌, not, nat_lt, List, Bool, Option, find}
 use Rattle.std.specs.List.{list_any}
-use Rattle.container_table.specs.Lists.{remove_first}
+use Rattle.container_table.specs.Lists.{remove_first, placed}
 use Rattle.engine_text.specs.declared.step.DueAction.{DueAction}
 
 -- Whether it has that rank and number.
@@ -16,10 +16,14 @@ timer_in rank number timers = find (is_timer rank number) timers
 abbrev pub cleared : ℕ → ℕ → List DueAction → List DueAction
 cleared rank number timers = remove_first (is_timer rank number) timers
 
+-- Whether a stands before b in the list: by rank, then by number.
+abbrev pub is_listed_before : DueAction → DueAction → Bool
+is_listed_before a b = nat_lt a.rank b.rank || ((a.rank == b.rank) && nat_lt a.number b.number)
+
 -- The timers with one of that rank and number at that moment, in the place of an earlier one.
 abbrev pub with_timer : ℕ → ℕ → ℕ → List DueAction → List DueAction
 with_timer moment rank number timers =
-    cleared rank number timers ++ record { moment = moment; rank = rank; number = number } ∷ []
+    placed is_listed_before (record { moment = moment; rank = rank; number = number }) (cleared rank number timers)
 
 -- Whether a comes before b: by moment, then by rank, then by number.
 abbrev pub is_before : DueAction → DueAction → Bool

@@ -1,6 +1,6 @@
 // Timers in their list, one for each rank and number.
-ghost use Rattle.std.specs.Prelude.{◌≡◌, ℕ, ◌+◌, ◌<◌, ◌≤◌, ◌==◌, ◌∷◌, [], ◌++◌, position, vec_len, vec_capacity};
-ghost use Rattle.container_table.specs.Timers.{is_timer, cleared, with_timer};
+ghost use Rattle.std.specs.Prelude.{◌≡◌, ℕ, ◌+◌, ◌<◌, ◌≤◌, ◌==◌, ◌∷◌, [], ◌++◌, position, length, take_while, vec_len, vec_capacity};
+ghost use Rattle.container_table.specs.Timers.{is_timer, cleared, with_timer, is_listed_before};
 
 use engine_text::DueAction;
 
@@ -30,9 +30,28 @@ pub fn set(timers: &mut Vec<DueAction>, moment: u64, rank: u8, number: u64)
     ensures capacity { vec_capacity timers.new ≡ vec_capacity timers.old }
 {
     clear(timers, rank, number);
-    timers.push_reserved(DueAction {
+    let timer = DueAction {
         moment,
         rank,
         number,
-    });
+    };
+    let place = listed_place(timers.as_slice(), &timer);
+    let _ = timers.insert(place, timer);
+}
+
+// How many timers stand before it, by rank and then by number.
+fn listed_place(timers: &[DueAction], timer: &DueAction) -> usize
+    ensures bound { result ≤ length timers.now }
+    ensures place { result ≡ length (take_while (λ d. is_listed_before d timer.now) timers.now) }
+{
+    timers
+        .iter()
+        .take_while(|d| is_listed_before(d, timer))
+        .count()
+}
+
+fn is_listed_before(a: &DueAction, b: &DueAction) -> bool
+    ensures { result ≡ is_listed_before a.now b.now }
+{
+    a.rank < b.rank || (a.rank == b.rank && a.number < b.number)
 }

@@ -2,7 +2,8 @@
 use Rattle.std.proofs.Common.{◌≡◌, ℕ, ◌+◌, ◌*◌, ◌≤◌, ◌==◌, Bool, true, false, List, [], ◌∷◌, Option, Some, None, find, ℤ, pos, negsuc, if◌then◌else◌, refl, ap, ◌∙◌, subst, arith}
 use Rattle.std.specs.Prelude.{option_map}
 use Rattle.engine_text.specs.Scripts.{Program}
-use Rattle.container_table.specs.Timers.{is_timer, cleared, with_timer}
+use Rattle.container_table.specs.Timers.{is_timer, cleared, with_timer, is_listed_before}
+use Rattle.container_table.proofs.PlacedLemmas.{all_placed}
 use Rattle.proc_kernel.specs.Catalogue.{program_of}
 use Rattle.proc_kernel.specs.Processes.{Process, ProcessStep, run_due, signal, thaw}
 use Rattle.proc_kernel.specs.Tables.{Entry, process_of, effect_of}
@@ -45,7 +46,7 @@ pub cleared_from : (r n t : ℕ) (ds : List DueAction) → AreFrom t ds → AreF
 cleared_from r n t ds h = all_removed (λ d. t ≤ d.moment) (is_timer r n) ds h
 
 pub set_from : (moment r n t : ℕ) (ds : List DueAction) → t ≤ moment → AreFrom t ds → AreFrom t (with_timer moment r n ds)
-set_from moment r n t ds low h = all_append (λ d. t ≤ d.moment) (cleared r n ds) _ (cleared_from r n t ds h) (low, tt)
+set_from moment r n t ds low h = all_placed is_listed_before (λ d. t ≤ d.moment) (record { moment = moment; rank = r; number = n }) (cleared r n ds) low (cleared_from r n t ds h)
 
 -- ---- a launch
 

@@ -2,7 +2,9 @@
 use Rattle.std.proofs.Common.{◌≡◌, ◌≢◌, ℕ, ◌≤◌, ◌==◌, Bool, true, false, List, [], ◌∷◌, ◌++◌, Option, Some, None, if◌then◌else◌, refl, ap, sym, ◌∙◌, subst, arith}
 use Rattle.std.proofs.lemmas.Bool.{eqb-true, eq-eqb}
 use Rattle.std.specs.List.{AllByRecursion}
-use Rattle.container_table.specs.Timers.{is_timer, timer_in, cleared, with_timer}
+use Rattle.container_table.specs.Timers.{is_timer, timer_in, cleared, with_timer, is_listed_before}
+use Rattle.container_table.specs.Lists.{placed}
+use Rattle.container_table.proofs.PlacedLemmas.{all_placed}
 use Rattle.machine_model.specs.State.{State}
 use Rattle.machine_model.specs.Chain.{change}
 use Rattle.machine_model.specs.Consistency.{is_there, AreOther, AreSingle}
@@ -59,9 +61,13 @@ cleared_single : (r n : ℕ) (ds : List DueAction) → AreSingle ds → AreSingl
 cleared_single r n [] h = tt
 cleared_single r n (d ∷ ds) h = single_by (is_timer r n d) d ds (cleared r n ds) (all_removed (AreOther d) (is_timer r n) ds h.0) h.1 (cleared_single r n ds h.1)
 
-single_more : (ds : List DueAction) (d : DueAction) → AreSingle ds → AllByRecursion (λ e. AreOther e d) ds → AreSingle (ds ++ d ∷ [])
+single_more : (ds : List DueAction) (d : DueAction) → AreSingle ds → AllByRecursion (λ e. AreOther e d) ds → AreSingle (placed is_listed_before d ds)
 single_more [] d h other = (tt, tt)
-single_more (e ∷ ds) d h other = (all_append (AreOther e) ds (d ∷ []) h.0 (other.0, tt), single_more ds d h.1 other.1)
+single_more (e ∷ ds) d h other = go (is_listed_before e d) (single_more ds d h.1 other.1)
+  where
+    go : (b : Bool) → AreSingle (placed is_listed_before d ds) → AreSingle (if b then e ∷ placed is_listed_before d ds else d ∷ e ∷ ds)
+    go true more = (all_placed is_listed_before (AreOther e) d ds other.0 h.0, more)
+    go false more = (all_weaken (λ x. AreOther x d) (AreOther d) (λ x o rank number. o (sym rank) (sym number)) (e ∷ ds) other, h)
 
 none_is : (b : Bool) (r n : ℕ) (d : DueAction) (rest : Option DueAction) → is_timer r n d ≡ b → (if b then Some d else rest) ≡ None → ((d.rank ≡ r) → d.number ≢ n) × (rest ≡ None)
 none_is true r n d rest e none = absurd (cc)
@@ -74,17 +80,25 @@ nowhere r n (d ∷ ds) none = let one = none_is (is_timer r n d) r n d (timer_in
 found_more : (b : Bool) (x : DueAction) (r t : Option DueAction) → r ≡ t → (if b then Some x else r) ≡ (if b then Some x else t)
 found_more b x r t e = ap (λ o. if b then Some x else o) e
 
-set_others : (q m : ℕ) (ds : List DueAction) (d : DueAction) → ((d.rank ≡ q) → d.number ≢ m) → timer_in q m (ds ++ d ∷ []) ≡ timer_in q m ds
+set_others : (q m : ℕ) (ds : List DueAction) (d : DueAction) → ((d.rank ≡ q) → d.number ≢ m) → timer_in q m (placed is_listed_before d ds) ≡ timer_in q m ds
 set_others q m [] d other = ap (λ b. if b then Some d else None) (not_timer (is_timer q m d) q m d refl other)
-set_others q m (e ∷ ds) d other = found_more (is_timer q m e) e (timer_in q m (ds ++ d ∷ [])) (timer_in q m ds) (set_others q m ds d other)
+set_others q m (e ∷ ds) d other = go (is_listed_before e d) (set_others q m ds d other)
+  where
+    go : (b : Bool) → timer_in q m (placed is_listed_before d ds) ≡ timer_in q m ds → timer_in q m (if b then e ∷ placed is_listed_before d ds else d ∷ e ∷ ds) ≡ timer_in q m (e ∷ ds)
+    go true more = found_more (is_timer q m e) e (timer_in q m (placed is_listed_before d ds)) (timer_in q m ds) more
+    go false more = ap (λ b. if b then Some d else timer_in q m (e ∷ ds)) (not_timer (is_timer q m d) q m d refl other)
 
 there_past : (b : Bool) (x : DueAction) (r : Option DueAction) → is_there r ≡ true → is_there (if b then Some x else r) ≡ true
 there_past true x r h = refl
 there_past false x r h = h
 
-set_there : (r n : ℕ) (ds : List DueAction) (d : DueAction) → d.rank ≡ r → d.number ≡ n → is_there (timer_in r n (ds ++ d ∷ [])) ≡ true
+set_there : (r n : ℕ) (ds : List DueAction) (d : DueAction) → d.rank ≡ r → d.number ≡ n → is_there (timer_in r n (placed is_listed_before d ds)) ≡ true
 set_there r n [] d e f = ap (λ b. is_there (if b then Some d else None)) (timer_is r n d e f)
-set_there r n (x ∷ ds) d e f = there_past (is_timer r n x) x (timer_in r n (ds ++ d ∷ [])) (set_there r n ds d e f)
+set_there r n (x ∷ ds) d e f = go (is_listed_before x d) (set_there r n ds d e f)
+  where
+    go : (b : Bool) → is_there (timer_in r n (placed is_listed_before d ds)) ≡ true → is_there (timer_in r n (if b then x ∷ placed is_listed_before d ds else d ∷ x ∷ ds)) ≡ true
+    go true more = there_past (is_timer r n x) x (timer_in r n (placed is_listed_before d ds)) more
+    go false more = ap (λ b. is_there (if b then Some d else timer_in r n (x ∷ ds))) (timer_is r n d e f)
 
 -- timers of that number alone
 leads_timers : {Local : Parts → Type 0} {n : ℕ} {P Q : Parts → Type 0} (g : State → List DueAction)
@@ -115,7 +129,7 @@ set_keeps : (moment r n : ℕ) (s : State) → 1 ≤ r → r ≤ 3 → AreSingle
 set_keeps moment r n s least greatest single ranked =
     let d : DueAction = record { moment = moment; rank = r; number = n } in (
       single_more (cleared r n s.timers) d (cleared_single r n s.timers single) (nowhere r n (cleared r n s.timers) (cleared_none r n s.timers single)),
-      all_append IsRanked (cleared r n s.timers) (d ∷ []) (all_removed IsRanked (is_timer r n) s.timers ranked) (record { least = least; greatest = greatest }, tt),
+      all_placed is_listed_before IsRanked d (cleared r n s.timers) (record { least = least; greatest = greatest }) (all_removed IsRanked (is_timer r n) s.timers ranked),
     )
 
 set_elsewhere : (moment r n q m : ℕ) (ds : List DueAction) → ((r ≡ q) → n ≢ m) → timer_in q m (with_timer moment r n ds) ≡ timer_in q m ds
