@@ -153,7 +153,7 @@ died_met number n s a c died e h k = met_found number n (container_numbered n s)
 
 -- ---- what a wake keeps
 
-settle_stepped : (n : ℕ) (kit : Kit) (room : Room) (step : ℕ → Process → ProcessStep) (o : Owner) (s : State) → CanSettle n kit room s → CanSettle n kit room (stepped step o s)
+pub settle_stepped : (n : ℕ) (kit : Kit) (room : Room) (step : ℕ → Process → ProcessStep) (o : Owner) (s : State) → CanSettle n kit room s → CanSettle n kit room (stepped step o s)
 settle_stepped n kit room step o s h = settle_processes n kit room (stepped step o s).processes s h
 
 outputs_either : {A : Type 0} (p : A → Bool) (b d : Bool) (x y : A) (xs ys : List A) → p y ≡ d → p x ≡ d → length (filter p ys) ≡ length (filter p xs)

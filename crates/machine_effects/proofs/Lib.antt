@@ -17,3 +17,8 @@ pub mod TicketLemmas
 pub mod PauseLemmas
 pub mod WakeLemmas
 pub mod DestroyLemmas
+pub mod PlaceLemmas
+pub mod OpLemmas
+pub mod DueLemmas
+pub mod WokenLemmas
+pub mod MeetToldLemmas

@@ -16,5 +16,6 @@ mark_log Mark.Removing l log = refl
 mark_log Mark.Afresh l log = refl
 mark_log Mark.NoGoal l log = refl
 mark_log Mark.ToRemove l log = refl
+mark_log (Mark.Restarted count) l log = refl
 mark_log (Mark.Waiting delay) l log = refl
 mark_log (Mark.Ended code moment) l log = refl

@@ -57,44 +57,11 @@ plated id code t (Some c) (Some d) e =
     let n : c.name ≡ d.name = ap (λ (p : Plate). p.name) same in
     ap (λ x. exec_die_event id code (record c { id = x }) t ∷ []) i ∙ ap (λ x. exec_die_event id code (record c { id = d.id; name = x }) t ∷ []) n
 
-exec_marked : (o : Option Exec) (n : ℕ) (f : Life → Life) (s : State) → told_exec 137 o (change_life n f s) ≡ told_exec 137 o s
-exec_marked None n f s = refl
-exec_marked (Some x) n f s =
-    plated x.id 137 s.clock (container_numbered x.container (change_life n f s)) (container_numbered x.container s)
+pub exec_marked : (code : ℕ) (o : Option Exec) (n : ℕ) (f : Life → Life) (s : State) → told_exec code o (change_life n f s) ≡ told_exec code o s
+exec_marked code None n f s = refl
+exec_marked code (Some x) n f s =
+    plated x.id code s.clock (container_numbered x.container (change_life n f s)) (container_numbered x.container s)
     (face_updated plate (λ (c : Container). c.number == x.container) (λ (c : Container). c.number == n) (renewed f) (λ c. refl) (λ c. refl) s.containers)
-
-numbers_marked : (ns : List ℕ) (n : ℕ) (f : Life → Life) (s : State) → flat_map (told_number (change_life n f s)) ns ≡ flat_map (told_number s) ns
-numbers_marked [] n f s = refl
-numbers_marked (k ∷ ns) n f s =
-    ap (λ l. l ++ flat_map (told_number (change_life n f s)) ns) (exec_marked (exec_numbered k s) n f s)
-    ∙ ap (λ l. told_number s k ++ l) (numbers_marked ns n f s)
-
-execs_marked : (m n : ℕ) (f : Life → Life) (s : State) → told_execs m (change_life n f s) ≡ told_execs m s
-execs_marked m n f s = numbers_marked (map (λ (x : Exec). x.number) (running_execs m s)) n f s
-
-goal_marked : (g : Goal) (o : Option Program) (t : ℕ) (c : Container) → told_goal g o (renewed by_hand c) t ≡ told_goal g o c t
-goal_marked Goal.Remove o t c = refl
-goal_marked Goal.Stop o t c = refl
-goal_marked Goal.Restart o t c = ap (λ l. plain_event Action.Stop c t ∷ (l ++ plain_event Action.Restart c t ∷ [])) (same_launch o by_hand c t refl)
-goal_marked Goal.None o t c = refl
-
-status_marked : (u : Status) (o : Option Program) (t : ℕ) (c : Container) → told_status u o (renewed by_hand c) t ≡ told_status u o c t
-status_marked Status.Dead o t c = refl
-status_marked Status.Created o t c = goal_marked c.life.goal o t c
-status_marked Status.Running o t c = goal_marked c.life.goal o t c
-status_marked Status.Paused o t c = goal_marked c.life.goal o t c
-status_marked Status.Restarting o t c = goal_marked c.life.goal o t c
-status_marked Status.Removing o t c = goal_marked c.life.goal o t c
-status_marked Status.Exited o t c = goal_marked c.life.goal o t c
-
-end_marked : (code n : ℕ) (c : Container) (o : Option Program) (s : State) → told_end code n (renewed by_hand c) o (change_life n by_hand s) ≡ told_end code n c o s
-end_marked code n c o s =
-    ap (λ l. l ++ (die_event code c s.clock ∷ (told_mounts Action.Unmount c s.clock ++ told_status c.life.status o (renewed by_hand c) s.clock))) (execs_marked n n by_hand s)
-    ∙ ap (λ l. told_execs n s ++ (die_event code c s.clock ∷ (told_mounts Action.Unmount c s.clock ++ l))) (status_marked c.life.status o s.clock c)
-
-code_marked : (code : Option ℕ) (n : ℕ) (c : Container) (o : Option Program) (s : State) → told_code code n (renewed by_hand c) o (change_life n by_hand s) ≡ told_code code n c o s
-code_marked None n c o s = refl
-code_marked (Some code) n c o s = end_marked code n c o s
 
 -- ---- a signal to the main process
 
@@ -111,19 +78,3 @@ pub send_told : (thaws : Bool) (number n : ℕ) (s : State) (c : Container) (o :
 send_told thaws number n s c o code found named is =
     effect_told (effect_of (signal number thaws s.clock) (process_of (Owner.Container n) s.processes)) n (λ p. (signal number thaws s.clock p).process) s c o found named
     ∙ ap (λ k. told_code k n c o s) (sym is)
-
-woken_running : (number n : ℕ) (u : Status) (s : State) → u ≡ Status.Running → (and_then (woken u n) (send true number n) s).events ≡ (send true number n s).events
-woken_running number n u s e = ap (λ v. (and_then (woken v n) (send true number n) s).events) e
-
--- the signal of a kill, to a container that runs
-pub deliver_told : (last : Bool) (number n : ℕ) (s : State) (c : Container) (o : Option Program) (code : Option ℕ) → container_numbered n s ≡ Some c → o ≡ program_of c.life.words (c.life.starts + 1)
-    → c.life.status ≡ Status.Running → code ≡ code_at (signal number last s.clock) (process_of (Owner.Container n) s.processes) → (deliver last number n s).events ≡ told_code code n c o s
-deliver_told false number n s c o code found named runs is = send_told false number n s c o code found named is
-deliver_told true number n s c o code found named runs is =
-    let s1 : State = change_life n by_hand s in
-    let c1 : Container = renewed by_hand c in
-    let f : container_numbered n s1 ≡ Some c1 = found_renewed n by_hand s c found in
-    ap (λ q. (with_found q (λ (d : Container). and_then (woken d.life.status n) (send true number n)) s1).events) f
-    ∙ (woken_running number n c.life.status s1 runs
-    ∙ (send_told true number n s1 c1 o code f named is
-    ∙ code_marked code n c o s))

@@ -65,6 +65,7 @@ mark_words Mark.Removing l = refl
 mark_words Mark.Afresh l = refl
 mark_words Mark.NoGoal l = refl
 mark_words Mark.ToRemove l = refl
+mark_words (Mark.Restarted count) l = refl
 mark_words (Mark.Waiting delay) l = refl
 mark_words (Mark.Ended code moment) l = refl
 
@@ -79,17 +80,18 @@ mark_starts Mark.Removing l = refl
 mark_starts Mark.Afresh l = refl
 mark_starts Mark.NoGoal l = refl
 mark_starts Mark.ToRemove l = refl
+mark_starts (Mark.Restarted count) l = refl
 mark_starts (Mark.Waiting delay) l = refl
 mark_starts (Mark.Ended code moment) l = refl
 
-named_by : (m : Mark) (script : Option Program) (o : Option Container) → ((c : Container) → o ≡ Some c → script ≡ program_of c.life.words (c.life.starts + 1))
-    → (c : Container) → option_map (renewed (marked m)) o ≡ Some c → script ≡ program_of c.life.words (c.life.starts + 1)
-named_by m script None named c e = absurd (cc)
-named_by m script (Some d) named c e =
-    let is : renewed (marked m) d ≡ c = cc in
+named_by : (f : Life → Life) → ((l : Life) → (f l).words ≡ l.words) → ((l : Life) → (f l).starts ≡ l.starts) → (script : Option Program) (o : Option Container) → ((c : Container) → o ≡ Some c → script ≡ program_of c.life.words (c.life.starts + 1))
+    → (c : Container) → option_map (renewed f) o ≡ Some c → script ≡ program_of c.life.words (c.life.starts + 1)
+named_by f ws st script None named c e = absurd (cc)
+named_by f ws st script (Some d) named c e =
+    let is : renewed f d ≡ c = cc in
     let first : script ≡ program_of d.life.words (d.life.starts + 1) = named d refl in
-    let second : program_of d.life.words (d.life.starts + 1) ≡ program_of (marked m d.life).words ((marked m d.life).starts + 1) =
-    ap (λ ws. program_of ws (d.life.starts + 1)) (sym (mark_words m d.life)) ∙ ap (λ k. program_of (marked m d.life).words (k + 1)) (sym (mark_starts m d.life)) in
+    let second : program_of d.life.words (d.life.starts + 1) ≡ program_of (f d.life).words ((f d.life).starts + 1) =
+    ap (λ w. program_of w (d.life.starts + 1)) (sym (ws d.life)) ∙ ap (λ k. program_of (f d.life).words (k + 1)) (sym (st d.life)) in
     first ∙ (second ∙ ap (λ (x : Container). program_of x.life.words (x.life.starts + 1)) is)
 
 -- ---- what a removal finds
@@ -161,13 +163,17 @@ alike_exec_ended n k code s =
       outputs = ap length (filter_same_test (is_output_of n (change_exec k (exec_ended code) s).execs) (is_output_of n s.execs) (λ o. is_output_by n s.execs (change_exec k (exec_ended code) s).execs o names) s.outputs);
     }
 
-pub launch_renew : (n : ℕ) (script : Option Program) (m : Mark) (s : State) → CanLaunch n script s → CanLaunch n script (change_life n (marked m) s)
-launch_renew n script m s h = record {
-  few = All_updated (λ (c : Container). c.life.starts < 2 ^ 63) (λ (c : Container). c.life.starts < 2 ^ 63) (λ (c : Container). c.number == n) (renewed (marked m))
-      (λ c p. subst (λ k. k < 2 ^ 63) (sym (mark_starts m c.life)) p) (λ c p. p) s.containers h.few;
+-- a change of the life that leaves its words and its starts
+pub launch_changed : (n : ℕ) (script : Option Program) (f : Life → Life) → ((l : Life) → (f l).words ≡ l.words) → ((l : Life) → (f l).starts ≡ l.starts) → (s : State) → CanLaunch n script s → CanLaunch n script (change_life n f s)
+launch_changed n script f ws st s h = record {
+  few = All_updated (λ (c : Container). c.life.starts < 2 ^ 63) (λ (c : Container). c.life.starts < 2 ^ 63) (λ (c : Container). c.number == n) (renewed f)
+      (λ c p. subst (λ k. k < 2 ^ 63) (sym (st c.life)) p) (λ c p. p) s.containers h.few;
   pid = h.pid;
-  named = λ c e. named_by m script (container_numbered n s) h.named c (sym (found_updated (λ (d : Container). d.number == n) (renewed (marked m)) s.containers (λ d. refl)) ∙ e);
+  named = λ c e. named_by f ws st script (container_numbered n s) h.named c (sym (found_updated (λ (d : Container). d.number == n) (renewed f) s.containers (λ d. refl)) ∙ e);
 }
+
+pub launch_renew : (n : ℕ) (script : Option Program) (m : Mark) (s : State) → CanLaunch n script s → CanLaunch n script (change_life n (marked m) s)
+launch_renew n script m s h = launch_changed n script (marked m) (mark_words m) (mark_starts m) s h
 
 -- a mark of the container
 pub settle_renew : (n : ℕ) (kit : Kit) (room : Room) (m : Mark) (s : State) → CanSettle n kit room s → CanSettle n kit room (change_life n (marked m) s)

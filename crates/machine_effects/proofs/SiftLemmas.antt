@@ -3,6 +3,8 @@ use Rattle.std.proofs.Common.{◌≡◌, ℕ, zero, suc, ◌+◌, ◌<◌, ◌�
 use Rattle.std.specs.List.{remove}
 use Rattle.std.proofs.Math.ListN.{get_or-map}
 use Rattle.std.proofs.lemmas.List.{length-map}
+use Rattle.std.proofs.lemmas.List.Sums.{length-filter}
+use Rattle.std.specs.Prelude.{count_by}
 
 -- what is still to come stays, what was passed over stands before it
 abbrev pub sifted : {A : Type 0} → (A → Bool) → ℕ → List A → List A
@@ -89,3 +91,18 @@ has_passed f p xs i h low is miss =
       stays = ap (λ k. sifted p k (map f xs)) (add-one i) ∙ miss_stays p (f h) (map f xs) i (low_in f xs i low) passes;
       taken = ap (λ k. untaken p k (map f xs)) (add-one i) ∙ miss_taken p (f h) (map f xs) i (low_in f xs i low) passes;
     }
+
+-- ---- a count
+
+filtered_either : {A B : Type 0} (f : A → B) (b : Bool) (x : A) (xs : List A) (ys : List B) → ys ≡ map f xs → (if b then f x ∷ ys else ys) ≡ map f (if b then x ∷ xs else xs)
+filtered_either f true x xs ys e = ap (λ l. f x ∷ l) e
+filtered_either f false x xs ys e = e
+
+filtered_map : {A B : Type 0} (f : A → B) (p : B → Bool) (xs : List A) → filter p (map f xs) ≡ map f (filter (λ x. p (f x)) xs)
+filtered_map f p [] = refl
+filtered_map f p (x ∷ xs) = filtered_either f (p (f x)) x (filter (λ y. p (f y)) xs) (filter p (map f xs)) (filtered_map f p xs)
+
+pub counted_in : {A B : Type 0} (f : A → B) (p : B → Bool) (xs : List A) → count_by (λ x. p (f x)) xs ≡ length (filter p (map f xs))
+counted_in f p xs =
+    let e : length (map f (filter (λ x. p (f x)) xs)) ≡ length (filter (λ x. p (f x)) xs) = simp length-map refl in
+    sym (length-filter (λ x. p (f x)) xs) ∙ (sym e ∙ ap length (sym (filtered_map f p xs)))

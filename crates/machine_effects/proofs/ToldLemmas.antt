@@ -255,14 +255,22 @@ end_parts code n s a c same clock e =
     ∙ (rest_told code n a c g ∙ ap (λ t. die_event code c t ∷ (told_mounts Action.Unmount c t ++ told_status c.life.status (program_of c.life.words (c.life.starts + 1)) c t)) clock)
 
 -- the end of a main process, told from a state in which the same is told of its execs
+pub end_told_of : (code n : ℕ) (s z : State) (c : Container) → AreAlike s z → container_numbered n z ≡ Some c
+    → (end_main code n z).events ≡ flat_map (told_number s) (map (λ (x : Exec). x.number) (running_execs n z)) ++ (die_event code c s.clock ∷ (told_mounts Action.Unmount c s.clock ++ told_status c.life.status (program_of c.life.words (c.life.starts + 1)) c s.clock))
+end_told_of code n s z c a e =
+    let y : State = (end_execs n z).state in
+    let b : AreAlike z y = each_alike (running_execs n z) z in
+    let execs : List Event = flat_map (told_number s) (map (λ (x : Exec). x.number) (running_execs n z)) in
+    let first : (end_execs n z).events ≡ execs = each_told (running_execs n z) s z a in
+    ap (λ l. l ++ ((tell_of (die_event code) n y).events ++ ((tell_mounts Action.Unmount n (clear_deadlines n (die code n (tell_of (die_event code) n y).state).state)).events ++ ((with_found (container_numbered n (tell_mounts Action.Unmount n (clear_deadlines n (die code n (tell_of (die_event code) n y).state).state)).state) (λ (d : Container). by_status d.life.status d) (tell_mounts Action.Unmount n (clear_deadlines n (die code n (tell_of (die_event code) n y).state).state)).state).events ++ [])))) first
+    ∙ ap (λ l. execs ++ l) (end_parts code n z y c b.containers b.clock e ∙ ap (λ t. die_event code c t ∷ (told_mounts Action.Unmount c t ++ told_status c.life.status (program_of c.life.words (c.life.starts + 1)) c t)) a.clock)
+
+-- the same execs running
 pub end_told : (code n : ℕ) (s z : State) (c : Container) → AreAlike s z → running_execs n z ≡ running_execs n s → container_numbered n z ≡ Some c
     → (end_main code n z).events ≡ told_execs n s ++ (die_event code c s.clock ∷ (told_mounts Action.Unmount c s.clock ++ told_status c.life.status (program_of c.life.words (c.life.starts + 1)) c s.clock))
 end_told code n s z c a same e =
-    let y : State = (end_execs n z).state in
-    let b : AreAlike z y = each_alike (running_execs n z) z in
-    let first : (end_execs n z).events ≡ told_execs n s = each_told (running_execs n z) s z a ∙ ap (λ xs. flat_map (told_number s) (map (λ (x : Exec). x.number) xs)) same in
-    ap (λ l. l ++ ((tell_of (die_event code) n y).events ++ ((tell_mounts Action.Unmount n (clear_deadlines n (die code n (tell_of (die_event code) n y).state).state)).events ++ ((with_found (container_numbered n (tell_mounts Action.Unmount n (clear_deadlines n (die code n (tell_of (die_event code) n y).state).state)).state) (λ (d : Container). by_status d.life.status d) (tell_mounts Action.Unmount n (clear_deadlines n (die code n (tell_of (die_event code) n y).state).state)).state).events ++ [])))) first
-    ∙ ap (λ l. told_execs n s ++ l) (end_parts code n z y c b.containers b.clock e ∙ ap (λ t. die_event code c t ∷ (told_mounts Action.Unmount c t ++ told_status c.life.status (program_of c.life.words (c.life.starts + 1)) c t)) a.clock)
+    end_told_of code n s z c a e
+    ∙ ap (λ (xs : List Exec). flat_map (told_number s) (map (λ (x : Exec). x.number) xs) ++ (die_event code c s.clock ∷ (told_mounts Action.Unmount c s.clock ++ told_status c.life.status (program_of c.life.words (c.life.starts + 1)) c s.clock))) same
 
 -- ---- a step of the main process
 

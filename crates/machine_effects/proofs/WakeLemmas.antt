@@ -17,6 +17,7 @@ use Rattle.machine_model.specs.Chain.{and_then, change, each, tell_of, with_foun
 use Rattle.machine_model.specs.Effects.EndMain.{end_exec, exec_ended}
 use Rattle.machine_model.specs.Effects.Meet.{by_effect, step_process, stepped}
 use Rattle.machine_effects.specs.Foretold.{told_exec}
+use Rattle.machine_effects.specs.ToldMeet.{told_thaw, thawed_code}
 use Rattle.machine_effects.proofs.SettleLemmas.{tell_still}
 use Rattle.machine_effects.proofs.ToldLemmas.{AreAlike, exec_found, alike_exec, alike_both, alike_told_exec}
 
@@ -69,13 +70,6 @@ other_thawed j k s other =
 
 -- ---- what a thaw tells
 
-abbrev pub told_thaw : Option ℕ → ℕ → State → List Event
-told_thaw None j s = []
-told_thaw (Some code) j s = told_exec code (exec_numbered j s) s
-
-abbrev pub thawed_code : ℕ → State → Option ℕ
-thawed_code j s = code_at (thaw s.clock) (process_of (Owner.Exec j) s.processes)
-
 effect_told : (e : ProcessEffect) (j : ℕ) (p : Process → Process) (s z : State) → AreAlike s z
     → (by_effect e (Owner.Exec j) (record z { processes = changed_of (Owner.Exec j) p z.processes })).events ≡ told_thaw (code_in e) j s
 effect_told Lives j p s z a = refl
@@ -85,7 +79,7 @@ effect_told (Ended code) j p s z a =
     let b : AreAlike s y = record { containers = a.containers; clock = a.clock; execs = a.execs } in
     exec_found code j (exec_numbered j z) y ∙ alike_told_exec code j s y b
 
-thaw_alike : (e : ProcessEffect) (j : ℕ) (p : Process → Process) (s z : State) → AreAlike s z → AreAlike s (by_effect e (Owner.Exec j) (record z { processes = changed_of (Owner.Exec j) p z.processes })).state
+pub thaw_alike : (e : ProcessEffect) (j : ℕ) (p : Process → Process) (s z : State) → AreAlike s z → AreAlike s (by_effect e (Owner.Exec j) (record z { processes = changed_of (Owner.Exec j) p z.processes })).state
 thaw_alike Lives j p s z a = record { containers = a.containers; clock = a.clock; execs = a.execs }
 thaw_alike (Wrote stream payload) j p s z a = record { containers = a.containers; clock = a.clock; execs = a.execs }
 thaw_alike (Ended code) j p s z a =
@@ -102,7 +96,7 @@ Differ (x ∷ xs) = AllByRecursion (λ (y : Exec). (x.number == y.number) ≡ fa
 abbrev pub AreSame : State → State → List Exec → Type 0
 AreSame s z xs = AllByRecursion (λ (y : Exec). process_of (Owner.Exec y.number) z.processes ≡ process_of (Owner.Exec y.number) s.processes) xs
 
-same_on : (j : ℕ) (s z : State) (xs : List Exec) → AllByRecursion (λ (y : Exec). (j == y.number) ≡ false) xs → AreSame s z xs → AreSame s (step_process thaw (Owner.Exec j) z).state xs
+pub same_on : (j : ℕ) (s z : State) (xs : List Exec) → AllByRecursion (λ (y : Exec). (j == y.number) ≡ false) xs → AreSame s z xs → AreSame s (step_process thaw (Owner.Exec j) z).state xs
 same_on j s z [] other h = tt
 same_on j s z (y ∷ ys) other h = (other_thawed j y.number z other.0 ∙ h.0, same_on j s z ys other.1 h.1)
 
@@ -117,3 +111,10 @@ thaws_told (x ∷ xs) s z a d h =
     let y : State = (step_process thaw (Owner.Exec j) z).state in
     ap (λ l. l ++ (each (λ (x : Exec). step_process thaw (Owner.Exec x.number)) xs y).events) (effect_told e j (λ p. (thaw z.clock p).process) s z a ∙ ap (λ c. told_thaw c j s) code)
     ∙ ap (λ l. told_thaw (thawed_code j s) j s ++ l) (thaws_told xs s y (thaw_alike e j (λ p. (thaw z.clock p).process) s z a) d.1 (same_on j s z xs d.0 h.1))
+
+-- what is told of execs stays
+pub thaws_alike : (xs : List Exec) (s z : State) → AreAlike s z → AreAlike s (each (λ (x : Exec). step_process thaw (Owner.Exec x.number)) xs z).state
+thaws_alike [] s z a = a
+thaws_alike (x ∷ xs) s z a =
+    let j : ℕ = x.number in
+    thaws_alike xs s (step_process thaw (Owner.Exec j) z).state (thaw_alike (effect_of (thaw z.clock) (process_of (Owner.Exec j) z.processes)) j (λ p. (thaw z.clock p).process) s z a)

@@ -15,6 +15,11 @@ use Rattle.machine_model.specs.Effects.Meet.{running}
 use Rattle.machine_effects.specs.declared.marks.Mark.{Mark}
 
 -- What a mark makes of a life.
+-- So many restarts.
+abbrev pub counted : ℕ → Life → Life
+counted count l = record l { restarts = count }
+
+-- What a mark makes of a life.
 abbrev pub marked : Mark → Life → Life
 marked Mark.ByHand = by_hand
 marked Mark.Running = running
@@ -26,6 +31,7 @@ marked Mark.Removing = removing
 marked Mark.Afresh = afresh
 marked Mark.NoGoal = no_goal
 marked Mark.ToRemove = to_remove
+marked (Mark.Restarted count) = counted count
 marked (Mark.Waiting delay) = restarting delay
 marked (Mark.Ended code moment) = ended code moment
 

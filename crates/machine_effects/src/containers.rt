@@ -3,14 +3,17 @@ ghost use Rattle.std.specs.Prelude.{◌≡◌, ℕ, ◌+◌, ◌<◌, ◌≤◌,
 ghost use Rattle.container_table.specs.Lists.{remove_first};
 ghost use Rattle.container_table.specs.Reference.{container_by};
 ghost use Rattle.container_table.specs.Timers.{cleared, with_timer};
+ghost use Rattle.machine_model.specs.Consistency.{is_there};
 ghost use Rattle.machine_effects.specs.Fit.{AreFew};
 ghost use Rattle.machine_effects.specs.Held.{container_in};
+ghost use Rattle.machine_effects.specs.Rooms.{HasLogRoom};
+ghost use Rattle.machine_model.specs.Effects.Meet.{logged};
 ghost use Rattle.machine_effects.specs.Marks.{marked, with_life, launched_at};
 
 use super::held::Held;
 use super::marks::Mark;
 use super::{find, lives, timers};
-use engine_text::{DueAction, Found, NoMemory};
+use engine_text::{Bytes, DueAction, Found, NoMemory, Stream};
 use std::alloc::Global;
 use std::marker::Model;
 
@@ -71,11 +74,42 @@ impl Containers {
         lives::numbered(self.held.as_slice(), number)
     }
 
+    /// Whether there is a container with that number.
+    pub fn has(&self, number: u64) -> bool
+        ensures { result ≡ is_there (find (λ c. c.number == number) self.now.containers) }
+    {
+        match self.numbered(number) {
+            None => false,
+            Some(_) => true,
+        }
+    }
+
     /// The container that a reference names.
     pub fn find(&self, reference: &str) -> Found
         ensures { result ≡ container_by self.now.containers reference.now }
     {
         find::container_by(self.held.as_slice(), reference)
+    }
+
+    /// The container's log has one more record, of its current run.
+    pub fn record(&mut self, number: u64, stream: Stream, payload: Bytes, moment: u64)
+        requires { HasLogRoom number self.old.containers self.old.logs }
+        ensures containers { self.new.containers
+            ≡ with_life number (logged stream payload moment) self.old.containers }
+        ensures timers { self.new.timers ≡ self.old.timers }
+        ensures room { self.new.room ≡ self.old.room }
+    {
+        lives::record(&mut self.held, number, stream, payload, moment);
+    }
+
+    /// Makes room for one more record of the container's log.
+    pub fn reserve_record(&mut self, number: u64) -> Result<(), NoMemory>
+        ensures containers { self.new.containers ≡ self.old.containers }
+        ensures timers { self.new.timers ≡ self.old.timers }
+        ensures timer_room { self.new.room ≡ self.old.room }
+        ensures room { OnOk result (HasLogRoom number self.new.containers self.new.logs) }
+    {
+        lives::reserve_record(&mut self.held, number)
     }
 
     /// The container is gone.

@@ -7,4 +7,5 @@ mod end_main;
 mod freeze;
 mod launch;
 mod meet;
+mod op;
 mod settle;

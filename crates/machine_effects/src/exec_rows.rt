@@ -1,12 +1,13 @@
 // Execs in their list: what is changed of one, and which run.
-ghost use Rattle.std.specs.Prelude.{◌≡◌, ℕ, ◌+◌, ◌<◌, ◌≤◌, ◌==◌, position, option_copied, length, map, filter, find, vec_len, vec_capacity};
+ghost use Rattle.std.specs.Prelude.{◌≡◌, ℕ, ◌+◌, ◌<◌, ◌≤◌, ◌==◌, position, option_copied, length, map, filter, find, vec_len, vec_capacity, IfOk};
 ghost use Rattle.container_table.specs.Lists.{update_first};
 ghost use Rattle.machine_model.specs.Consistency.{is_there};
 ghost use Rattle.machine_model.specs.Effects.EndMain.{exec_ended};
 ghost use Rattle.machine_effects.specs.Running.{is_running};
 
-use engine_text::{Exec, Owner};
+use engine_text::{Exec, NoMemory, Numbers, Owner};
 use proc_kernel::Kernel;
+use std::alloc::Global;
 
 fn exec_at(execs: &[Exec], number: u64) -> Option<usize>
     ensures { result ≡ position (λ x. x.number == number) execs.now }
@@ -60,4 +61,17 @@ pub fn list_running(execs: &[Exec], kernel: &Kernel, number: u64, into: &mut Vec
             into.push_reserved(x.number);
         }
     }
+}
+
+/// The numbers of the container's execs.
+pub fn numbers_of(execs: &[Exec], alloc: Global, number: u64) -> Result<Numbers, NoMemory>
+    ensures { IfOk result (λ l. l ≡ map (λ x. x.number) (filter (λ x. x.container == number) execs.now)) }
+{
+    let mut numbers = Numbers::new(alloc);
+    for x in execs {
+        if x.container == number {
+            numbers.push(alloc, x.number)?;
+        }
+    }
+    Ok(numbers)
 }

@@ -1,5 +1,5 @@
 // The table of execs.
-ghost use Rattle.std.specs.Prelude.{◌≡◌, ℕ, ◌==◌, ◌≤◌, [], not, length, map, filter, find, option_copied, vec_capacity};
+ghost use Rattle.std.specs.Prelude.{◌≡◌, ℕ, ◌==◌, ◌≤◌, [], not, length, map, filter, find, option_copied, vec_capacity, IfOk};
 ghost use Rattle.std.specs.List.{list_any};
 ghost use Rattle.container_table.specs.Lists.{update_first};
 ghost use Rattle.engine_text.specs.Owner.{same_owner};
@@ -9,7 +9,7 @@ ghost use Rattle.machine_model.specs.Effects.EndMain.{exec_ended};
 ghost use Rattle.machine_effects.specs.Running.{is_running};
 
 use super::exec_rows;
-use engine_text::{Exec, Owner, same_owner};
+use engine_text::{Exec, NoMemory, Numbers, Owner, same_owner};
 use proc_kernel::Kernel;
 use std::alloc::Global;
 use std::marker::Model;
@@ -77,6 +77,14 @@ impl Execs {
         ensures capacity { vec_capacity into.new ≡ vec_capacity into.old }
     {
         exec_rows::list_running(self.items.as_slice(), kernel, number, into);
+    }
+
+    /// The numbers of the container's execs.
+    pub fn numbers_of(&self, alloc: Global, number: u64) -> Result<Numbers, NoMemory>
+        ensures { IfOk result (λ l. l
+            ≡ map (λ x. x.number) (filter (λ x. x.container == number) self.now.execs)) }
+    {
+        exec_rows::numbers_of(self.items.as_slice(), alloc, number)
     }
 
     /// Whether the owner is one of the container's execs.

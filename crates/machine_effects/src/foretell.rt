@@ -1,5 +1,6 @@
 // The events of a step, made before it.
 ghost use Rattle.std.specs.Prelude.{◌≡◌, ℕ, ◌∷◌, [], ◌++◌, Some, OnOk};
+ghost use Rattle.std.specs.List.{flat_map};
 ghost use Rattle.proc_kernel.specs.Catalogue.{program_of};
 ghost use Rattle.machine_model.specs.State.{container_numbered};
 ghost use Rattle.machine_model.specs.Step.{at_moment};
@@ -99,7 +100,7 @@ fn tell_goal(
     }
 }
 
-fn tell_status(
+pub fn tell_status(
     alloc: Global,
     script: &Option<Script>,
     h: &Held,
@@ -151,7 +152,20 @@ impl Tables {
         ensures { OnOk result (out.new.items ≡ out.old.items ++ told_execs number (at_moment moment self.now.state)) }
     {
         let running = self.running(alloc, number)?;
-        let numbers = running.as_slice();
+        self.tell_numbers(alloc, running.as_slice(), moment, out)
+    }
+
+    /// The ends of these execs.
+    pub(super) fn tell_numbers(
+        &self,
+        alloc: Global,
+        numbers: &[u64],
+        moment: u64,
+        out: &mut Vec<Event>,
+    ) -> Result<(), NoMemory>
+        ensures { OnOk result (out.new.items ≡ out.old.items
+            ++ flat_map (told_number (at_moment moment self.now.state)) numbers.now) }
+    {
         for n in numbers {
             self.tell_number(alloc, *n, moment, out)?;
         }

@@ -9,6 +9,7 @@ mod exec_rows;
 mod execs;
 mod find;
 mod foretell;
+mod foretell_met;
 mod held;
 mod kit;
 mod lives;

@@ -1,15 +1,17 @@
 // Changes of a container's life, where it stands in the list.
-ghost use Rattle.std.specs.Prelude.{◌≡◌, ℕ, ◌+◌, ◌-◌, ◌<◌, ◌^◌, ◌==◌, position, map, option_map, option_copied, find};
+ghost use Rattle.std.specs.Prelude.{◌≡◌, ℕ, ◌+◌, ◌-◌, ◌<◌, ◌^◌, ◌==◌, [], ◌∷◌, ◌++◌, position, map, option_map, option_copied, find, slice_index, vec_len, vec_capacity, Some, OnOk};
 ghost use Rattle.container_table.specs.Lists.{remove_first};
-ghost use Rattle.machine_effects.specs.Held.{container_in, containers_in};
+ghost use Rattle.machine_effects.specs.Held.{container_in, containers_in, room_in};
 ghost use Rattle.machine_effects.specs.Fit.{AreFew, IsSoon};
 ghost use Rattle.machine_model.specs.Effects.EndMain.{decision_at};
 ghost use Rattle.machine_model.specs.Effects.Launch.{log_size};
+ghost use Rattle.machine_model.specs.Effects.Meet.{logged};
+ghost use Rattle.machine_effects.specs.Rooms.{HasLogRoom};
 ghost use Rattle.machine_effects.specs.Marks.{marked, with_life, launched_at};
 
 use super::held::Held;
 use super::marks::{Mark, note};
-use engine_text::{LogRecord, Status};
+use engine_text::{Bytes, LogRecord, NoMemory, Status, Stream};
 use restart_policy::{Decision, decide};
 
 /// Where the container with that number stands.
@@ -101,4 +103,38 @@ pub fn room_after(records: &[LogRecord]) -> u64
         room = room.saturating_sub(r.payload.len() as u64);
     }
     room
+}
+
+/// The container's log has one more record, of its current run.
+pub fn record(held: &mut Vec<Held>, number: u64, stream: Stream, payload: Bytes, moment: u64)
+    requires { HasLogRoom number (containers_in held.old.items) (map room_in held.old.items) }
+    ensures { containers_in held.new.items
+        ≡ with_life number (logged stream payload moment) (containers_in held.old.items) }
+{
+    if let Some(i) = place_of(held.as_slice(), number) {
+        let h = &mut held[i];
+        let run = h.container.life.starts;
+        h.records.push_reserved(LogRecord {
+            run,
+            stream,
+            payload,
+            moment,
+        });
+    }
+}
+
+/// Makes room for one more record of the container's log.
+pub fn reserve_record(held: &mut Vec<Held>, number: u64) -> Result<(), NoMemory>
+    ensures same { containers_in held.new.items ≡ containers_in held.old.items }
+    ensures room { OnOk result
+        (HasLogRoom number (containers_in held.new.items) (map room_in held.new.items)) }
+{
+    let Some(i) = place_of(held.as_slice(), number) else {
+        return Ok(());
+    };
+    let h = &mut held[i];
+    match h.records.reserve(1) {
+        Ok(()) => Ok(()),
+        Err(_) => Err(NoMemory),
+    }
 }

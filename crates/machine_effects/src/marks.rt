@@ -17,6 +17,7 @@ pub enum Mark {
     Afresh,
     NoGoal,
     ToRemove,
+    Restarted(u64),
     Waiting(u64),
     Ended(u8, u64),
 }
@@ -44,6 +45,7 @@ pub fn note(life: &mut Life, mark: Mark)
         }
         Mark::NoGoal => life.goal = Goal::None,
         Mark::ToRemove => life.goal = Goal::Remove,
+        Mark::Restarted(count) => life.restarts = count,
         Mark::Waiting(delay) => {
             life.status = Status::Restarting;
             life.delay = delay;

@@ -44,6 +44,19 @@ impl Moments {
         let _ = &self.items;
     }
 
+    /// Makes room for so many moments more.
+    pub fn reserve(&mut self, more: usize) -> Result<(), NoMemory>
+        ensures moments { self.new.moments ≡ self.old.moments }
+        ensures room { OnOk result (min 65536 (length self.new.moments + more) ≤ self.new.room) }
+    {
+        let free = MOST - self.items.len();
+        let wanted = if more < free { more } else { free };
+        match self.items.reserve(wanted) {
+            Ok(()) => Ok(()),
+            Err(_) => Err(NoMemory),
+        }
+    }
+
     /// A moment more, in the place of the oldest where all places are taken.
     pub fn push(&mut self, moment: u64)
         requires { min 65536 (length self.old.moments + 1) ≤ self.old.room }

@@ -1,13 +1,18 @@
 // The outputs of execs.
-ghost use Rattle.std.specs.Prelude.{◌≡◌, ℕ, ◌+◌, ◌<◌, ◌≤◌, ◌==◌, [], ◌∷◌, ◌++◌, not, length, map, filter, slice_index_or, vec_len, vec_capacity};
+ghost use Rattle.std.specs.Prelude.{◌≡◌, ℕ, ◌+◌, ◌<◌, ◌≤◌, ◌==◌, [], ◌∷◌, ◌++◌, not, length, map, filter, count_by, position, slice_index_or, vec_len, vec_capacity};
 ghost use Rattle.std.specs.List.{remove};
-ghost use Rattle.machine_effects.specs.Held.{output_in, outputs_in};
-ghost use Rattle.machine_effects.specs.Outputs.{is_output_of};
+ghost use Rattle.container_table.specs.Lists.{update_first};
+ghost use Rattle.engine_text.specs.Owner.{same_owner};
+ghost use Rattle.engine_text.specs.declared.owner.Owner as owners;
+ghost use Rattle.machine_model.specs.Effects.Meet.{record_of};
+ghost use Rattle.machine_effects.specs.Held.{output_in, outputs_in, output_room};
+ghost use Rattle.machine_effects.specs.Outputs.{is_output_of, with_record};
+ghost use Rattle.machine_effects.specs.Rooms.{HasOutputRoom};
 ghost use Rattle.machine_effects.specs.declared.held.HeldOutput.{HeldOutput};
 
 use super::execs::Execs;
 use super::held::HeldOutput;
-use engine_text::{Log, OwnedLog};
+use engine_text::{Bytes, Log, LogRecord, OwnedLog, Owner, Stream, same_owner};
 use std::alloc::Global;
 use std::marker::Model;
 
@@ -32,6 +37,12 @@ fn is_of(o: &HeldOutput, execs: &Execs, number: u64) -> bool
     ensures { result ≡ is_output_of number execs.now.execs (output_in o.now) }
 {
     execs.owns(number, o.owner)
+}
+
+fn count_of(held: &[HeldOutput], execs: &Execs, number: u64) -> usize
+    ensures { result ≡ count_by (λ h. is_output_of number execs.now.execs (output_in h)) held.now }
+{
+    held.iter().filter(|o| is_of(o, execs, number)).count()
 }
 
 // The output at that place goes over into the list.
@@ -71,6 +82,26 @@ fn sift(held: &mut Vec<HeldOutput>, execs: &Execs, number: u64, into: &mut Vec<O
     }
 }
 
+fn place_of(held: &[HeldOutput], number: u64) -> Option<usize>
+    ensures { result ≡ position (λ h. same_owner h.owner (owners.Owner.Exec number)) held.now }
+{
+    held.iter()
+        .position(|h| same_owner(h.owner, Owner::Exec(number)))
+}
+
+// The output of the exec has one more record.
+fn write(held: &mut Vec<HeldOutput>, number: u64, written: LogRecord)
+    requires { HasOutputRoom number (outputs_in held.old.items) (map output_room held.old.items) }
+    ensures { outputs_in held.new.items
+        ≡ update_first (λ o. same_owner o.owner (owners.Owner.Exec number)) (with_record written)
+        (outputs_in held.old.items) }
+{
+    if let Some(i) = place_of(held.as_slice(), number) {
+        let h = &mut held[i];
+        h.records.push_reserved(written);
+    }
+}
+
 impl Outputs {
     /// None; it takes no memory.
     pub fn new(alloc: Global) -> Outputs
@@ -79,6 +110,13 @@ impl Outputs {
         Outputs {
             held: Vec::new(alloc),
         }
+    }
+
+    /// How many outputs are of the container's execs.
+    pub fn count_of(&self, execs: &Execs, number: u64) -> usize
+        ensures { result ≡ length (filter (is_output_of number execs.now.execs) self.now.outputs) }
+    {
+        count_of(self.held.as_slice(), execs, number)
     }
 
     /// The outputs of the container's execs go over into the list.
@@ -91,5 +129,21 @@ impl Outputs {
             ≡ into.old.items ++ filter (is_output_of number execs.now.execs) self.old.outputs }
     {
         sift(&mut self.held, execs, number, into);
+    }
+
+    /// The output of the exec has one more record, of its one run.
+    pub fn record(&mut self, number: u64, stream: Stream, payload: Bytes, moment: u64)
+        requires { HasOutputRoom number self.old.outputs self.old.rooms }
+        ensures { self.new.outputs
+            ≡ update_first (λ o. same_owner o.owner (owners.Owner.Exec number))
+            (with_record (record_of 1 stream payload moment)) self.old.outputs }
+    {
+        let written = LogRecord {
+            run: 1,
+            stream,
+            payload,
+            moment,
+        };
+        write(&mut self.held, number, written);
     }
 }

@@ -1,32 +1,37 @@
 // The tables of the machine: every part of its state.
-ghost use Rattle.std.specs.Prelude.{◌≡◌, ℕ, ◌+◌, ◌<◌, ◌≤◌, ◌^◌, length, map, min, option_map, option_copied, slice_index, IfOk, OnOk};
+ghost use Rattle.std.specs.Prelude.{◌≡◌, ℕ, ◌+◌, ◌<◌, ◌≤◌, ◌^◌, length, map, min, [], option_map, option_copied, slice_index, vec_capacity, Some, IfOk, OnOk};
 ghost use Rattle.engine_text.specs.declared.owner.Owner as owners;
-ghost use Rattle.proc_kernel.specs.Processes.{thaw, signal};
-ghost use Rattle.proc_kernel.specs.Tables.{effect_of, process_of};
+ghost use Rattle.proc_kernel.specs.Processes.{run_due, thaw, signal};
+ghost use Rattle.proc_kernel.specs.Tables.{due_at, effect_of, length_at, process_of};
 ghost use Rattle.proc_kernel.specs.Foretelling.{code_at};
 ghost use Rattle.container_table.specs.Reference.{container_by};
 ghost use Rattle.machine_model.specs.Consistency.{is_there};
-ghost use Rattle.machine_model.specs.State.{container_numbered, exec_numbered, running_execs, is_live, change_life, clear_timer, set_timer, drop_process, change_exec};
+ghost use Rattle.machine_model.specs.State.{initial_state, container_numbered, exec_numbered, running_execs, is_live, change_life, clear_timer, set_timer, drop_process, change_exec};
 ghost use Rattle.machine_model.specs.Calls.Pause.{freeze_process};
 ghost use Rattle.machine_model.specs.Effects.EndMain.{exec_ended};
-ghost use Rattle.machine_model.specs.Effects.Meet.{stepped};
+ghost use Rattle.machine_model.specs.Effects.Meet.{stepped, write_record};
 ghost use Rattle.machine_model.specs.Step.{counted};
 ghost use Rattle.machine_effects.specs.Fit.{AreFew, AreTimely};
 ghost use Rattle.machine_effects.specs.Effects.EndMain.{begun};
 ghost use Rattle.machine_effects.specs.Held.{container_in};
+ghost use Rattle.machine_effects.specs.Kits.{IsKitOf};
 ghost use Rattle.machine_effects.specs.Marks.{marked};
 ghost use Rattle.machine_effects.specs.Memory.{HasRoom, standing};
+ghost use Rattle.machine_effects.specs.Rooms.{HasLogRoom, HasOutputRoom};
 
 use super::containers::Containers;
 use super::execs::Execs;
 use super::held::Held;
+use super::kit::Kit;
 use super::marks::Mark;
 use super::moments::Moments;
 use super::outputs::Outputs;
 use super::removals::Removals;
 use super::tickets::Tickets;
 use super::volumes::Volumes;
-use engine_text::{Effect, Event, Exec, Found, NoMemory, Owner, Script, Signal};
+use engine_text::{
+    Bytes, Effect, Event, Exec, Found, NoMemory, OwnedLog, Owner, Script, Signal, Stream,
+};
 use proc_kernel::Kernel;
 use std::alloc::Global;
 use std::marker::Model;
@@ -64,6 +69,34 @@ impl Model for Tables {
 }
 
 impl Tables {
+    /// The tables of a machine in which nothing is, at a moment.
+    pub fn new(alloc: Global, seed: [u8; 32], moment: u64) -> Result<Tables, NoMemory>
+        ensures state { IfOk result (λ t. t.state ≡ initial_state seed moment) }
+        ensures moments { IfOk result (λ t. 65536 ≤ t.room.moments) }
+    {
+        let mut moments = Moments::new(alloc);
+        moments.reserve(65_536)?;
+        Ok(Tables {
+            containers: Containers::new(alloc),
+            execs: Execs::new(alloc),
+            outputs: Outputs::new(alloc),
+            kernel: Kernel::new(alloc),
+            volumes: Volumes::new(alloc),
+            tickets: Tickets::new(alloc),
+            removals: Removals::new(alloc),
+            moments,
+            scratch: Vec::new(alloc),
+            next_number: 0,
+            next_ticket: 0,
+            next_pid: 1001,
+            event_count: 0,
+            call_count: 0,
+            step_count: 0,
+            clock: moment,
+            seed,
+        })
+    }
+
     /// That is noted in the container's life.
     pub fn renew(&mut self, number: u64, noted: Mark)
         ensures state { self.new.state ≡ change_life number (marked noted) self.old.state }
@@ -225,6 +258,44 @@ impl Tables {
         self.kernel.signal(owner, sent, thaws, self.clock)
     }
 
+    /// The next op of the owner's process takes effect.
+    pub fn run_process(&mut self, owner: Owner) -> Effect
+        requires due { due_at (process_of owner self.old.state.processes) ≡ Some self.old.state.clock }
+        requires spare { 0 < self.old.spare }
+        requires clock { self.old.state.clock ≤ 9000000000000 }
+        requires length { length_at (process_of owner self.old.state.processes) ≤ self.old.bytes }
+        ensures state { self.new.state ≡ stepped run_due owner self.old.state }
+        ensures effect { result ≡ effect_of (run_due self.old.state.clock) (process_of owner self.old.state.processes) }
+        ensures room { self.new.room ≡ self.old.room }
+        ensures spare { self.new.spare + 1 ≡ self.old.spare }
+        ensures logs { self.new.logs ≡ self.old.logs }
+        ensures outputs { self.new.outputs ≡ self.old.outputs }
+    {
+        self.kernel.run_due(owner, self.clock)
+    }
+
+    /// The container's log has one more record, of its current run.
+    pub(super) fn write_log(&mut self, number: u64, stream: Stream, payload: Bytes)
+        requires { HasLogRoom number self.old.state.containers self.old.logs }
+        ensures state { self.new.state
+            ≡ (write_record (owners.Owner.Container number) stream payload self.old.state).state }
+        ensures room { self.new.room ≡ self.old.room }
+        ensures spare { self.new.spare ≡ self.old.spare }
+    {
+        self.containers.record(number, stream, payload, self.clock);
+    }
+
+    /// The exec's output has one more record.
+    pub(super) fn write_output(&mut self, number: u64, stream: Stream, payload: Bytes)
+        requires { HasOutputRoom number self.old.state.outputs self.old.outputs }
+        ensures state { self.new.state
+            ≡ (write_record (owners.Owner.Exec number) stream payload self.old.state).state }
+        ensures room { self.new.room ≡ self.old.room }
+        ensures spare { self.new.spare ≡ self.old.spare }
+    {
+        self.outputs.record(number, stream, payload, self.clock);
+    }
+
     /// The owner's process is frozen.
     pub fn freeze_process(&mut self, owner: Owner)
         ensures state { self.new.state ≡ (freeze_process owner self.old.state).state }
@@ -278,6 +349,7 @@ impl Tables {
     pub fn make_room(&mut self, alloc: Global) -> Result<(), NoMemory>
         ensures state { self.new.state ≡ self.old.state }
         ensures room { OnOk result (HasRoom self.new) }
+        ensures moments { self.new.room.moments ≡ self.old.room.moments }
     {
         if self.scratch.reserve(self.execs.len()).is_err() {
             return Err(NoMemory);
@@ -285,5 +357,33 @@ impl Tables {
         self.containers.reserve_timer()?;
         self.removals.reserve()?;
         self.kernel.reserve(alloc, 1, 0)
+    }
+
+    /// The memory that the end of the container's main process may want, with the script of its launch.
+    pub fn kit(&self, alloc: Global, number: u64, script: Option<Script>) -> Result<Kit, NoMemory>
+        ensures { IfOk result (λ k. IsKitOf number script self.now.state k) }
+    {
+        let execs = self.execs.numbers_of(alloc, number)?;
+        let outputs = self.outputs.count_of(&self.execs, number);
+        let logs = room_for(alloc, outputs)?;
+        Ok(Kit {
+            script,
+            logs,
+            execs,
+        })
+    }
+}
+
+// A list with room for so many logs and one more.
+fn room_for(alloc: Global, outputs: usize) -> Result<Vec<OwnedLog>, NoMemory>
+    ensures { IfOk result (λ v. (v.items ≡ []) × (outputs + 1 ≤ vec_capacity v)) }
+{
+    let Some(places) = outputs.checked_add(1) else {
+        return Err(NoMemory);
+    };
+    let mut logs = Vec::new(alloc);
+    match logs.reserve(places) {
+        Ok(()) => Ok(logs),
+        Err(_) => Err(NoMemory),
     }
 }

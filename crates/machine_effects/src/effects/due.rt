@@ -1,11 +1,15 @@
 // What deadlines and timers do.
 ghost use Rattle.std.specs.Prelude.{◌≡◌, ◌<◌};
-ghost use Rattle.machine_model.specs.Due.{stop_deadline};
-ghost use Rattle.machine_effects.specs.Fit.{AreTimely, CanSettle, died_of};
+ghost use Rattle.machine_model.specs.Due.{stop_deadline, removal_deadline, restart_timer, restarted};
+ghost use Rattle.machine_model.specs.State.{change_life};
+ghost use Rattle.machine_effects.specs.Deadlines.{HasId, CanRestart, timed_out_at};
+ghost use Rattle.machine_effects.specs.Fit.{AreTimely, CanLaunch, CanSettle, died_of};
 
+use crate::held::Fate;
 use crate::kit::Kit;
+use crate::marks::Mark;
 use crate::tables::Tables;
-use engine_text::Signal;
+use engine_text::{Script, Signal};
 
 impl Tables {
     /// The stop deadline has come: SIGKILL is met.
@@ -19,5 +23,56 @@ impl Tables {
     {
         self.clear_timer(1, number);
         self.meet_signal(Signal { number: 9 }, number, kit)
+    }
+
+    // The removals' tickets of the container are told that it takes too long.
+    fn time_out(&mut self, number: u64)
+        requires { HasId number self.old.state }
+        ensures state { self.new.state ≡ (timed_out_at number self.old.state).state }
+        ensures room { self.new.room ≡ self.old.room }
+        ensures spare { self.new.spare ≡ self.old.spare }
+    {
+        if self.containers.has(number) {
+            self.tickets.answer(number, Fate::TimedOut);
+        }
+    }
+
+    /// The removal deadline has come: the container is dead, and the removal's ticket is told so.
+    pub fn removal_deadline(&mut self, number: u64)
+        requires { HasId number self.old.state }
+        ensures state { self.new.state ≡ (removal_deadline number self.old.state).state }
+        ensures room { self.new.room ≡ self.old.room }
+        ensures spare { self.new.spare ≡ self.old.spare }
+    {
+        self.clear_timer(2, number);
+        self.renew(number, Mark::Died);
+        self.time_out(number);
+    }
+
+    // One restart more.
+    fn count_restart(&mut self, number: u64)
+        requires { CanRestart number self.old.state }
+        ensures state { self.new.state ≡ change_life number restarted self.old.state }
+        ensures room { self.new.room ≡ self.old.room }
+        ensures spare { self.new.spare ≡ self.old.spare }
+    {
+        let Some(h) = self.numbered(number) else {
+            return;
+        };
+        let count = h.container.life.restarts + 1;
+        self.renew(number, Mark::Restarted(count));
+    }
+
+    /// The restart timer has come: the restart count rises, and the container is launched.
+    pub fn restart_timer(&mut self, number: u64, script: Option<Script>)
+        requires launch { CanLaunch number script self.old.state }
+        requires restarts { CanRestart number self.old.state }
+        requires spare { 0 < self.old.spare }
+        ensures state { self.new.state ≡ (restart_timer number self.old.state).state }
+        ensures room { self.new.room ≡ self.old.room }
+    {
+        self.clear_timer(3, number);
+        self.count_restart(number);
+        self.launch(number, script);
     }
 }

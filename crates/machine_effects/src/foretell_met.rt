@@ -1,0 +1,206 @@
+// The events of a signal that is met, made before it: a paused container is woken by it.
+ghost use Rattle.std.specs.Prelude.{◌≡◌, ℕ, ◌∷◌, [], ◌++◌, IfOk, OnOk};
+ghost use Rattle.std.specs.List.{flat_map};
+ghost use Rattle.machine_model.specs.Step.{at_moment};
+ghost use Rattle.machine_effects.specs.Foretold.{told_number, told_status, told_mounts};
+ghost use Rattle.machine_effects.specs.Held.{container_in};
+ghost use Rattle.machine_effects.specs.ToldMeet.{lives_on, running_after, running_numbers, thawed_code, told_thaw, told_wake, told_end_with, told_code_with, told_meet};
+
+use super::events::{die_event, exec_die_event, plain_event};
+use super::foretell::{add, tell_mounts, tell_status};
+use super::held::Held;
+use super::tables::Tables;
+use engine_text::{Action, Event, NoMemory, Owner, Script, Status};
+use std::alloc::Global;
+
+fn add_number(numbers: &mut Vec<u64>, number: u64) -> Result<(), NoMemory>
+    ensures { OnOk result (numbers.new.items ≡ numbers.old.items ++ number ∷ []) }
+{
+    match numbers.push(number) {
+        Ok(()) => Ok(()),
+        Err(_) => Err(NoMemory),
+    }
+}
+
+impl Tables {
+    // The code with which the exec's process ends once it goes on, if it does.
+    fn thaw_code(&self, number: u64, moment: u64) -> Option<u8>
+        ensures { result ≡ thawed_code number (at_moment moment self.now.state) }
+    {
+        let _ = moment;
+        self.kernel.thaw_code(Owner::Exec(number))
+    }
+
+    // Whether it lives on.
+    fn lives_on(&self, number: u64, moment: u64) -> bool
+        ensures { result ≡ lives_on number (at_moment moment self.now.state) }
+    {
+        match self.thaw_code(number, moment) {
+            None => true,
+            Some(_) => false,
+        }
+    }
+
+    // The end of the exec, if it ends as it goes on.
+    fn tell_thaw(
+        &self,
+        alloc: Global,
+        number: u64,
+        moment: u64,
+        out: &mut Vec<Event>,
+    ) -> Result<(), NoMemory>
+        ensures { OnOk result (out.new.items ≡ out.old.items
+            ++ told_thaw (thawed_code number (at_moment moment self.now.state)) number
+            (at_moment moment self.now.state)) }
+    {
+        let Some(code) = self.thaw_code(number, moment) else {
+            return Ok(());
+        };
+        let Some(x) = self.exec(number) else {
+            return Ok(());
+        };
+        let Some(h) = self.numbered(x.container) else {
+            return Ok(());
+        };
+        let event = exec_die_event(alloc, &x.id, code, &h.container, moment)?;
+        add(out, event)
+    }
+
+    // Event unpause, and the ends of those execs that end as they go on.
+    fn tell_wake(
+        &self,
+        alloc: Global,
+        h: &Held,
+        moment: u64,
+        out: &mut Vec<Event>,
+    ) -> Result<(), NoMemory>
+        ensures { OnOk result (out.new.items ≡ out.old.items
+            ++ told_wake h.now.container.number (container_in h.now) (at_moment moment self.now.state)) }
+    {
+        let event = plain_event(alloc, Action::Unpause, &h.container, moment)?;
+        add(out, event)?;
+        self.tell_thaws(alloc, h.container.number, moment, out)
+    }
+
+    fn tell_thaws(
+        &self,
+        alloc: Global,
+        number: u64,
+        moment: u64,
+        out: &mut Vec<Event>,
+    ) -> Result<(), NoMemory>
+        ensures { OnOk result (out.new.items ≡ out.old.items
+            ++ flat_map (λ j. told_thaw (thawed_code j (at_moment moment self.now.state)) j
+            (at_moment moment self.now.state))
+            (running_numbers number (at_moment moment self.now.state))) }
+    {
+        let running = self.running(alloc, number)?;
+        let numbers = running.as_slice();
+        for n in numbers {
+            self.tell_thaw(alloc, *n, moment, out)?;
+        }
+        Ok(())
+    }
+
+    // The numbers of the running execs that live on.
+    fn running_after(&self, alloc: Global, number: u64, moment: u64) -> Result<Vec<u64>, NoMemory>
+        ensures { IfOk result (λ v. v.items ≡ running_after number (at_moment moment self.now.state)) }
+    {
+        let running = self.running(alloc, number)?;
+        let numbers = running.as_slice();
+        let mut after = Vec::new(alloc);
+        for n in numbers {
+            if self.lives_on(*n, moment) {
+                add_number(&mut after, *n)?;
+            }
+        }
+        Ok(after)
+    }
+
+    // The end of the main process with that code, these execs of it running then.
+    fn tell_end_with(
+        &self,
+        alloc: Global,
+        execs: &[u64],
+        code: u8,
+        h: &Held,
+        script: &Option<Script>,
+        moment: u64,
+        out: &mut Vec<Event>,
+    ) -> Result<(), NoMemory>
+        ensures { OnOk result (out.new.items ≡ out.old.items
+            ++ told_end_with execs.now code (container_in h.now) script.now
+            (at_moment moment self.now.state)) }
+    {
+        self.tell_numbers(alloc, execs, moment, out)?;
+        let event = die_event(alloc, code, &h.container, moment)?;
+        add(out, event)?;
+        tell_mounts(alloc, Action::Unmount, h, moment, out)?;
+        tell_status(alloc, script, h, moment, out)
+    }
+
+    // The end of a paused container's main process, once it goes on.
+    fn tell_woken_end(
+        &self,
+        alloc: Global,
+        code: u8,
+        h: &Held,
+        script: &Option<Script>,
+        moment: u64,
+        out: &mut Vec<Event>,
+    ) -> Result<(), NoMemory>
+        ensures { OnOk result (out.new.items ≡ out.old.items
+            ++ told_end_with (running_after h.now.container.number (at_moment moment self.now.state))
+            code (container_in h.now) script.now (at_moment moment self.now.state)) }
+    {
+        let after = self.running_after(alloc, h.container.number, moment)?;
+        self.tell_end_with(alloc, after.as_slice(), code, h, script, moment, out)
+    }
+
+    // A signal that wakes a paused container.
+    fn tell_woken(
+        &self,
+        alloc: Global,
+        code: Option<u8>,
+        h: &Held,
+        script: &Option<Script>,
+        moment: u64,
+        out: &mut Vec<Event>,
+    ) -> Result<(), NoMemory>
+        ensures { OnOk result (out.new.items ≡ out.old.items
+            ++ (told_wake h.now.container.number (container_in h.now) (at_moment moment self.now.state)
+            ++ told_code_with (running_after h.now.container.number (at_moment moment self.now.state))
+            code (container_in h.now) script.now (at_moment moment self.now.state))) }
+    {
+        self.tell_wake(alloc, h, moment, out)?;
+        match code {
+            None => Ok(()),
+            Some(code) => self.tell_woken_end(alloc, code, h, script, moment, out),
+        }
+    }
+
+    /// A signal with a thaw, which ends the main process with that code, if it does.
+    pub fn tell_met(
+        &self,
+        alloc: Global,
+        code: Option<u8>,
+        h: &Held,
+        script: &Option<Script>,
+        moment: u64,
+        out: &mut Vec<Event>,
+    ) -> Result<(), NoMemory>
+        ensures { OnOk result (out.new.items ≡ out.old.items
+            ++ told_meet h.now.container.life.status code h.now.container.number (container_in h.now)
+            script.now (at_moment moment self.now.state)) }
+    {
+        match h.container.life.status {
+            Status::Paused => self.tell_woken(alloc, code, h, script, moment, out),
+            Status::Created => self.tell_code(alloc, code, h, script, moment, out),
+            Status::Running => self.tell_code(alloc, code, h, script, moment, out),
+            Status::Restarting => self.tell_code(alloc, code, h, script, moment, out),
+            Status::Removing => self.tell_code(alloc, code, h, script, moment, out),
+            Status::Exited => self.tell_code(alloc, code, h, script, moment, out),
+            Status::Dead => self.tell_code(alloc, code, h, script, moment, out),
+        }
+    }
+}
