@@ -65,7 +65,7 @@ exec_marked code (Some x) n f s =
 
 -- ---- a signal to the main process
 
-effect_told : (e : ProcessEffect) (n : ℕ) (p : Process → Process) (s : State) (c : Container) (o : Option Program) → container_numbered n s ≡ Some c → o ≡ program_of c.life.words (c.life.starts + 1)
+pub effect_told : (e : ProcessEffect) (n : ℕ) (p : Process → Process) (s : State) (c : Container) (o : Option Program) → container_numbered n s ≡ Some c → o ≡ program_of c.life.words (c.life.starts + 1)
     → (by_effect e (Owner.Container n) (record s { processes = changed_of (Owner.Container n) p s.processes })).events ≡ told_code (code_in e) n c o s
 effect_told Lives n p s c o found named = refl
 effect_told (Wrote stream payload) n p s c o found named = refl

@@ -28,7 +28,7 @@ use Rattle.machine_model.specs.Effects.EndMain.{exec_ended}
 use Rattle.machine_model.specs.Effects.Meet.{by_effect, step_process, stepped, thaw_execs, running, wake_parts, woken, send, meet_signal}
 use Rattle.machine_effects.specs.Foretold.{told_exec, told_number, told_mounts, told_goal, told_status, told_code}
 use Rattle.machine_effects.specs.Marks.{renewed}
-use Rattle.machine_effects.specs.ToldMeet.{thawed_code, running_numbers, running_after, told_thaw, told_wake, told_end_with, told_code_with, told_meet}
+use Rattle.machine_effects.specs.ToldMeet.{thawed_code, running_numbers, running_after, told_thaw, told_wake, told_end_with, told_code_with, told_meet, told_deliver}
 use Rattle.machine_effects.proofs.SettleLemmas.{tell_still}
 use Rattle.machine_effects.proofs.SiftLemmas.{nil_end}
 use Rattle.machine_effects.proofs.ToldLemmas.{AreAlike, end_told_of, found_renewed, running_changed, same_launch, told_at}
@@ -38,7 +38,7 @@ use Rattle.machine_effects.proofs.WokenLemmas.{differ_of, differ_running, same_r
 
 -- ---- a signal to the main process, told from a state in which the same is told of its execs
 
-effect_told_with : (e : ProcessEffect) (n : ℕ) (p : Process → Process) (s z : State) (c : Container) (o : Option Program) → AreAlike s z → container_numbered n z ≡ Some c → o ≡ program_of c.life.words (c.life.starts + 1)
+pub effect_told_with : (e : ProcessEffect) (n : ℕ) (p : Process → Process) (s z : State) (c : Container) (o : Option Program) → AreAlike s z → container_numbered n z ≡ Some c → o ≡ program_of c.life.words (c.life.starts + 1)
     → (by_effect e (Owner.Container n) (record z { processes = changed_of (Owner.Container n) p z.processes })).events ≡ told_code_with (running_numbers n z) (code_in e) c o s
 effect_told_with Lives n p s z c o a found named = refl
 effect_told_with (Wrote stream payload) n p s z c o a found named = refl
@@ -47,7 +47,7 @@ effect_told_with (Ended code) n p s z c o a found named =
     ∙ (ap (λ (xs : List Exec). told_end_with (map (λ (x : Exec). x.number) xs) code c (program_of c.life.words (c.life.starts + 1)) s) (running_changed n (Owner.Container n) p z)
     ∙ ap (λ q. told_end_with (running_numbers n z) code c q s) (sym named))
 
-send_told_with : (thaws : Bool) (number n : ℕ) (s z : State) (c : Container) (o : Option Program) (code : Option ℕ) → AreAlike s z → container_numbered n z ≡ Some c → o ≡ program_of c.life.words (c.life.starts + 1)
+pub send_told_with : (thaws : Bool) (number n : ℕ) (s z : State) (c : Container) (o : Option Program) (code : Option ℕ) → AreAlike s z → container_numbered n z ≡ Some c → o ≡ program_of c.life.words (c.life.starts + 1)
     → code ≡ code_at (signal number thaws z.clock) (process_of (Owner.Container n) z.processes) → (send thaws number n z).events ≡ told_code_with (running_numbers n z) code c o s
 send_told_with thaws number n s z c o code a found named is =
     effect_told_with (effect_of (signal number thaws z.clock) (process_of (Owner.Container n) z.processes)) n (λ p. (signal number thaws z.clock p).process) s z c o a found named
@@ -92,7 +92,7 @@ main_effect j n Lives s = refl
 main_effect j n (Wrote stream payload) s = refl
 main_effect j n (Ended code) s = main_ended j n code (exec_numbered j s) s
 
-main_thaws : (xs : List Exec) (n : ℕ) (s : State) → process_of (Owner.Container n) (each (λ (x : Exec). step_process thaw (Owner.Exec x.number)) xs s).state.processes ≡ process_of (Owner.Container n) s.processes
+pub main_thaws : (xs : List Exec) (n : ℕ) (s : State) → process_of (Owner.Container n) (each (λ (x : Exec). step_process thaw (Owner.Exec x.number)) xs s).state.processes ≡ process_of (Owner.Container n) s.processes
 main_thaws [] n s = refl
 main_thaws (x ∷ xs) n s =
     let j : ℕ = x.number in
@@ -106,25 +106,25 @@ thaw_marked : (code : Option ℕ) (j n : ℕ) (f : Life → Life) (s : State) �
 thaw_marked None j n f s = refl
 thaw_marked (Some code) j n f s = exec_marked code (exec_numbered j s) n f s
 
-thaws_marked : (js : List ℕ) (n : ℕ) (f : Life → Life) (s : State) → flat_map (λ j. told_thaw (thawed_code j s) j (change_life n f s)) js ≡ flat_map (λ j. told_thaw (thawed_code j s) j s) js
+pub thaws_marked : (js : List ℕ) (n : ℕ) (f : Life → Life) (s : State) → flat_map (λ j. told_thaw (thawed_code j s) j (change_life n f s)) js ≡ flat_map (λ j. told_thaw (thawed_code j s) j s) js
 thaws_marked [] n f s = refl
 thaws_marked (j ∷ js) n f s =
     ap (λ l. l ++ flat_map (λ k. told_thaw (thawed_code k s) k (change_life n f s)) js) (thaw_marked (thawed_code j s) j n f s)
     ∙ ap (λ l. told_thaw (thawed_code j s) j s ++ l) (thaws_marked js n f s)
 
-execs_marked : (ks : List ℕ) (n : ℕ) (f : Life → Life) (s : State) → flat_map (told_number (change_life n f s)) ks ≡ flat_map (told_number s) ks
+pub execs_marked : (ks : List ℕ) (n : ℕ) (f : Life → Life) (s : State) → flat_map (told_number (change_life n f s)) ks ≡ flat_map (told_number s) ks
 execs_marked [] n f s = refl
 execs_marked (k ∷ ks) n f s =
     ap (λ l. l ++ flat_map (told_number (change_life n f s)) ks) (exec_marked 137 (exec_numbered k s) n f s)
     ∙ ap (λ l. told_number s k ++ l) (execs_marked ks n f s)
 
-goal_kept : (g : Goal) (o : Option Program) (t : ℕ) (f : Life → Life) (c : Container) → (f c.life).mounts ≡ c.life.mounts → told_goal g o (renewed f c) t ≡ told_goal g o c t
+pub goal_kept : (g : Goal) (o : Option Program) (t : ℕ) (f : Life → Life) (c : Container) → (f c.life).mounts ≡ c.life.mounts → told_goal g o (renewed f c) t ≡ told_goal g o c t
 goal_kept Goal.Remove o t f c e = refl
 goal_kept Goal.Stop o t f c e = refl
 goal_kept Goal.Restart o t f c e = ap (λ l. plain_event Action.Stop c t ∷ (l ++ plain_event Action.Restart c t ∷ [])) (same_launch o f c t e)
 goal_kept Goal.None o t f c e = refl
 
-code_kept : (ks : List ℕ) (code : Option ℕ) (n : ℕ) (f : Life → Life) (c : Container) (o : Option Program) (s : State) → (f c.life).mounts ≡ c.life.mounts → told_status (f c.life).status o (renewed f c) s.clock ≡ told_status c.life.status o c s.clock
+pub code_kept : (ks : List ℕ) (code : Option ℕ) (n : ℕ) (f : Life → Life) (c : Container) (o : Option Program) (s : State) → (f c.life).mounts ≡ c.life.mounts → told_status (f c.life).status o (renewed f c) s.clock ≡ told_status c.life.status o c s.clock
     → told_code_with ks code (renewed f c) o (change_life n f s) ≡ told_code_with ks code c o s
 code_kept ks None n f c o s mounts status = refl
 code_kept ks (Some code) n f c o s mounts status =
@@ -135,11 +135,11 @@ code_kept ks (Some code) n f c o s mounts status =
 -- ---- the end of a pause
 
 -- the execs and the processes of a state stand once each
-pub record AreSingle (s : State) : Type 0 where
+pub record StandOnce (s : State) : Type 0 where
   pub execs : AreDistinct (map (λ (x : Exec). x.number) s.execs)
   pub processes : AreDistinct (map (λ (y : Entry). y.owner) s.processes)
 
-wake_told : (n : ℕ) (s : State) (c : Container) → container_numbered n s ≡ Some c → AreSingle s → (in_order (wake_parts n) s).events ≡ told_wake n c s
+pub wake_told : (n : ℕ) (s : State) (c : Container) → container_numbered n s ≡ Some c → StandOnce s → (in_order (wake_parts n) s).events ≡ told_wake n c s
 wake_told n s c found single =
     let s1 : State = change_life n running s in
     let thaws : (thaw_execs n s1).events ≡ flat_map (λ j. told_thaw (thawed_code j s) j s1) (running_numbers n s) =
@@ -148,12 +148,12 @@ wake_told n s c found single =
     ∙ (ap (λ l. l ++ ((thaw_execs n s1).events ++ [])) (told_at (plain_event Action.Unpause) n s c found)
     ∙ ap (λ l. plain_event Action.Unpause c s.clock ∷ l) (nil_end (thaw_execs n s1).events ∙ (thaws ∙ thaws_marked (running_numbers n s) n running s)))
 
-paused_status : (u : Status) (o : Option Program) (c : Container) (t : ℕ) → c.life.status ≡ u → u ≡ Status.Paused → told_status Status.Running o (renewed running c) t ≡ told_status c.life.status o c t
+pub paused_status : (u : Status) (o : Option Program) (c : Container) (t : ℕ) → c.life.status ≡ u → u ≡ Status.Paused → told_status Status.Running o (renewed running c) t ≡ told_status c.life.status o c t
 paused_status u o c t is e =
     goal_kept c.life.goal o t running c refl
     ∙ sym (ap (λ v. told_status v o c t) (is ∙ e))
 
-paused_told : (number n : ℕ) (s : State) (c : Container) (o : Option Program) (code : Option ℕ) → container_numbered n s ≡ Some c → c.life.status ≡ Status.Paused → o ≡ program_of c.life.words (c.life.starts + 1) → AreSingle s
+pub paused_told : (number n : ℕ) (s : State) (c : Container) (o : Option Program) (code : Option ℕ) → container_numbered n s ≡ Some c → c.life.status ≡ Status.Paused → o ≡ program_of c.life.words (c.life.starts + 1) → StandOnce s
     → code ≡ code_at (signal number true s.clock) (process_of (Owner.Container n) s.processes)
     → (and_then (in_order (wake_parts n)) (send true number n) s).events ≡ told_wake n c s ++ told_code_with (running_after n s) code c o s
 paused_told number n s c o code found paused named single is =
@@ -173,7 +173,7 @@ paused_told number n s c o code found paused named single is =
     ∙ (sent ∙ (ap (λ ks. told_code_with ks code c1 o s1) (runs_after n s1 single.execs single.processes)
     ∙ code_kept (running_after n s) code n running c o s refl (paused_status c.life.status o c s.clock refl paused))))
 
-by_status : (u : Status) (number n : ℕ) (s : State) (c : Container) (o : Option Program) (code : Option ℕ) → c.life.status ≡ u → container_numbered n s ≡ Some c → o ≡ program_of c.life.words (c.life.starts + 1) → AreSingle s
+pub by_status : (u : Status) (number n : ℕ) (s : State) (c : Container) (o : Option Program) (code : Option ℕ) → c.life.status ≡ u → container_numbered n s ≡ Some c → o ≡ program_of c.life.words (c.life.starts + 1) → StandOnce s
     → code ≡ code_at (signal number true s.clock) (process_of (Owner.Container n) s.processes) → (and_then (woken u n) (send true number n) s).events ≡ told_meet u code n c o s
 by_status Status.Paused number n s c o code at found named single is = paused_told number n s c o code found at named single is
 by_status Status.Created number n s c o code at found named single is = send_told true number n s c o code found named is
@@ -184,7 +184,7 @@ by_status Status.Exited number n s c o code at found named single is = send_told
 by_status Status.Dead number n s c o code at found named single is = send_told true number n s c o code found named is
 
 -- a signal that is met
-pub meet_told : (number n : ℕ) (s : State) (c : Container) (o : Option Program) (code : Option ℕ) → container_numbered n s ≡ Some c → o ≡ program_of c.life.words (c.life.starts + 1) → AreSingle s
+pub meet_told : (number n : ℕ) (s : State) (c : Container) (o : Option Program) (code : Option ℕ) → container_numbered n s ≡ Some c → o ≡ program_of c.life.words (c.life.starts + 1) → StandOnce s
     → code ≡ code_at (signal number true s.clock) (process_of (Owner.Container n) s.processes) → (meet_signal number n s).events ≡ told_meet c.life.status code n c o s
 meet_told number n s c o code found named single is =
     ap (λ q. (with_found q (λ (d : Container). and_then (woken d.life.status n) (send true number n)) s).events) found
@@ -192,7 +192,7 @@ meet_told number n s c o code found named single is =
 
 -- ---- the signal of a kill
 
-status_kept : (u : Status) (o : Option Program) (t : ℕ) (f : Life → Life) (c : Container) → (f c.life).mounts ≡ c.life.mounts → (f c.life).goal ≡ c.life.goal → told_status u o (renewed f c) t ≡ told_status u o c t
+pub status_kept : (u : Status) (o : Option Program) (t : ℕ) (f : Life → Life) (c : Container) → (f c.life).mounts ≡ c.life.mounts → (f c.life).goal ≡ c.life.goal → told_status u o (renewed f c) t ≡ told_status u o c t
 status_kept Status.Dead o t f c m g = refl
 status_kept Status.Created o t f c m g = ap (λ k. told_goal k o (renewed f c) t) g ∙ goal_kept c.life.goal o t f c m
 status_kept Status.Running o t f c m g = ap (λ k. told_goal k o (renewed f c) t) g ∙ goal_kept c.life.goal o t f c m
@@ -205,12 +205,12 @@ pub code_is : (code : Option ℕ) (n : ℕ) (c : Container) (o : Option Program)
 code_is None n c o s = refl
 code_is (Some code) n c o s = refl
 
-code_by_hand : (code : Option ℕ) (n : ℕ) (c : Container) (o : Option Program) (s : State) → told_code code n (renewed by_hand c) o (change_life n by_hand s) ≡ told_code code n c o s
+pub code_by_hand : (code : Option ℕ) (n : ℕ) (c : Container) (o : Option Program) (s : State) → told_code code n (renewed by_hand c) o (change_life n by_hand s) ≡ told_code code n c o s
 code_by_hand code n c o s =
     code_is code n (renewed by_hand c) o (change_life n by_hand s)
     ∙ (code_kept (running_numbers n s) code n by_hand c o s refl (status_kept c.life.status o s.clock by_hand c refl refl) ∙ sym (code_is code n c o s))
 
-meet_by_hand : (u : Status) (code : Option ℕ) (n : ℕ) (c : Container) (o : Option Program) (s : State) → told_meet u code n (renewed by_hand c) o (change_life n by_hand s) ≡ told_meet u code n c o s
+pub meet_by_hand : (u : Status) (code : Option ℕ) (n : ℕ) (c : Container) (o : Option Program) (s : State) → told_meet u code n (renewed by_hand c) o (change_life n by_hand s) ≡ told_meet u code n c o s
 meet_by_hand Status.Paused code n c o s =
     ap (λ l. (plain_event Action.Unpause c s.clock ∷ l) ++ told_code_with (running_after n s) code (renewed by_hand c) o (change_life n by_hand s)) (thaws_marked (running_numbers n s) n by_hand s)
     ∙ ap (λ l. told_wake n c s ++ l) (code_kept (running_after n s) code n by_hand c o s refl (status_kept c.life.status o s.clock by_hand c refl refl))
@@ -221,12 +221,7 @@ meet_by_hand Status.Removing code n c o s = code_by_hand code n c o s
 meet_by_hand Status.Exited code n c o s = code_by_hand code n c o s
 meet_by_hand Status.Dead code n c o s = code_by_hand code n c o s
 
--- a final one is met, another is sent
-abbrev pub told_deliver : Bool → Option ℕ → ℕ → Container → Option Program → State → List Event
-told_deliver true code n c o s = told_meet c.life.status code n c o s
-told_deliver false code n c o s = told_code code n c o s
-
-pub delivered_told : (last : Bool) (number n : ℕ) (s : State) (c : Container) (o : Option Program) (code : Option ℕ) → container_numbered n s ≡ Some c → o ≡ program_of c.life.words (c.life.starts + 1) → AreSingle s
+pub delivered_told : (last : Bool) (number n : ℕ) (s : State) (c : Container) (o : Option Program) (code : Option ℕ) → container_numbered n s ≡ Some c → o ≡ program_of c.life.words (c.life.starts + 1) → StandOnce s
     → code ≡ code_at (signal number last s.clock) (process_of (Owner.Container n) s.processes) → (deliver last number n s).events ≡ told_deliver last code n c o s
 delivered_told false number n s c o code found named single is = send_told false number n s c o code found named is
 delivered_told true number n s c o code found named single is =

@@ -6,7 +6,7 @@ use Rattle.std.proofs.lemmas.List.Quantifiers.{position-Some}
 use Rattle.std.proofs.lemmas.List.{get_or-map, length-map}
 use Rattle.engine_text.specs.declared.container.Container.{Container}
 use Rattle.machine_effects.specs.Held.{container_in, containers_in, room_in}
-use Rattle.machine_effects.specs.Rooms.{HasLogRoom}
+use Rattle.machine_effects.specs.Rooms.{FitsLog}
 use Rattle.machine_effects.specs.declared.held.Held.{Held}
 
 -- the room at a place is that of the item there
@@ -32,7 +32,7 @@ place_in p g xs =
     ap (λ k. cond (nat_lt k (length (map g xs))) (Some k) None) (prefix_in (λ y. not (p y)) g xs)
     ∙ ap (λ k. cond (nat_lt (position_or_len (λ x. p (g x)) xs) k) (Some (position_or_len (λ x. p (g x)) xs)) None) l
 
-pub no_log : (items : List Held) (n : ℕ) → position (λ x. x.container.number == n) items ≡ None → HasLogRoom n (containers_in items) (map room_in items)
+pub no_log : (items : List Held) (n : ℕ) → position (λ x. x.container.number == n) items ≡ None → FitsLog n (containers_in items) (map room_in items)
 no_log items n at j there = let both : Some j ≡ None = sym there ∙ (place_in (λ (c : Container). c.number == n) container_in items ∙ at) in absurd (cc)
 
 -- a container in memory with another room means the same
@@ -47,7 +47,7 @@ room_set (x ∷ xs) zero y low = refl
 room_set (x ∷ xs) (suc i) y low = room_set xs i y (omega arith)
 
 pub room_made : (items : List Held) (n i : ℕ) (y : Held) → position (λ x. x.container.number == n) items ≡ Some i → containers_in (set items i y) ≡ containers_in items
-    → vec_len y.records < vec_capacity y.records → HasLogRoom n (containers_in (set items i y)) (map room_in (set items i y))
+    → vec_len y.records < vec_capacity y.records → FitsLog n (containers_in (set items i y)) (map room_in (set items i y))
 room_made items n i y at same room j there =
     let p : Container → Bool = λ c. c.number == n in
     let one : Some j ≡ Some i = sym there ∙ (ap (position p) same ∙ (place_in p container_in items ∙ at)) in

@@ -70,7 +70,7 @@ other_thawed j k s other =
 
 -- ---- what a thaw tells
 
-effect_told : (e : ProcessEffect) (j : ℕ) (p : Process → Process) (s z : State) → AreAlike s z
+pub effect_told : (e : ProcessEffect) (j : ℕ) (p : Process → Process) (s z : State) → AreAlike s z
     → (by_effect e (Owner.Exec j) (record z { processes = changed_of (Owner.Exec j) p z.processes })).events ≡ told_thaw (code_in e) j s
 effect_told Lives j p s z a = refl
 effect_told (Wrote stream payload) j p s z a = refl

@@ -65,3 +65,8 @@ told_meet Status.Restarting code n c script s = told_code code n c script s
 told_meet Status.Removing code n c script s = told_code code n c script s
 told_meet Status.Exited code n c script s = told_code code n c script s
 told_meet Status.Dead code n c script s = told_code code n c script s
+
+-- The signal of a kill: a final one is met, another is sent.
+abbrev pub told_deliver : Bool → Option ℕ → ℕ → Container → Option Program → State → List Event
+told_deliver true code n c script s = told_meet c.life.status code n c script s
+told_deliver false code n c script s = told_code code n c script s

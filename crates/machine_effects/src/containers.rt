@@ -6,7 +6,7 @@ ghost use Rattle.container_table.specs.Timers.{cleared, with_timer};
 ghost use Rattle.machine_model.specs.Consistency.{is_there};
 ghost use Rattle.machine_effects.specs.Fit.{AreFew};
 ghost use Rattle.machine_effects.specs.Held.{container_in};
-ghost use Rattle.machine_effects.specs.Rooms.{HasLogRoom};
+ghost use Rattle.machine_effects.specs.Rooms.{FitsLog};
 ghost use Rattle.machine_model.specs.Effects.Meet.{logged};
 ghost use Rattle.machine_effects.specs.Marks.{marked, with_life, launched_at};
 
@@ -93,7 +93,7 @@ impl Containers {
 
     /// The container's log has one more record, of its current run.
     pub fn record(&mut self, number: u64, stream: Stream, payload: Bytes, moment: u64)
-        requires { HasLogRoom number self.old.containers self.old.logs }
+        requires { FitsLog number self.old.containers self.old.logs }
         ensures containers { self.new.containers
             ≡ with_life number (logged stream payload moment) self.old.containers }
         ensures timers { self.new.timers ≡ self.old.timers }
@@ -107,7 +107,7 @@ impl Containers {
         ensures containers { self.new.containers ≡ self.old.containers }
         ensures timers { self.new.timers ≡ self.old.timers }
         ensures timer_room { self.new.room ≡ self.old.room }
-        ensures room { OnOk result (HasLogRoom number self.new.containers self.new.logs) }
+        ensures room { OnOk result (FitsLog number self.new.containers self.new.logs) }
     {
         lives::reserve_record(&mut self.held, number)
     }

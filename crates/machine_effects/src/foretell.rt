@@ -42,7 +42,7 @@ pub fn tell_mounts(
     Ok(())
 }
 
-fn tell_launch(
+pub fn tell_launch(
     alloc: Global,
     script: &Option<Script>,
     h: &Held,

@@ -4,7 +4,7 @@ ghost use Rattle.std.specs.List.{flat_map};
 ghost use Rattle.machine_model.specs.Step.{at_moment};
 ghost use Rattle.machine_effects.specs.Foretold.{told_number, told_status, told_mounts};
 ghost use Rattle.machine_effects.specs.Held.{container_in};
-ghost use Rattle.machine_effects.specs.ToldMeet.{lives_on, running_after, running_numbers, thawed_code, told_thaw, told_wake, told_end_with, told_code_with, told_meet};
+ghost use Rattle.machine_effects.specs.ToldMeet.{lives_on, running_after, running_numbers, thawed_code, told_thaw, told_wake, told_end_with, told_code_with, told_meet, told_deliver};
 
 use super::events::{die_event, exec_die_event, plain_event};
 use super::foretell::{add, tell_mounts, tell_status};
@@ -201,6 +201,28 @@ impl Tables {
             Status::Removing => self.tell_code(alloc, code, h, script, moment, out),
             Status::Exited => self.tell_code(alloc, code, h, script, moment, out),
             Status::Dead => self.tell_code(alloc, code, h, script, moment, out),
+        }
+    }
+
+    /// The signal of a kill: a final one is met, another is sent.
+    pub fn tell_delivered(
+        &self,
+        alloc: Global,
+        last: bool,
+        code: Option<u8>,
+        h: &Held,
+        script: &Option<Script>,
+        moment: u64,
+        out: &mut Vec<Event>,
+    ) -> Result<(), NoMemory>
+        ensures { OnOk result (out.new.items ≡ out.old.items
+            ++ told_deliver last code h.now.container.number (container_in h.now)
+                script.now (at_moment moment self.now.state)) }
+    {
+        if last {
+            self.tell_met(alloc, code, h, script, moment, out)
+        } else {
+            self.tell_code(alloc, code, h, script, moment, out)
         }
     }
 }

@@ -25,7 +25,9 @@ mod volumes;
 
 pub use containers::Containers;
 pub use death::Death;
+pub use events::{kill_event, plain_event};
 pub use execs::Execs;
+pub use foretell::{add, tell_launch};
 pub use held::{Fate, Held, HeldOutput, HeldTicket, Ready};
 pub use kit::Kit;
 pub use marks::Mark;

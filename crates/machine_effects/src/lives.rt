@@ -6,7 +6,7 @@ ghost use Rattle.machine_effects.specs.Fit.{AreFew, IsSoon};
 ghost use Rattle.machine_model.specs.Effects.EndMain.{decision_at};
 ghost use Rattle.machine_model.specs.Effects.Launch.{log_size};
 ghost use Rattle.machine_model.specs.Effects.Meet.{logged};
-ghost use Rattle.machine_effects.specs.Rooms.{HasLogRoom};
+ghost use Rattle.machine_effects.specs.Rooms.{FitsLog};
 ghost use Rattle.machine_effects.specs.Marks.{marked, with_life, launched_at};
 
 use super::held::Held;
@@ -107,7 +107,7 @@ pub fn room_after(records: &[LogRecord]) -> u64
 
 /// The container's log has one more record, of its current run.
 pub fn record(held: &mut Vec<Held>, number: u64, stream: Stream, payload: Bytes, moment: u64)
-    requires { HasLogRoom number (containers_in held.old.items) (map room_in held.old.items) }
+    requires { FitsLog number (containers_in held.old.items) (map room_in held.old.items) }
     ensures { containers_in held.new.items
         ≡ with_life number (logged stream payload moment) (containers_in held.old.items) }
 {
@@ -127,7 +127,7 @@ pub fn record(held: &mut Vec<Held>, number: u64, stream: Stream, payload: Bytes,
 pub fn reserve_record(held: &mut Vec<Held>, number: u64) -> Result<(), NoMemory>
     ensures same { containers_in held.new.items ≡ containers_in held.old.items }
     ensures room { OnOk result
-        (HasLogRoom number (containers_in held.new.items) (map room_in held.new.items)) }
+        (FitsLog number (containers_in held.new.items) (map room_in held.new.items)) }
 {
     let Some(i) = place_of(held.as_slice(), number) else {
         return Ok(());

@@ -7,7 +7,7 @@ ghost use Rattle.engine_text.specs.declared.owner.Owner as owners;
 ghost use Rattle.machine_model.specs.Effects.Meet.{record_of};
 ghost use Rattle.machine_effects.specs.Held.{output_in, outputs_in, output_room};
 ghost use Rattle.machine_effects.specs.Outputs.{is_output_of, with_record};
-ghost use Rattle.machine_effects.specs.Rooms.{HasOutputRoom};
+ghost use Rattle.machine_effects.specs.Rooms.{FitsOutput};
 ghost use Rattle.machine_effects.specs.declared.held.HeldOutput.{HeldOutput};
 
 use super::execs::Execs;
@@ -91,7 +91,7 @@ fn place_of(held: &[HeldOutput], number: u64) -> Option<usize>
 
 // The output of the exec has one more record.
 fn write(held: &mut Vec<HeldOutput>, number: u64, written: LogRecord)
-    requires { HasOutputRoom number (outputs_in held.old.items) (map output_room held.old.items) }
+    requires { FitsOutput number (outputs_in held.old.items) (map output_room held.old.items) }
     ensures { outputs_in held.new.items
         ≡ update_first (λ o. same_owner o.owner (owners.Owner.Exec number)) (with_record written)
         (outputs_in held.old.items) }
@@ -133,7 +133,7 @@ impl Outputs {
 
     /// The output of the exec has one more record, of its one run.
     pub fn record(&mut self, number: u64, stream: Stream, payload: Bytes, moment: u64)
-        requires { HasOutputRoom number self.old.outputs self.old.rooms }
+        requires { FitsOutput number self.old.outputs self.old.rooms }
         ensures { self.new.outputs
             ≡ update_first (λ o. same_owner o.owner (owners.Owner.Exec number))
             (with_record (record_of 1 stream payload moment)) self.old.outputs }

@@ -17,7 +17,7 @@ ghost use Rattle.machine_effects.specs.Held.{container_in};
 ghost use Rattle.machine_effects.specs.Kits.{IsKitOf};
 ghost use Rattle.machine_effects.specs.Marks.{marked};
 ghost use Rattle.machine_effects.specs.Memory.{HasRoom, standing};
-ghost use Rattle.machine_effects.specs.Rooms.{HasLogRoom, HasOutputRoom};
+ghost use Rattle.machine_effects.specs.Rooms.{FitsLog, FitsOutput};
 
 use super::containers::Containers;
 use super::execs::Execs;
@@ -276,7 +276,7 @@ impl Tables {
 
     /// The container's log has one more record, of its current run.
     pub(super) fn write_log(&mut self, number: u64, stream: Stream, payload: Bytes)
-        requires { HasLogRoom number self.old.state.containers self.old.logs }
+        requires { FitsLog number self.old.state.containers self.old.logs }
         ensures state { self.new.state
             ≡ (write_record (owners.Owner.Container number) stream payload self.old.state).state }
         ensures room { self.new.room ≡ self.old.room }
@@ -287,7 +287,7 @@ impl Tables {
 
     /// The exec's output has one more record.
     pub(super) fn write_output(&mut self, number: u64, stream: Stream, payload: Bytes)
-        requires { HasOutputRoom number self.old.state.outputs self.old.outputs }
+        requires { FitsOutput number self.old.state.outputs self.old.outputs }
         ensures state { self.new.state
             ≡ (write_record (owners.Owner.Exec number) stream payload self.old.state).state }
         ensures room { self.new.room ≡ self.old.room }
