@@ -16,3 +16,5 @@ pub mod Settled
 pub mod Values
 pub mod Views
 pub mod ToldMeet
+pub mod ToldKill
+pub mod ToldCalls
