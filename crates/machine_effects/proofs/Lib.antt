@@ -22,3 +22,6 @@ pub mod OpLemmas
 pub mod DueLemmas
 pub mod WokenLemmas
 pub mod MeetToldLemmas
+pub mod KillToldLemmas
+pub mod CallToldLemmas
+pub mod DiedToldLemmas

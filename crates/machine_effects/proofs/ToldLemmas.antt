@@ -175,7 +175,7 @@ after_launch a (Some program) c s e =
     ap (λ y. (tell_of (plain_event a) c.number y).events) (begun_is program c s)
     ∙ told_at (plain_event a) c.number (begun c.number program c.life.open_stdin (container_room c) s) (renewed (launched s) c) (found_renewed c.number (launched s) s c e)
 
-launch_then : (a : Action) (c : Container) (s : State) → container_numbered c.number s ≡ Some c → (tell_of (plain_event a) c.number (launch c.number s).state).events ≡ plain_event a c s.clock ∷ []
+pub launch_then : (a : Action) (c : Container) (s : State) → container_numbered c.number s ≡ Some c → (tell_of (plain_event a) c.number (launch c.number s).state).events ≡ plain_event a c s.clock ∷ []
 launch_then a c s e =
     ap (λ o. (tell_of (plain_event a) c.number (with_found o (λ (d : Container). launch_program (program_of d.life.words (d.life.starts + 1)) d) s).state).events) e
     ∙ after_launch a (program_of c.life.words (c.life.starts + 1)) c s e

@@ -1,0 +1,203 @@
+-- What is told before a stop, a restart, a forced removal or a stop deadline is what it tells.
+use Rattle.std.proofs.Common.{◌≡◌, ℕ, ◌+◌, ◌*◌, ℤ, pos, negsuc, Bool, true, false, List, [], ◌∷◌, ◌++◌, Option, Some, None, refl, ap, sym, ◌∙◌}
+use Rattle.std.specs.List.{flat_map}
+use Rattle.container_table.specs.Timers.{with_timer}
+use Rattle.engine_text.specs.declared.exec.Exec.{Exec}
+use Rattle.engine_text.specs.declared.step.DueAction.{DueAction}
+use Rattle.engine_text.specs.Scripts.{Program}
+use Rattle.engine_text.specs.declared.container.Container.{Container}
+use Rattle.engine_text.specs.declared.container.Goal.{Goal}
+use Rattle.engine_text.specs.declared.container.Life.{Life}
+use Rattle.engine_text.specs.declared.owner.Owner.{Owner}
+use Rattle.engine_text.specs.declared.signal.Signal.{Signal}
+use Rattle.engine_text.specs.declared.status.Status.{Status}
+use Rattle.proc_kernel.specs.Catalogue.{program_of}
+use Rattle.proc_kernel.specs.Foretelling.{code_at}
+use Rattle.proc_kernel.specs.Processes.{signal}
+use Rattle.proc_kernel.specs.Tables.{process_of}
+use Rattle.machine_model.specs.State.{State, container_numbered, exec_numbered, change_life, clear_timer, timer_of, is_live}
+use Rattle.machine_model.specs.EventTexts.{plain_event, die_event, kill_event}
+use Rattle.machine_model.specs.Chain.{tell_of}
+use Rattle.machine_model.specs.Calls.Stop.{stopping}
+use Rattle.machine_model.specs.Calls.Restart.{to_restart}
+use Rattle.machine_model.specs.Calls.Remove.{to_remove, if_it_lives, kill_to_remove}
+use Rattle.machine_model.specs.Due.{stop_deadline}
+use Rattle.machine_model.specs.Effects.Halt.{halt, lesser, set_deadline, signal_used, seconds_used}
+use Rattle.machine_model.specs.Effects.Meet.{meet_signal}
+use Rattle.machine_effects.specs.Foretold.{told_code, told_exec, told_goal, told_mounts, told_number, told_status}
+use Rattle.engine_text.specs.declared.event.Action.{Action}
+use Rattle.machine_effects.specs.Marks.{renewed}
+use Rattle.machine_effects.specs.ToldKill.{aimed, told_kill}
+use Rattle.machine_effects.specs.ToldMeet.{told_meet, told_wake, told_code_with, told_thaw, thawed_code, running_numbers, running_after}
+use Rattle.machine_effects.proofs.SettleLemmas.{has_number, tell_still}
+use Rattle.machine_effects.proofs.SiftLemmas.{nil_end}
+use Rattle.machine_effects.proofs.ToldLemmas.{found_renewed, told_at}
+use Rattle.machine_effects.proofs.MeetToldLemmas.{StandOnce, code_is, code_kept, goal_kept, meet_told, status_kept, thaws_marked}
+
+-- ---- timers, of which nothing is told
+
+abbrev timed : List DueAction → State → State
+timed ts s = record s { timers = ts }
+
+exec_timed : (code : ℕ) (o : Option Exec) (ts : List DueAction) (s : State) → told_exec code o (timed ts s) ≡ told_exec code o s
+exec_timed code None ts s = refl
+exec_timed code (Some x) ts s = refl
+
+thaw_timed : (code : Option ℕ) (j : ℕ) (ts : List DueAction) (s : State) → told_thaw code j (timed ts s) ≡ told_thaw code j s
+thaw_timed None j ts s = refl
+thaw_timed (Some code) j ts s = exec_timed code (exec_numbered j s) ts s
+
+thaws_timed : (js : List ℕ) (ts : List DueAction) (s : State) → flat_map (λ j. told_thaw (thawed_code j s) j (timed ts s)) js ≡ flat_map (λ j. told_thaw (thawed_code j s) j s) js
+thaws_timed [] ts s = refl
+thaws_timed (j ∷ js) ts s =
+    ap (λ l. l ++ flat_map (λ k. told_thaw (thawed_code k s) k (timed ts s)) js) (thaw_timed (thawed_code j s) j ts s)
+    ∙ ap (λ l. told_thaw (thawed_code j s) j s ++ l) (thaws_timed js ts s)
+
+ends_timed : (ks : List ℕ) (ts : List DueAction) (s : State) → flat_map (told_number (timed ts s)) ks ≡ flat_map (told_number s) ks
+ends_timed [] ts s = refl
+ends_timed (k ∷ ks) ts s =
+    ap (λ l. l ++ flat_map (told_number (timed ts s)) ks) (exec_timed 137 (exec_numbered k s) ts s)
+    ∙ ap (λ l. told_number s k ++ l) (ends_timed ks ts s)
+
+code_timed : (ks : List ℕ) (code : Option ℕ) (c : Container) (o : Option Program) (ts : List DueAction) (s : State) → told_code_with ks code c o (timed ts s) ≡ told_code_with ks code c o s
+code_timed ks None c o ts s = refl
+code_timed ks (Some code) c o ts s =
+    ap (λ l. l ++ (die_event code c s.clock ∷ (told_mounts Action.Unmount c s.clock ++ told_status c.life.status o c s.clock))) (ends_timed ks ts s)
+
+main_timed : (code : Option ℕ) (n : ℕ) (c : Container) (o : Option Program) (ts : List DueAction) (s : State) → told_code code n c o (timed ts s) ≡ told_code code n c o s
+main_timed code n c o ts s = code_is code n c o (timed ts s) ∙ (code_timed (running_numbers n s) code c o ts s ∙ sym (code_is code n c o s))
+
+meet_timed : (u : Status) (code : Option ℕ) (n : ℕ) (c : Container) (o : Option Program) (ts : List DueAction) (s : State) → told_meet u code n c o (timed ts s) ≡ told_meet u code n c o s
+meet_timed Status.Paused code n c o ts s =
+    ap (λ l. (plain_event Action.Unpause c s.clock ∷ l) ++ told_code_with (running_after n s) code c o (timed ts s)) (thaws_timed (running_numbers n s) ts s)
+    ∙ ap (λ l. told_wake n c s ++ l) (code_timed (running_after n s) code c o ts s)
+meet_timed Status.Created code n c o ts s = main_timed code n c o ts s
+meet_timed Status.Running code n c o ts s = main_timed code n c o ts s
+meet_timed Status.Restarting code n c o ts s = main_timed code n c o ts s
+meet_timed Status.Removing code n c o ts s = main_timed code n c o ts s
+meet_timed Status.Exited code n c o ts s = main_timed code n c o ts s
+meet_timed Status.Dead code n c o ts s = main_timed code n c o ts s
+
+-- ---- a renewed life of which the same is told
+
+-- mounts, goal and status are as they were
+pub record IsToldAs (f : Life → Life) (l : Life) : Type 0 where
+  pub mounts : (f l).mounts ≡ l.mounts
+  pub goal : (f l).goal ≡ l.goal
+  pub status : (f l).status ≡ l.status
+
+status_same : (o : Option Program) (t : ℕ) (f : Life → Life) (c : Container) → IsToldAs f c.life → told_status (f c.life).status o (renewed f c) t ≡ told_status c.life.status o c t
+status_same o t f c k = ap (λ u. told_status u o (renewed f c) t) k.status ∙ status_kept c.life.status o t f c k.mounts k.goal
+
+code_same : (code : Option ℕ) (n : ℕ) (f : Life → Life) (c : Container) (o : Option Program) (s : State) → IsToldAs f c.life → told_code code n (renewed f c) o (change_life n f s) ≡ told_code code n c o s
+code_same code n f c o s k =
+    code_is code n (renewed f c) o (change_life n f s)
+    ∙ (code_kept (running_numbers n s) code n f c o s k.mounts (status_same o s.clock f c k) ∙ sym (code_is code n c o s))
+
+meet_same : (u : Status) (code : Option ℕ) (n : ℕ) (f : Life → Life) (c : Container) (o : Option Program) (s : State) → IsToldAs f c.life → told_meet u code n (renewed f c) o (change_life n f s) ≡ told_meet u code n c o s
+meet_same Status.Paused code n f c o s k =
+    ap (λ l. (plain_event Action.Unpause c s.clock ∷ l) ++ told_code_with (running_after n s) code (renewed f c) o (change_life n f s)) (thaws_marked (running_numbers n s) n f s)
+    ∙ ap (λ l. told_wake n c s ++ l) (code_kept (running_after n s) code n f c o s k.mounts (status_same o s.clock f c k))
+meet_same Status.Created code n f c o s k = code_same code n f c o s k
+meet_same Status.Running code n f c o s k = code_same code n f c o s k
+meet_same Status.Restarting code n f c o s k = code_same code n f c o s k
+meet_same Status.Removing code n f c o s k = code_same code n f c o s k
+meet_same Status.Exited code n f c o s k = code_same code n f c o s k
+meet_same Status.Dead code n f c o s k = code_same code n f c o s k
+
+-- ---- a signal behind a mark that sets the goal
+
+-- the mark sets that goal, and leaves what else is told
+pub record Aims (mark : Life → Life) (goal : Goal) (l : Life) : Type 0 where
+  pub over : mark (record l { goal = goal }) ≡ mark l
+  pub told : IsToldAs mark (record l { goal = goal })
+  pub words : (mark l).words ≡ l.words
+  pub starts : (mark l).starts ≡ l.starts
+
+program_same : (f : Life → Life) (l : Life) (o : Option Program) → (f l).words ≡ l.words → (f l).starts ≡ l.starts → o ≡ program_of l.words (l.starts + 1) → o ≡ program_of (f l).words ((f l).starts + 1)
+program_same f l o w k named = named ∙ sym (ap (λ x. program_of x ((f l).starts + 1)) w ∙ ap (λ k. program_of l.words (k + 1)) k)
+
+aimed_told : (mark : Life → Life) (goal : Goal) (number n : ℕ) (s : State) (c : Container) (o : Option Program) (code : Option ℕ) → Aims mark goal c.life → container_numbered n s ≡ Some c → o ≡ program_of c.life.words (c.life.starts + 1) → StandOnce s
+    → code ≡ code_at (signal number true s.clock) (process_of (Owner.Container n) s.processes) → (meet_signal number n (change_life n mark s)).events ≡ told_meet c.life.status code n (aimed goal c) o s
+aimed_told mark goal number n s c o code aims found named single is =
+    meet_told number n (change_life n mark s) (renewed mark c) o code (found_renewed n mark s c found) (program_same mark c.life o aims.words aims.starts named) (record { execs = single.execs; processes = single.processes }) is
+    ∙ (ap (λ (l : Life). told_meet l.status code n (record c { life = l }) o (change_life n mark s)) (sym aims.over)
+    ∙ (ap (λ u. told_meet u code n (renewed mark (aimed goal c)) o (change_life n mark s)) aims.told.status
+    ∙ meet_same c.life.status code n mark (aimed goal c) o s aims.told))
+
+-- event kill, and then what the signal tells
+by_number : (number n : ℕ) (s : State) (c d : Container) (o : Option Program) (code : Option ℕ) → container_numbered n s ≡ Some c → (tell_of (kill_event number) n s).events ++ told_meet c.life.status code n d o s ≡ kill_event number c s.clock ∷ told_meet c.life.status code c.number d o s
+by_number number n s c d o code found =
+    ap (λ l. l ++ told_meet c.life.status code n d o s) (told_at (kill_event number) n s c found)
+    ∙ ap (λ m. kill_event number c s.clock ∷ told_meet c.life.status code m d o s) (sym (has_number n s c found))
+
+-- what a goal wants is told of the container as it is
+pub goal_aimed : (g : Goal) (o : Option Program) (c : Container) (t : ℕ) → told_goal g o c t ≡ told_goal g o (aimed g c) t
+goal_aimed g o c t = sym (goal_kept g o t (λ (l : Life). record l { goal = g }) c refl)
+
+-- ---- a stop deadline
+
+pub stop_deadline_told : (n : ℕ) (s : State) (c : Container) (o : Option Program) (code : Option ℕ) → container_numbered n s ≡ Some c → o ≡ program_of c.life.words (c.life.starts + 1) → StandOnce s
+    → code ≡ code_at (signal 9 true s.clock) (process_of (Owner.Container n) s.processes) → (stop_deadline n s).events ≡ told_kill 9 code c o s
+stop_deadline_told n s c o code found named single is =
+    let y : State = clear_timer 1 n s in
+    let same : told_meet c.life.status code c.number c o y ≡ told_meet c.life.status code c.number c o s = meet_timed c.life.status code c.number c o y.timers s in
+    ap (λ z. (tell_of (kill_event 9) n y).events ++ (meet_signal 9 n z).events) (tell_still (kill_event 9) n y)
+    ∙ (ap (λ l. (tell_of (kill_event 9) n y).events ++ l) (meet_told 9 n y c o code found named (record { execs = single.execs; processes = single.processes }) is)
+    ∙ (by_number 9 n y c c o code found ∙ ap (λ l. kill_event 9 c s.clock ∷ l) same))
+
+-- ---- a stop or a restart
+
+-- a deadline leaves what is told
+behind_deadline : (z : ℤ) (mark : Life → Life) (goal : Goal) (number n : ℕ) (s : State) (c : Container) (o : Option Program) (code : Option ℕ) → Aims mark goal c.life → container_numbered n s ≡ Some c → o ≡ program_of c.life.words (c.life.starts + 1) → StandOnce s
+    → code ≡ code_at (signal number true s.clock) (process_of (Owner.Container n) s.processes) → (meet_signal number n (set_deadline z n (change_life n mark s))).events ≡ told_meet c.life.status code n (aimed goal c) o s
+behind_deadline (pos seconds) mark goal number n s c o code aims found named single is =
+    let ts : List DueAction = with_timer (lesser (timer_of 1 n s) (s.clock + 1000 * seconds)) 1 n s.timers in
+    aimed_told mark goal number n (timed ts s) c o code aims found named (record { execs = single.execs; processes = single.processes }) is
+    ∙ meet_timed c.life.status code n (aimed goal c) o ts s
+behind_deadline (negsuc k) mark goal number n s c o code aims found named single is = aimed_told mark goal number n s c o code aims found named single is
+
+pub halt_told : (mark : Life → Life) (goal : Goal) (seconds : Option ℤ) (sent : Option Signal) (s : State) (c : Container) (o : Option Program) (code : Option ℕ) → Aims mark goal c.life → container_numbered c.number s ≡ Some c → o ≡ program_of c.life.words (c.life.starts + 1) → StandOnce s
+    → code ≡ code_at (signal (signal_used sent c) true s.clock) (process_of (Owner.Container c.number) s.processes) → (halt mark seconds sent c s).events ≡ told_kill (signal_used sent c) code (aimed goal c) o s
+halt_told mark goal seconds sent s c o code aims found named single is =
+    let n : ℕ = c.number in
+    let number : ℕ = signal_used sent c in
+    let z : ℤ = seconds_used seconds c in
+    ap (λ y. (tell_of (kill_event number) n s).events ++ (meet_signal number n (set_deadline z n (change_life n mark y))).events) (tell_still (kill_event number) n s)
+    ∙ (ap (λ l. (tell_of (kill_event number) n s).events ++ l) (behind_deadline z mark goal number n s c o code aims found named single is)
+    ∙ ap (λ l. l ++ told_meet c.life.status code n (aimed goal c) o s) (told_at (kill_event number) n s c found))
+
+stopping_aims : (l : Life) → Aims stopping Goal.Stop l
+stopping_aims l = record { over = refl; told = record { mounts = refl; goal = refl; status = refl }; words = refl; starts = refl }
+
+restart_aims : (l : Life) → Aims to_restart Goal.Restart l
+restart_aims l = record { over = refl; told = record { mounts = refl; goal = refl; status = refl }; words = refl; starts = refl }
+
+remove_aims : (l : Life) → Aims to_remove Goal.Remove l
+remove_aims l = record { over = refl; told = record { mounts = refl; goal = refl; status = refl }; words = refl; starts = refl }
+
+-- a stop of a container that lives
+pub stop_told : (seconds : Option ℤ) (sent : Option Signal) (s : State) (c : Container) (o : Option Program) (code : Option ℕ) → container_numbered c.number s ≡ Some c → o ≡ program_of c.life.words (c.life.starts + 1) → StandOnce s
+    → code ≡ code_at (signal (signal_used sent c) true s.clock) (process_of (Owner.Container c.number) s.processes) → (halt stopping seconds sent c s).events ≡ told_kill (signal_used sent c) code (aimed Goal.Stop c) o s
+stop_told seconds sent s c o code found named single is = halt_told stopping Goal.Stop seconds sent s c o code (stopping_aims c.life) found named single is
+
+-- a restart of a container that lives
+pub restart_told : (seconds : Option ℤ) (sent : Option Signal) (s : State) (c : Container) (o : Option Program) (code : Option ℕ) → container_numbered c.number s ≡ Some c → o ≡ program_of c.life.words (c.life.starts + 1) → StandOnce s
+    → code ≡ code_at (signal (signal_used sent c) true s.clock) (process_of (Owner.Container c.number) s.processes) → (halt to_restart seconds sent c s).events ≡ told_kill (signal_used sent c) code (aimed Goal.Restart c) o s
+restart_told seconds sent s c o code found named single is = halt_told to_restart Goal.Restart seconds sent s c o code (restart_aims c.life) found named single is
+
+-- ---- a forced removal
+
+if_quiet : (b : Bool) (n : ℕ) (s : State) → (if_it_lives b n s).events ≡ []
+if_quiet false n s = refl
+if_quiet true n s = refl
+
+pub kill_to_remove_told : (n : ℕ) (s : State) (c : Container) (o : Option Program) (code : Option ℕ) → container_numbered n s ≡ Some c → o ≡ program_of c.life.words (c.life.starts + 1) → StandOnce s
+    → code ≡ code_at (signal 9 true s.clock) (process_of (Owner.Container n) s.processes) → (kill_to_remove n s).events ≡ told_kill 9 code (aimed Goal.Remove c) o s
+kill_to_remove_told n s c o code found named single is =
+    let s1 : State = change_life n to_remove s in
+    let z : State = (meet_signal 9 n s1).state in
+    ap (λ y. (tell_of (kill_event 9) n s).events ++ ((meet_signal 9 n (change_life n to_remove y)).events ++ (if_it_lives (is_live (Owner.Container n) (meet_signal 9 n (change_life n to_remove y)).state) n (meet_signal 9 n (change_life n to_remove y)).state).events)) (tell_still (kill_event 9) n s)
+    ∙ (ap (λ l. (tell_of (kill_event 9) n s).events ++ ((meet_signal 9 n s1).events ++ l)) (if_quiet (is_live (Owner.Container n) z) n z)
+    ∙ (ap (λ l. (tell_of (kill_event 9) n s).events ++ l) (nil_end (meet_signal 9 n s1).events ∙ aimed_told to_remove Goal.Remove 9 n s c o code (remove_aims c.life) found named single is)
+    ∙ by_number 9 n s c (aimed Goal.Remove c) o code found))
