@@ -61,7 +61,7 @@ pub fn tell_launch(
     }
 }
 
-fn tell_restart(
+pub fn tell_restart(
     alloc: Global,
     script: &Option<Script>,
     h: &Held,

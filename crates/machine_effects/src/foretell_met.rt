@@ -67,7 +67,7 @@ impl Tables {
     }
 
     // Event unpause, and the ends of those execs that end as they go on.
-    fn tell_wake(
+    pub(super) fn tell_wake(
         &self,
         alloc: Global,
         h: &Held,
@@ -103,7 +103,7 @@ impl Tables {
     }
 
     // The numbers of the running execs that live on.
-    fn running_after(&self, alloc: Global, number: u64, moment: u64) -> Result<Vec<u64>, NoMemory>
+    pub(super) fn running_after(&self, alloc: Global, number: u64, moment: u64) -> Result<Vec<u64>, NoMemory>
         ensures { IfOk result (λ v. v.items ≡ running_after number (at_moment moment self.now.state)) }
     {
         let running = self.running(alloc, number)?;
@@ -158,7 +158,7 @@ impl Tables {
     }
 
     // A signal that wakes a paused container.
-    fn tell_woken(
+    pub(super) fn tell_woken(
         &self,
         alloc: Global,
         code: Option<u8>,

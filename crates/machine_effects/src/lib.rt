@@ -9,6 +9,8 @@ mod exec_rows;
 mod execs;
 mod find;
 mod foretell;
+mod foretell_calls;
+mod foretell_kill;
 mod foretell_met;
 mod held;
 mod kit;

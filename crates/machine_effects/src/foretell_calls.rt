@@ -1,0 +1,131 @@
+// The events of an unpause, of a restart of a container that doesn't live, and of a process's op, made before it.
+ghost use Rattle.std.specs.Prelude.{◌≡◌, ℕ, ◌∷◌, [], ◌++◌, OnOk};
+ghost use Rattle.engine_text.specs.declared.owner.Owner as owners;
+ghost use Rattle.proc_kernel.specs.Foretelling.{code_at};
+ghost use Rattle.proc_kernel.specs.Processes.{run_due, thaw};
+ghost use Rattle.proc_kernel.specs.Tables.{process_of};
+ghost use Rattle.machine_model.specs.State.{container_numbered};
+ghost use Rattle.machine_model.specs.Step.{at_moment};
+ghost use Rattle.machine_effects.specs.Held.{container_in};
+ghost use Rattle.machine_effects.specs.ToldCalls.{told_again, told_main, told_op, told_unpause};
+ghost use Rattle.machine_effects.specs.ToldMeet.{told_thaw};
+
+use super::events::{exec_die_event, plain_event};
+use super::foretell::{add, tell_launch};
+use super::held::Held;
+use super::tables::Tables;
+use engine_text::{Action, Event, NoMemory, Owner, Script};
+use std::alloc::Global;
+
+/// A launch, and then event restart.
+pub fn tell_again(
+    alloc: Global,
+    script: &Option<Script>,
+    h: &Held,
+    moment: u64,
+    out: &mut Vec<Event>,
+) -> Result<(), NoMemory>
+    ensures { OnOk result (out.new.items ≡ out.old.items
+        ++ told_again script.now (container_in h.now) moment) }
+{
+    tell_launch(alloc, script, h, moment, out)?;
+    let event = plain_event(alloc, Action::Restart, &h.container, moment)?;
+    add(out, event)
+}
+
+impl Tables {
+    /// The code with which the container's main process ends once it goes on, if it does.
+    pub fn woken_code(&self, number: u64) -> Option<u8>
+        ensures { (t : ℕ) → result ≡ code_at (thaw t)
+            (process_of (owners.Owner.Container number) self.now.state.processes) }
+    {
+        self.kernel.thaw_code(Owner::Container(number))
+    }
+
+    /// The code with which the next op of the owner's process ends it, if it does.
+    pub fn due_code(&self, owner: Owner) -> Option<u8>
+        ensures { (t : ℕ) → result ≡ code_at (run_due t) (process_of owner self.now.state.processes) }
+    {
+        self.kernel.due_code(owner)
+    }
+
+    /// An unpause, which ends the main process with that code, if it does.
+    pub fn tell_unpause(
+        &self,
+        alloc: Global,
+        code: Option<u8>,
+        h: &Held,
+        script: &Option<Script>,
+        moment: u64,
+        out: &mut Vec<Event>,
+    ) -> Result<(), NoMemory>
+        ensures { OnOk result (out.new.items ≡ out.old.items
+            ++ told_unpause code (container_in h.now) script.now (at_moment moment self.now.state)) }
+    {
+        self.tell_woken(alloc, code, h, script, moment, out)
+    }
+
+    // The end of the exec with that code, if it ends.
+    fn tell_exec_code(
+        &self,
+        alloc: Global,
+        code: Option<u8>,
+        number: u64,
+        moment: u64,
+        out: &mut Vec<Event>,
+    ) -> Result<(), NoMemory>
+        ensures { OnOk result (out.new.items ≡ out.old.items
+            ++ told_thaw code number (at_moment moment self.now.state)) }
+    {
+        let Some(code) = code else {
+            return Ok(());
+        };
+        let Some(x) = self.exec(number) else {
+            return Ok(());
+        };
+        let Some(h) = self.numbered(x.container) else {
+            return Ok(());
+        };
+        let event = exec_die_event(alloc, &x.id, code, &h.container, moment)?;
+        add(out, event)
+    }
+
+    // The end of the container's main process with that code, if it ends.
+    fn tell_main(
+        &self,
+        alloc: Global,
+        code: Option<u8>,
+        number: u64,
+        script: &Option<Script>,
+        moment: u64,
+        out: &mut Vec<Event>,
+    ) -> Result<(), NoMemory>
+        ensures { OnOk result (out.new.items ≡ out.old.items
+            ++ told_main (container_numbered number self.now.state) code script.now
+            (at_moment moment self.now.state)) }
+    {
+        let Some(h) = self.numbered(number) else {
+            return Ok(());
+        };
+        self.tell_code(alloc, code, h, script, moment, out)
+    }
+
+    /// The next op of the owner's process, which ends it with that code, if it does.
+    pub fn tell_op(
+        &self,
+        alloc: Global,
+        owner: Owner,
+        code: Option<u8>,
+        script: &Option<Script>,
+        moment: u64,
+        out: &mut Vec<Event>,
+    ) -> Result<(), NoMemory>
+        ensures { OnOk result (out.new.items ≡ out.old.items
+            ++ told_op owner code script.now (at_moment moment self.now.state)) }
+    {
+        match owner {
+            Owner::Container(number) => self.tell_main(alloc, code, number, script, moment, out),
+            Owner::Exec(number) => self.tell_exec_code(alloc, code, number, moment, out),
+        }
+    }
+}
