@@ -1,0 +1,4 @@
+pub mod Filter
+pub mod Fold
+pub mod Ring
+pub mod RingInside
