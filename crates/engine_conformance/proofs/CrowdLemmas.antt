@@ -1,9 +1,10 @@
 -- A turn on the daemon behind a turn of another connection.
-use Rattle.std.proofs.Common.{◌≡◌, ◌≤◌, ◌==◌, ◌||◌, ℕ, List, [], ◌∷◌, ◌++◌, length, refl, sym, ◌∙◌, ap, subst, append-nil, append_assoc, arith, Bool, true, false, cond, Option, Some, None, Result, Ok, Err, IfOk}
+use Rattle.std.proofs.Common.{◌≡◌, ◌≤◌, ◌<◌, ◌+◌, min, nat_lt, inl, inr, ◌==◌, ◌||◌, ℕ, List, [], ◌∷◌, ◌++◌, length, refl, sym, ◌∙◌, ap, subst, append-nil, append_assoc, arith, Bool, true, false, cond, Option, Some, None, Result, Ok, Err, IfOk}
 use Rattle.std.specs.Prelude.{IsTrue, IsFalse, OnErr}
 use Rattle.std.specs.List.{filter}
 use Rattle.std.proofs.lemmas.Bool.{false≢true}
 use Rattle.std.proofs.lemmas.List.Elements.{filter-append}
+use Rattle.engine_ports.specs.Rose.{Rose}
 use Rattle.engine_text.specs.declared.call.Call.{Call}
 use Rattle.engine_text.specs.declared.call.Call.TheVariants as call
 use Rattle.engine_text.specs.declared.memory.NoMemory.{NoMemory}
@@ -137,10 +138,22 @@ pub may_behind : (ch ch' : Charter) (k : ℕ) (h h' : List Step) (c : Option Cal
     → MayAsk ch k h c → MayAsk ch' k h' c
 may_behind ch ch' k h h' c by may = subst (λ x. MayAsk x k h' c) (sym by.charter) (may_on ch k h h' c by.quiet may)
 
+rises_by : (b : Bool) (l r : ℕ) → nat_lt l 18446744073709551615 ≡ b → r ≡ min (l + 1) 18446744073709551615 → Rose l r
+rises_by true l r e is = inl (grind (arith, e, is))
+rises_by false l r e is = inr (grind (arith, e, is))
+
+-- one look more
+pub rises : (l r : ℕ) → r ≡ min (l + 1) 18446744073709551615 → Rose l r
+rises l r is = rises_by (nat_lt l 18446744073709551615) l r refl is
+
+pub not_less : (l r : ℕ) → l < 18446744073709551616 → r ≡ min (l + 1) 18446744073709551615 → l ≤ r
+not_less l r fits is = grind (arith, fits, is)
+
 pub turn_behind : (k handed : ℕ) (c : Option Call) (result : Turned) (ch ch' ch'' : Charter) (h h' h'' : List Step)
     → Bystands k (pass_of ch h) (pass_of ch' h') → Turn k handed c result (pass_of ch' h') (pass_of ch'' h'')
-    → Turn k handed c result (pass_among k (pass_of ch h)) (pass_among k (pass_of ch'' h''))
-turn_behind k handed c result ch ch' ch'' h h' h'' by turn =
+    → (looks looks' : ℕ) → looks ≤ looks' → Rose looks looks'
+    → Turn k handed c result (pass_among k looks (pass_of ch h)) (pass_among k looks' (pass_of ch'' h''))
+turn_behind k handed c result ch ch' ch'' h h' h'' by turn looks looks' later rose =
     let t = turn.turns in
     let others = by.quiet.0 in
     let none : HasNone k others = by.quiet.1 in
@@ -159,8 +172,8 @@ turn_behind k handed c result ch ch' ch'' h h' h'' by turn =
         alone = λ e. absurd (false≢true e);
         legal = t.legal;
         own_calls = ap (calls_of k) at ∙ filter-append (bears k) (h ++ others) t.own ∙ ap (λ x. x ++ calls_of k t.own) before;
-        looks = omega arith;
-        found_busy = omega arith;
+        looks = later;
+        looked = λ _. rose;
         stays = record { joined_calls = refl; number = refl; pair = refl; charter = charter; alone = refl; home = refl };
       };
       says = subst (λ x. TurnSays x (state_after x (h ++ others)) k handed c result t.own) by.charter
@@ -168,9 +181,9 @@ turn_behind k handed c result ch ch' ch'' h h' h'' by turn =
     }
 
 -- by the number that the connection has
-pub turn_numbered : (own own' k handed : ℕ) (c : Option Call) (result : Turned) (p q : PassView) → own ≡ k → own' ≡ own
-    → Turn k handed c result (pass_among k p) (pass_among k q)
-    → Turn k handed c result (pass_among own p) (pass_among own' q)
-turn_numbered own own' k handed c result p q is same turn =
-    subst (λ n. Turn k handed c result (pass_among own p) (pass_among n q)) (sym (same ∙ is))
-    (subst (λ n. Turn k handed c result (pass_among n p) (pass_among k q)) (sym is) turn)
+pub turn_numbered : (looks looks' own own' k handed : ℕ) (c : Option Call) (result : Turned) (p q : PassView) → own ≡ k → own' ≡ own
+    → Turn k handed c result (pass_among k looks p) (pass_among k looks' q)
+    → Turn k handed c result (pass_among own looks p) (pass_among own' looks' q)
+turn_numbered looks looks' own own' k handed c result p q is same turn =
+    subst (λ n. Turn k handed c result (pass_among own looks p) (pass_among n looks' q)) (sym (same ∙ is))
+    (subst (λ n. Turn k handed c result (pass_among n looks p) (pass_among k looks' q)) (sym is) turn)

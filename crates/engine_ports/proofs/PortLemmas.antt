@@ -1,9 +1,9 @@
 -- What the outside tells goes on: views compose.
-use Rattle.std.proofs.Common.{◌≡◌, ◌≤◌, ◌∷◌, inl, inr, ℕ, List, [], ◌++◌, refl, sym, ◌∙◌, ap, append_assoc, append-nil, Option, Some, None, Result, Ok, Err, arith}
+use Rattle.std.proofs.Common.{◌≡◌, ◌≤◌, ◌∷◌, inl, inr, ℕ, List, [], ◌++◌, refl, sym, subst, ◌∙◌, ap, append_assoc, append-nil, Option, Some, None, Result, Ok, Err, arith}
 use Rattle.engine_ports.specs.Rose.{Rose}
 use Rattle.engine_ports.specs.Source.{Gave, SourceView, SourceGave}
 use Rattle.engine_ports.specs.Sink.{Took, SinkView, SinkTook, WriteSays}
-use Rattle.engine_ports.specs.Clock.{Handed, ClockView, ClockHanded}
+use Rattle.engine_ports.specs.Clock.{Handed, ClockView, ClockHanded, ClockStood}
 use Rattle.engine_ports.specs.Memory.{Moments, IsMoment, told_by}
 use Rattle.engine_ports.specs.declared.ports.Failed.{Failed}
 
@@ -74,6 +74,10 @@ sink_on u v w x y f g = record {
 
 pub clock_none : (v : ClockView) → ClockHanded v [] v
 clock_none v = record { handed = handed_none v.moments; stops = omega arith }
+
+-- where the moments stand, none was handed
+pub clock_stood : (v v' : ClockView) → ClockStood v v' → ClockHanded v [] v'
+clock_stood v v' f = record { handed = subst (Handed v.moments []) (sym f.moments) (handed_none v.moments); stops = f.stops }
 
 pub clock_on : (u v w : ClockView) (x y : List ℕ) → ClockHanded u x v → ClockHanded v y w → ClockHanded u (x ++ y) w
 clock_on u v w x y f g = record {

@@ -1,5 +1,5 @@
 -- What a clock tells. own: the daemon's view of time, in milliseconds since 1970.
-use Rattle.std.specs.Prelude.{ℕ, ◌≡◌, ◌≤◌, List, [], ◌++◌, max, Option, Some, None}
+use Rattle.std.specs.Prelude.{ℕ, ◌≡◌, ◌≤◌, List, ◌++◌, max, Option, Some, None}
 use Rattle.engine_ports.specs.Rose.{Rose}
 use Rattle.engine_ports.specs.declared.ports.Pause.{Pause}
 use Rattle.engine_ports.specs.declared.ports.Pause.TheVariants as pause
@@ -25,10 +25,15 @@ pub record ClockHanded (v : ClockView) (ms : List ℕ) (v' : ClockView) : Type 0
   pub handed : Handed v.moments ms v'.moments
   pub stops : v.stops ≤ v'.stops
 
--- what a pause says: no moment was handed, and a stop is counted
+-- the moments to come stand as they stood, and the count did not fall
+pub record ClockStood (v v' : ClockView) : Type 0 where
+  pub moments : v'.moments ≡ v.moments
+  pub stops : v.stops ≤ v'.stops
+
+-- what a pause says: it takes no moment away, and a stop is counted
 abbrev pub PauseSays : Pause → ClockView → ClockView → Type 0
-PauseSays pause.Go v v' = ClockHanded v [] v'
-PauseSays pause.Stop v v' = ClockHanded v [] v' × Rose v.stops v'.stops
+PauseSays pause.Go v v' = ClockStood v v'
+PauseSays pause.Stop v v' = ClockStood v v' × Rose v.stops v'.stops
 
 -- a second clock with the same count, which tells no moments
 abbrev pub twin_of : ClockView → ClockView

@@ -107,7 +107,7 @@ adds ch h h' own k handed c result legal at calls says = record {
     legal = legal;
     own_calls = ap (filter is_call) at ∙ filter-append is_call h own ∙ ap (λ x. filter is_call h ++ x) calls;
     looks = omega arith;
-    found_busy = omega arith;
+    looked = λ e. absurd (false≢true (sym e));
     stays = record { joined_calls = refl; number = refl; pair = refl; charter = refl; alone = refl; home = refl };
   };
   says = subst (λ x. TurnSays ch (state_after ch x) k handed c result own) (sym (append-nil h)) says;

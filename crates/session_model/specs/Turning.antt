@@ -1,6 +1,7 @@
 -- What a turn does, whoever else may take turns. own: turns of this project.
 use Rattle.std.specs.Prelude.{ℕ, ◌≡◌, ◌≤◌, ◌⊎◌, ◌==◌, ◌&&◌, Bool, true, false, List, [], ◌∷◌, ◌++◌, Option, Some, None, IsTrue, IsFalse}
 use Rattle.std.specs.List.{filter}
+use Rattle.engine_ports.specs.Rose.{Rose}
 use Rattle.engine_text.specs.declared.call.Call.{Call}
 use Rattle.engine_text.specs.declared.call.Call.TheVariants as call
 use Rattle.engine_text.specs.declared.reply.Reply.{Reply}
@@ -99,7 +100,8 @@ pub record Turns (k : ℕ) (p q : PassView) : Type 0 where
   pub legal : IsLegal q.charter q.seen
   pub own_calls : q.own_calls ≡ p.own_calls ++ calls_of k own
   pub looks : p.looks ≤ q.looks
-  pub found_busy : p.found_busy ≤ q.found_busy
+  -- where others may take turns, the history was looked at anew
+  pub looked : IsFalse p.alone → Rose p.looks q.looks
   pub stays : Stays p q
 
 -- the state that it found

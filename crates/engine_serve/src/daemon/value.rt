@@ -36,7 +36,7 @@ fn turned(reply: Reply) -> Turned
 }
 
 impl Daemon {
-    ghost use Rattle.std.specs.Prelude.{ℕ, [], IfOk, IsTrue};
+    ghost use Rattle.std.specs.Prelude.{ℕ, [], IfOk, IsTrue, length};
     ghost use Rattle.std.specs.Option.{option_map};
     ghost use Rattle.call_bounds.specs.Soundness.{IsSound};
     ghost use Rattle.session_model.specs.Turning.{MayAsk, Turn};
@@ -63,6 +63,13 @@ impl Daemon {
             opening: moment,
             greatest,
         })
+    }
+
+    /// How many steps its history has.
+    pub fn steps(&self) -> u64
+        ensures { result ≡ length self.now.stored.steps.items }
+    {
+        self.stored.steps.len() as u64
     }
 
     /// Makes every step that is due at or before the moment that counts, and then the call.
