@@ -15,7 +15,7 @@ use Rattle.session_model.specs.Pass.{PassView, IsConnection}
 use Rattle.session_model.specs.Turning.{Turns, Turn, TurnSays, MayAsk, HasBegun, ends_ticket}
 use Rattle.session_model.specs.Exchange.{IsQuiet}
 use Rattle.session_model.proofs.HistoryLemmas.{uncalled, quiet_same}
-use Rattle.engine_serve.specs.Storing.{pass_of, is_call}
+use Rattle.daemon_core.specs.Storing.{pass_of, is_call}
 use Rattle.engine_conformance.specs.Crowding.{pass_among}
 use Rattle.engine_conformance.specs.Other.{nameless}
 

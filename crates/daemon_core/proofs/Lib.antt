@@ -1,0 +1,3 @@
+pub mod BuiltLemmas
+pub mod DueLemmas
+pub mod DaemonLemmas

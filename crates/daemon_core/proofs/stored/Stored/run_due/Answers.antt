@@ -1,0 +1,11 @@
+use Rattle.std.proofs.Common.{◌∙◌, sym}
+use Rattle.daemon_core.proofs.DueLemmas.{one_more}
+use Rattle.daemon_core.proofs.stored.Stored.run_due.Goals as goal
+
+pub due-preserved : goal.due-preserved
+due-preserved c =
+    let first = c.args.self.now in
+    let d = c.due.self in
+    let r = c.step_due.new.self in
+    one_more c.args.moment first.machine.state d.machine.state r.machine.state first.steps.items d.steps.items r.steps.items
+    c.requires c.due.invariant (sym c.acts.ensures ∙ c.due-test.true) c.in_ok-step_due.ensures.made

@@ -1,0 +1,4 @@
+pub mod Built
+pub mod Whole
+pub mod Storing
+pub mod Passing

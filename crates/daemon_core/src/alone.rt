@@ -1,0 +1,42 @@
+// The owner of a daemon, who takes all turns.
+ghost use Rattle.std.specs.Prelude.{◌≡◌, refl};
+ghost use Rattle.daemon_core.specs.Passing.{whole_pass};
+
+use crate::{Daemon, Turns};
+use engine_text::Call;
+use session_model::Turned;
+use std::alloc::Global;
+
+/// The owner of a daemon, who takes all turns.
+#[derive(Drop)]
+pub struct Alone {
+    daemon: Daemon,
+}
+
+impl Alone {
+    ghost use Rattle.daemon_core.specs.Passing.{alone_pass};
+
+    pub fn new(daemon: Daemon) -> Alone
+        ensures { alone_pass result ≡ whole_pass daemon }
+    {
+        Alone { daemon }
+    }
+
+    pub fn into_daemon(self) -> Daemon
+        ensures { whole_pass result ≡ alone_pass self }
+    {
+        self.daemon
+    }
+}
+
+impl Turns for Alone {
+    ghost pass = { λ a. whole_pass a.daemon };
+
+    fn turn(&mut self, alloc: Global, conn: u32, handed: u64, call: Option<&Call>) -> Turned {
+        self.daemon.turn(alloc, conn, handed, call)
+    }
+
+    ghost sound = { λ a. a.daemon.legal };
+
+    ghost counted = { λ a. refl };
+}

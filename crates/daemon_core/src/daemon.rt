@@ -1,0 +1,109 @@
+// The one daemon value.
+ghost use Rattle.std.specs.Prelude.{◌≡◌, ◌<◌, ◌≤◌, ◌^◌, length};
+ghost use Rattle.std.specs.Coded.{Coded-set};
+ghost use Rattle.machine_model.specs.History.{IsLegal, state_after, greatest_moment};
+ghost use Rattle.machine_model.proofs.Histories.{IsLegal-prop};
+ghost use Rattle.daemon_core.specs.Storing.{charter_of, turned_by};
+
+use crate::moment::moment_used;
+use crate::room::has_room;
+use crate::stored::Stored;
+use container_machine::Machine;
+use engine_text::{Call, NoMemory, Reply};
+use session_model::Turned;
+use std::alloc::Global;
+
+/// A machine and its history so far, under what no step changes: the seed of ids, the moment of the
+/// opening in milliseconds, and the greatest number of calls.
+#[derive(Drop)]
+pub struct Daemon {
+    pub(crate) stored: Stored,
+    pub(crate) seed: [u8; 32],
+    pub(crate) opening: u64,
+    pub(crate) greatest: u64,
+    pub(crate) ghost state: { stored ≡ record stored { machine = record stored.machine { state = state_after (charter_of seed opening greatest) stored.steps.items } } } by { Coded-set stored-code stored _ },
+    pub(crate) ghost legal: { IsLegal (charter_of seed opening greatest) stored.steps.items } by { IsLegal-prop (charter_of seed opening greatest) stored.steps.items },
+    pub(crate) ghost counted: { length stored.steps.items < 2 ^ 64 },
+}
+
+/// The answer of a turn by the reply to its call.
+fn turned(reply: Reply) -> Turned
+    ensures { result ≡ turned_by reply }
+{
+    match reply {
+        Reply::Begun { ticket } => Turned::Begun { ticket },
+        reply => Turned::Replied(reply),
+    }
+}
+
+impl Daemon {
+    ghost use Rattle.std.specs.Prelude.{ℕ, [], IfOk, IsTrue, length};
+    ghost use Rattle.std.specs.Option.{option_map};
+    ghost use Rattle.call_bounds.specs.Soundness.{IsSound};
+    ghost use Rattle.session_model.specs.Turning.{MayAsk, Turn};
+    ghost use Rattle.daemon_core.specs.Built.{is_served, AreBuilt};
+    ghost use Rattle.daemon_core.specs.Storing.{charter_of, pass_of, IsStored, IsClear, Ends};
+    ghost use Rattle.daemon_core.specs.Passing.{charter, whole_pass};
+
+    /// A daemon without history. The moment is at most the greatest one.
+    pub fn new(
+        alloc: Global,
+        seed: [u8; 32],
+        moment: u64,
+        greatest: u64,
+    ) -> Result<Daemon, NoMemory>
+        requires { moment ≤ greatest_moment }
+        ensures { IfOk result (λ d. whole_pass d ≡ pass_of (charter_of seed moment greatest) []) }
+    {
+        Ok(Daemon {
+            stored: Stored {
+                machine: Machine::new(alloc, seed, moment),
+                steps: Vec::new(alloc),
+            },
+            seed,
+            opening: moment,
+            greatest,
+        })
+    }
+
+    /// How many steps its history has.
+    pub fn steps(&self) -> u64
+        ensures count { result ≡ length self.now.stored.steps.items }
+        ensures stored { IsStored (charter self.now) self.now.stored.steps.items }
+    {
+        self.stored.steps.len() as u64
+    }
+
+    /// Makes every step that is due at or before the moment that counts, and then the call.
+    pub fn turn(&mut self, alloc: Global, conn: u32, handed: u64, call: Option<&Call>) -> Turned
+        requires may { MayAsk (charter self.old) conn self.old.stored.steps.items (option_map (λ c. c.now) call) }
+        requires built { AreBuilt (option_map (λ c. c.now) call) }
+        ensures { Turn conn handed (option_map (λ c. c.now) call.entry) result (whole_pass self.old) (whole_pass self.new) }
+    {
+        let moment = moment_used(self.stored.machine.now(), handed);
+        match self.stored.run_due(alloc, moment) {
+            Ok(()) => match call {
+                None => Turned::Nothing,
+                Some(call) => self.make(alloc, conn, moment, call),
+            },
+            Err(NoMemory) => Turned::NoMemory,
+        }
+    }
+
+    // Makes the call behind all that is due by its moment.
+    fn make(&mut self, alloc: Global, conn: u32, moment: u64, call: &Call) -> Turned
+        requires sound { IsSound call.now }
+        requires built { IsTrue (is_served call.now) }
+        requires at { IsClear self.old.stored.machine.state moment }
+        ensures charter { charter self.new ≡ charter self.old }
+        ensures ends { Ends (charter self.old) self.old.stored.machine.state conn moment call.now result self.old.stored.steps.items self.new.stored.steps.items }
+    {
+        if !has_room(&self.stored.machine, self.greatest, call) {
+            return Turned::JournalFull;
+        }
+        match self.stored.make(alloc, conn, moment, call) {
+            Ok(reply) => turned(reply),
+            Err(NoMemory) => Turned::NoMemory,
+        }
+    }
+}

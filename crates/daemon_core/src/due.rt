@@ -1,0 +1,31 @@
+// The steps that are due.
+ghost use Rattle.std.specs.Prelude.{◌≡◌, ◌≤◌, false, OnOk};
+ghost use Rattle.machine_model.specs.History.{acts_by, latest};
+ghost use Rattle.daemon_core.specs.Storing.{AddsDues};
+
+use crate::room::has_steps;
+use crate::stored::Stored;
+use engine_text::NoMemory;
+use std::alloc::Global;
+
+impl Stored {
+    /// Whether a step is due at or before the moment, and can still be made.
+    fn acts(&self, moment: u64) -> bool
+        ensures { result ≡ acts_by self.now.machine.state moment }
+    {
+        self.machine.is_due(moment) && has_steps(&self.machine)
+    }
+
+    /// Makes the steps that are due at or before the moment, until there are none, no more can be
+    /// made, or memory is refused.
+    pub fn run_due(&mut self, alloc: Global, moment: u64) -> Result<(), NoMemory>
+        requires { moment ≤ latest self.old.machine.state }
+        ensures made { AddsDues moment self.old.machine.state self.new.machine.state self.old.steps.items self.new.steps.items }
+        ensures all { OnOk result (acts_by self.new.machine.state moment ≡ false) }
+    {
+        'due: while self.acts(moment) {
+            self.step_due(alloc)?;
+        }
+        Ok(())
+    }
+}

@@ -1,0 +1,30 @@
+// Turns on the one daemon.
+ghost use Rattle.std.specs.Prelude.{ℕ};
+ghost use Rattle.std.specs.Option.{option_map};
+ghost use Rattle.machine_model.specs.History.{IsLegal};
+ghost use Rattle.session_model.specs.Pass.{PassView, IsNumber, HasItsCalls};
+ghost use Rattle.session_model.specs.Turning.{MayAsk, Turn};
+ghost use Rattle.daemon_core.specs.Built.{AreBuilt};
+
+use engine_text::Call;
+use session_model::Turned;
+use std::alloc::Global;
+
+/// Turns on the one daemon, by whoever holds a pass to it.
+pub trait Turns: Sized {
+    ghost pass: { Self → PassView };
+
+    /// Makes every step that is due at or before the moment that counts of the handed one, in
+    /// milliseconds, and then the call. It may want memory, but not for a drop.
+    fn turn(&mut self, alloc: Global, conn: u32, handed: u64, call: Option<&Call>) -> Turned
+        requires number { IsNumber (pass self.old).number conn }
+        requires may { MayAsk (pass self.old).charter conn (pass self.old).seen (option_map (λ c. c.now) call) }
+        requires built { AreBuilt (option_map (λ c. c.now) call) }
+        ensures { Turn conn handed (option_map (λ c. c.now) call.entry) result (pass self.old) (pass self.new) };
+
+    /// What was seen is legal.
+    ghost sound: { (t : Self) → IsLegal (pass t).charter (pass t).seen };
+
+    /// Of the calls that it has seen, just those of its number are its own.
+    ghost counted: { (t : Self) → HasItsCalls (pass t) };
+}
