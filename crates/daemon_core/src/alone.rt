@@ -1,5 +1,6 @@
 // The owner of a daemon, who takes all turns.
 ghost use Rattle.std.specs.Prelude.{◌≡◌, refl};
+ghost use Rattle.session_model.proofs.PassLemmas.{none_joined};
 ghost use Rattle.daemon_core.specs.Passing.{whole_pass};
 
 use crate::{Daemon, Turns};
@@ -38,5 +39,5 @@ impl Turns for Alone {
 
     ghost sound = { λ a. a.daemon.legal };
 
-    ghost counted = { λ a. refl };
+    ghost counted = { λ a. record { own = refl; joined = none_joined a.daemon.stored.steps.items } };
 }

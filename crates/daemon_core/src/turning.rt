@@ -25,6 +25,7 @@ pub trait Turns: Sized {
     /// What was seen is legal.
     ghost sound: { (t : Self) → IsLegal (pass t).charter (pass t).seen };
 
-    /// Of the calls that it has seen, just those of its number are its own.
+    /// Of the calls that it has seen, just those of its number are its own, and those of each joined
+    /// number stand with it.
     ghost counted: { (t : Self) → HasItsCalls (pass t) };
 }

@@ -1,5 +1,5 @@
 -- What a turn does, whoever else may take turns. own: turns of this project.
-use Rattle.std.specs.Prelude.{ℕ, ◌≡◌, ◌≤◌, ◌⊎◌, ◌==◌, ◌&&◌, Bool, true, false, List, [], ◌∷◌, ◌++◌, Option, Some, None, IsTrue, IsFalse}
+use Rattle.std.specs.Prelude.{ℕ, ◌≡◌, ◌≤◌, ◌⊎◌, ◌==◌, ◌&&◌, Bool, false, List, [], ◌∷◌, ◌++◌, Option, Some, None, IsTrue, IsFalse}
 use Rattle.std.specs.List.{filter}
 use Rattle.engine_ports.specs.Rose.{Rose}
 use Rattle.engine_text.specs.declared.call.Call.{Call}
