@@ -26,4 +26,3 @@ pub use limits::{BODY_LIMIT, FIELD_LIMIT, HEAD_LIMIT};
 pub use reader::{Next, RequestReader, Stopped};
 pub use shown_fields::Fields;
 pub use view::{Buffers, RequestView};
-

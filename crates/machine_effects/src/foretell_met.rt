@@ -103,7 +103,12 @@ impl Tables {
     }
 
     // The numbers of the running execs that live on.
-    pub(super) fn running_after(&self, alloc: Global, number: u64, moment: u64) -> Result<Vec<u64>, NoMemory>
+    pub(super) fn running_after(
+        &self,
+        alloc: Global,
+        number: u64,
+        moment: u64,
+    ) -> Result<Vec<u64>, NoMemory>
         ensures { IfOk result (λ v. v.items ≡ running_after number (at_moment moment self.now.state)) }
     {
         let running = self.running(alloc, number)?;
@@ -217,7 +222,7 @@ impl Tables {
     ) -> Result<(), NoMemory>
         ensures { OnOk result (out.new.items ≡ out.old.items
             ++ told_deliver last code h.now.container.number (container_in h.now)
-                script.now (at_moment moment self.now.state)) }
+            script.now (at_moment moment self.now.state)) }
     {
         if last {
             self.tell_met(alloc, code, h, script, moment, out)

@@ -19,7 +19,6 @@ use Rattle.machine_model.specs.Effects.Cancel.{cancelled, cancel_restart}
 use Rattle.machine_model.specs.Effects.Halt.{signal_used, seconds_used, lesser, set_deadline, halt}
 use Rattle.machine_model.specs.Effects.Meet.{end_of, by_effect, stepped, step_process, running, thaw_execs, wake_parts, thaw_container, send, woken, meet_signal}
 use Rattle.machine_model.specs.Due.{op_effect, stop_deadline, died, removal_deadline, restarted, restart_timer, due_effect}
-use Rattle.machine_model.proofs.ListLemmas.{all_append}
 use Rattle.machine_model.proofs.ChangeLemmas.{all_removed}
 use Rattle.machine_model.proofs.ObeyLemmas.{found_all}
 use Rattle.machine_model.proofs.Tables.ProcessLemmas.{changed_stands}

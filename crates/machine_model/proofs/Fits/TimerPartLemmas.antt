@@ -1,5 +1,5 @@
 -- How changes of timers change what one sees of a container.
-use Rattle.std.proofs.Common.{◌≡◌, ◌≢◌, ℕ, ◌≤◌, ◌==◌, Bool, true, false, List, [], ◌∷◌, ◌++◌, Option, Some, None, if◌then◌else◌, refl, ap, sym, ◌∙◌, subst, arith}
+use Rattle.std.proofs.Common.{◌≡◌, ◌≢◌, ℕ, ◌≤◌, ◌==◌, Bool, true, false, List, [], ◌∷◌, Option, Some, None, if◌then◌else◌, refl, ap, sym, ◌∙◌, subst, arith}
 use Rattle.std.proofs.lemmas.Bool.{eqb-true, eq-eqb}
 use Rattle.std.specs.List.{AllByRecursion}
 use Rattle.container_table.specs.Timers.{is_timer, timer_in, cleared, with_timer, is_listed_before}
@@ -8,7 +8,7 @@ use Rattle.container_table.proofs.PlacedLemmas.{all_placed}
 use Rattle.machine_model.specs.State.{State}
 use Rattle.machine_model.specs.Chain.{change}
 use Rattle.machine_model.specs.Consistency.{is_there, AreOther, AreSingle}
-use Rattle.machine_model.proofs.ListLemmas.{all_append, all_weaken}
+use Rattle.machine_model.proofs.ListLemmas.{all_weaken}
 use Rattle.machine_model.proofs.ChangeLemmas.{all_removed}
 use Rattle.machine_model.proofs.Fits.PartLemmas.{Parts, parts_of, IsRanked, Leads}
 use Rattle.machine_model.proofs.ObeyLemmas.{both_true}
