@@ -1,3 +1,10 @@
 pub mod TimerFacts
 pub mod LeastLemmas
 pub mod PlacedLemmas
+pub mod SearchLemmas
+pub mod TextLemmas
+pub mod HeldLemmas
+pub mod IndexLemmas
+pub mod PrefixLemmas
+pub mod KeptLemmas
+pub mod TimerLemmas

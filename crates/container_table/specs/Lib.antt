@@ -1,4 +1,12 @@
 pub mod Lists
 pub mod Reference
 pub mod Timers
+pub mod Tables
 pub mod Order
+pub mod Search
+pub mod Starts
+pub mod Held
+pub mod DueOrders
+pub mod ContainersInside
+pub mod TimersInside
+pub mod TableInside

@@ -1,2 +1,12 @@
-//! Containers by id, name and prefix, and their timers, as definitions alone.
+//! Containers by number, id, name and prefix, and their timers.
 #![tactic(auto)]
+
+mod blank;
+mod boxes;
+mod containers;
+mod entries;
+mod lookups;
+mod table;
+mod timers;
+
+pub use table::Table;

@@ -1,0 +1,193 @@
+-- Containers by number, and the indexes of a table.
+use Rattle.std.proofs.Common.{◌≡◌, ℕ, suc, zero, ◌<◌, ◌≤◌, Bool, true, false, if◌then◌else◌, List, [], ◌∷◌, ◌++◌, length, get_or, map, Option, Some, None, Result, Ok, Err, find, refl, sym, ◌∙◌, subst, ap, arith, Ordering, MatchResult}
+use Rattle.std.specs.Prelude.{◌==◌, nat_lt}
+use Rattle.std.specs.List.{AllByRecursion, remove}
+use Rattle.std.proofs.Math.ListN.{set}
+use Rattle.std.specs.List.Sorted.{IsBinarySearchResult, IsSearchInRange}
+use Rattle.std.specs.Ordering.{nat_cmp, ordering_then, ordering_index}
+use Rattle.std.specs.Cmp.{IsStrictWeakOrder}
+use Rattle.std.proofs.lemmas.Cmp.{nat_cmp_total, nat_list_cmp_total}
+use Rattle.std.proofs.lemmas.List.Sorted.{ranks_by, IsStrictWeakOrder-by_number}
+use Rattle.std.proofs.lemmas.Bool.Decides.{nat_tests}
+use Rattle.std.specs.declared.boxed.Box.{Box}
+use Rattle.std.specs.declared.cmp.Ordering.TheVariants.{Less, Equal, Greater}
+use Rattle.engine_text.specs.declared.container.Container.{Container}
+use Rattle.engine_text.specs.Texts.{same_bytes}
+use Rattle.container_table.specs.Lists.{remove_first, update_first}
+use Rattle.container_table.specs.Order.{IsInOrder}
+use Rattle.container_table.specs.Search.{HoldsOf, Parts}
+use Rattle.container_table.specs.Starts.{front}
+use Rattle.container_table.specs.Tables.{numbered}
+use Rattle.container_table.specs.declared.entries.Key.{Key}
+use Rattle.container_table.specs.declared.entries.Entry.{Entry}
+use Rattle.container_table.specs.Held.{contents, key_text, entry_of, entry_order, found_text, is_numbered_before, is_sorted_before, sorted_by, IsIndex, IsLocated, IsPlaced}
+use Rattle.container_table.proofs.PlacedLemmas.{AreAlone, all_imp, all_in_order, ordered}
+use Rattle.container_table.proofs.SearchLemmas.{Rises, rises_made, found_place, holds_back, parts_back, holds_on, parts_on, find_none, all_of_parts}
+use Rattle.container_table.proofs.TextLemmas.{order, level, below, above, whole_order, is_lt-Less, places_rise, same_if_equal}
+
+-- ---- the two orders
+
+pub number_order : IsStrictWeakOrder is_numbered_before
+number_order = IsStrictWeakOrder-by_number (λ (c : Container). c.number)
+
+pub text_order : (key : Key) → IsStrictWeakOrder (is_sorted_before key)
+text_order key = ranks_by nat_list_cmp_total (key_text key)
+
+-- ---- containers by number
+
+other_number : (c d : Container) (n : ℕ) → is_numbered_before c d ≡ true → (c.number == n) ≡ true → (d.number == n) ≡ false
+other_number c d n e f = grind (arith, nat_tests, e, f)
+
+pub numbers_alone : (n : ℕ) (cs : List Container) → IsInOrder is_numbered_before cs → AreAlone (λ c. c.number == n) cs
+numbers_alone n [] h = tt
+numbers_alone n (c ∷ cs) h = (λ e. all_imp (λ d. is_numbered_before c d ≡ true) (λ d. (d.number == n) ≡ false) (λ d f. other_number c d n f e) cs h.0, numbers_alone n cs h.1)
+
+own_number : (c : Container) → (c.number == c.number) ≡ true
+own_number c = grind (arith, nat_tests)
+
+lower_number : (c d : Container) → is_numbered_before c d ≡ true → (c.number == d.number) ≡ false
+lower_number c d e = grind (arith, nat_tests, e)
+
+pub all_numbered : (cs : List Container) → IsInOrder is_numbered_before cs → AllByRecursion (λ c. numbered c.number cs ≡ Some c) cs
+all_numbered [] h = tt
+all_numbered (c ∷ cs) h = (rw (own_number c) refl, go cs h.0 (all_numbered cs h.1))
+  where
+    go : (l : List Container) → AllByRecursion (λ d. is_numbered_before c d ≡ true) l → AllByRecursion (λ d. numbered d.number cs ≡ Some d) l → AllByRecursion (λ d. numbered d.number (c ∷ cs) ≡ Some d) l
+    go [] e f = tt
+    go (d ∷ ds) e f = (rw (lower_number c d e.0) f.0, go ds e.1 f.1)
+
+pub find_value : {Z : Type 0} (p : Container → Bool) (bs : List (Box Container Z)) (i : ℕ) (d : Box Container Z) → AreAlone p (contents bs) → HoldsOf (λ c. p c ≡ true) (contents bs) i
+    → find p (contents bs) ≡ Some (get_or bs i d).value
+find_value p [] i d a h = absurd h
+find_value p (b ∷ bs) zero d a h = rw h refl
+find_value {Z} p (b ∷ bs) (suc i) d a h = go (p b.value) refl (find_value p bs i d a.1 h)
+  where
+    none_passes : (l : List Container) (i : ℕ) → AllByRecursion (λ y. p y ≡ false) l → HoldsOf (λ y. p y ≡ true) l i → ⊥
+    none_passes [] i e f = f
+    none_passes (y ∷ ys) zero e f = let is : false ≡ true = sym e.0 ∙ f in absurd (cc)
+    none_passes (y ∷ ys) (suc i) e f = none_passes ys i e.1 f
+
+    go : (t : Bool) → p b.value ≡ t → find p (contents bs) ≡ Some (get_or bs i d).value → (if t then Some b.value else find p (contents bs)) ≡ Some (get_or bs i d).value
+    go true e more = absurd (none_passes (contents bs) i (a.0 e) h)
+    go false e more = more
+
+no_passing : (p : Container → Bool) (l : List Container) (i : ℕ) → AllByRecursion (λ y. p y ≡ false) l → HoldsOf (λ y. p y ≡ true) l i → ⊥
+no_passing p [] i e f = f
+no_passing p (y ∷ ys) zero e f = let is : false ≡ true = sym e.0 ∙ f in absurd (cc)
+no_passing p (y ∷ ys) (suc i) e f = no_passing p ys i e.1 f
+
+same_number : (a n : ℕ) → (a == n) ≡ true → a ≡ n
+same_number a n e = grind (arith, nat_tests, e)
+
+pub number_at : {Z : Type 0} (n : ℕ) (bs : List (Box Container Z)) (i : ℕ) (d : Box Container Z) → HoldsOf (λ c. (c.number == n) ≡ true) (contents bs) i → (get_or bs i d).value.number ≡ n
+number_at n [] i d h = absurd h
+number_at n (b ∷ bs) zero d h = same_number b.value.number n h
+number_at n (b ∷ bs) (suc i) d h = number_at n bs i d h
+
+pub contents_removed : {Z : Type 0} (p : Container → Bool) (bs : List (Box Container Z)) (i : ℕ) → AreAlone p (contents bs) → HoldsOf (λ c. p c ≡ true) (contents bs) i
+    → contents (remove bs i) ≡ remove_first p (contents bs)
+contents_removed p [] i a h = absurd h
+contents_removed p (b ∷ bs) zero a h = rw h refl
+contents_removed {Z} p (b ∷ bs) (suc i) a h = go (p b.value) refl (contents_removed p bs i a.1 h)
+  where
+    go : (t : Bool) → p b.value ≡ t → contents (remove bs i) ≡ remove_first p (contents bs)
+        → b.value ∷ contents (remove bs i) ≡ (if t then contents bs else b.value ∷ remove_first p (contents bs))
+    go true e more = absurd (no_passing p (contents bs) i (a.0 e) h)
+    go false e more = ap (λ l. b.value ∷ l) more
+
+pub contents_changed : {Z : Type 0} (p : Container → Bool) (f : Container → Container) (bs : List (Box Container Z)) (i : ℕ) (d : Box Container Z) (w : Box Container Z) → AreAlone p (contents bs)
+    → HoldsOf (λ c. p c ≡ true) (contents bs) i → w.value ≡ f (get_or bs i d).value → contents (set bs i w) ≡ update_first p f (contents bs)
+contents_changed p f [] i d w a h e = absurd h
+contents_changed p f (b ∷ bs) zero d w a h e = rw h (ap (λ c. c ∷ contents bs) e)
+contents_changed {Z} p f (b ∷ bs) (suc i) d w a h e = go (p b.value) refl (contents_changed p f bs i d w a.1 h e)
+  where
+    go : (t : Bool) → p b.value ≡ t → contents (set bs i w) ≡ update_first p f (contents bs)
+        → b.value ∷ contents (set bs i w) ≡ (if t then f b.value ∷ contents bs else b.value ∷ update_first p f (contents bs))
+    go true g more = absurd (no_passing p (contents bs) i (a.0 g) h)
+    go false g more = ap (λ l. b.value ∷ l) more
+
+pub contents_more : {Z : Type 0} (bs : List (Box Container Z)) (b : Box Container Z) → contents (bs ++ b ∷ []) ≡ contents bs ++ b.value ∷ []
+contents_more [] b = refl
+contents_more (x ∷ xs) b = ap (λ l. x.value ∷ l) (contents_more xs b)
+
+at_number : (a n : ℕ) → nat_cmp a n ≡ Equal → (a == n) ≡ true
+at_number a n e = let is : a ≡ n = level a n e in grind (arith, nat_tests)
+
+is_less : (a b : ℕ) → nat_lt a b ≡ true → nat_cmp a b ≡ Less
+is_less a b e = rw e refl
+
+rises_numbers : {Z : Type 0} (n : ℕ) (bs : List (Box Container Z)) → IsInOrder is_numbered_before (contents bs) → Rises (λ b. ordering_index (nat_cmp b.value.number n)) bs
+rises_numbers n [] h = tt
+rises_numbers {Z} n (b ∷ bs) h = (go bs h.0, rises_numbers n bs h.1)
+  where
+    go : (l : List (Box Container Z)) → AllByRecursion (λ d. is_numbered_before b.value d ≡ true) (contents l) → AllByRecursion (λ e. ordering_index (nat_cmp b.value.number n) ≤ ordering_index (nat_cmp e.value.number n)) l
+    go [] e = tt
+    go (x ∷ xs) e = (places_rise nat_cmp nat_cmp_total b.value.number x.value.number n (is_less b.value.number x.value.number e.0), go xs e.1)
+
+pub placed_by_number : {Z : Type 0} (n : ℕ) (bs : List (Box Container Z)) (r : Result ℕ ℕ) → IsInOrder is_numbered_before (contents bs) → IsSearchInRange r (length bs)
+    → IsBinarySearchResult (λ b. nat_cmp b.value.number n) bs r → IsPlaced (contents bs) n r
+placed_by_number {Z} n bs r h bound found = go r (found_place (λ b. nat_cmp b.value.number n) bs r (rises_numbers n bs h) bound found)
+  where
+    go : (r : Result ℕ ℕ) → MatchResult r (HoldsOf (λ b. nat_cmp b.value.number n ≡ Equal) bs) (Parts (λ b. nat_cmp b.value.number n ≡ Less) (λ b. nat_cmp b.value.number n ≡ Greater) bs) → IsPlaced (contents bs) n r
+    go (Ok i) m = holds_on (λ (b : Box Container Z). b.value) (λ b. nat_cmp b.value.number n ≡ Equal) (λ c. (c.number == n) ≡ true) bs i (λ b e. at_number b.value.number n e) m
+    go (Err i) m = parts_on (λ (b : Box Container Z). b.value) (λ b. nat_cmp b.value.number n ≡ Less) (λ b. nat_cmp b.value.number n ≡ Greater) (λ c. nat_cmp c.number n ≡ Less) (λ c. nat_cmp c.number n ≡ Greater) bs i (λ b e. e) (λ b e. e) m
+
+not_less : (a n : ℕ) → nat_cmp a n ≡ Less → (a == n) ≡ false
+not_less a n e = let less : a < n = below a n e in grind (arith, nat_tests)
+
+not_greater : (a n : ℕ) → nat_cmp a n ≡ Greater → (a == n) ≡ false
+not_greater a n e = let less : n < a = above a n e in grind (arith, nat_tests)
+
+pub none_numbered : (n : ℕ) (cs : List Container) (i : ℕ) → Parts (λ c. nat_cmp c.number n ≡ Less) (λ c. nat_cmp c.number n ≡ Greater) cs i → numbered n cs ≡ None
+none_numbered n cs i h =
+    find_none (λ c. c.number == n) cs
+    (all_of_parts (λ c. nat_cmp c.number n ≡ Less) (λ c. nat_cmp c.number n ≡ Greater) (λ c. (c.number == n) ≡ false) cs i (λ c e. not_less c.number n e) (λ c e. not_greater c.number n e) h)
+
+-- ---- indexes
+
+-- an entry's text compares as its container's
+entry_is : (key : Key) (cs : List Container) (text : List ℕ) (c : Container) → numbered c.number cs ≡ Some c → entry_order key cs text (entry_of key c) ≡ order (key_text key c) text
+entry_is key cs text c e =
+    ap (λ (o : Option Container). ordering_then (order (front 8 (key_text key c)) (front 8 text)) (order (found_text key o) text)) e ∙ whole_order 8 (key_text key c) text
+
+pub entries_are : (key : Key) (cs : List Container) (text : List ℕ) → IsInOrder is_numbered_before cs
+    → AllByRecursion (λ c. entry_order key cs text (entry_of key c) ≡ order (key_text key c) text) (sorted_by key cs)
+entries_are key cs text h =
+    all_in_order (is_sorted_before key) (λ c. entry_order key cs text (entry_of key c) ≡ order (key_text key c) text) cs
+    (all_imp (λ c. numbered c.number cs ≡ Some c) (λ c. entry_order key cs text (entry_of key c) ≡ order (key_text key c) text) (λ c e. entry_is key cs text c e) cs (all_numbered cs h))
+
+rises_texts : (key : Key) (text : List ℕ) (c d : Container) → is_sorted_before key c d ≡ true → ordering_index (order (key_text key c) text) ≤ ordering_index (order (key_text key d) text)
+rises_texts key text c d e = places_rise order nat_list_cmp_total (key_text key c) (key_text key d) text (is_lt-Less (order (key_text key c) (key_text key d)) e)
+
+pub located : (key : Key) (cs : List Container) (text : List ℕ) (entries : List Entry) (r : Result ℕ ℕ) → IsInOrder is_numbered_before cs → IsIndex key cs entries
+    → IsSearchInRange r (length entries) → IsBinarySearchResult (entry_order key cs text) entries r → IsLocated key cs text r
+located key cs text entries r h index bound found = go r (found_place (entry_order key cs text) (map (entry_of key) l) r up bound' found')
+  where
+    l : List Container
+    l = sorted_by key cs
+
+    are : AllByRecursion (λ c. entry_order key cs text (entry_of key c) ≡ order (key_text key c) text) l
+    are = entries_are key cs text h
+
+    up : Rises (λ e. ordering_index (entry_order key cs text e)) (map (entry_of key) l)
+    up = rises_made (entry_of key) (λ e. ordering_index (entry_order key cs text e)) (λ c. ordering_index (order (key_text key c) text)) (is_sorted_before key) l
+        (ordered (is_sorted_before key) (text_order key) cs index.apart)
+        (all_imp (λ c. entry_order key cs text (entry_of key c) ≡ order (key_text key c) text) (λ c. ordering_index (entry_order key cs text (entry_of key c)) ≡ ordering_index (order (key_text key c) text)) (λ c e. ap ordering_index e) l are)
+        (rises_texts key text)
+
+    bound' : IsSearchInRange r (length (map (entry_of key) l))
+    bound' = subst (λ (es : List Entry). IsSearchInRange r (length es)) index.is bound
+
+    found' : IsBinarySearchResult (entry_order key cs text) (map (entry_of key) l) r
+    found' = subst (λ (es : List Entry). IsBinarySearchResult (entry_order key cs text) es r) index.is found
+
+    as_whole : (o : Ordering) → AllByRecursion (λ c. entry_order key cs text (entry_of key c) ≡ o → order (key_text key c) text ≡ o) l
+    as_whole o = all_imp (λ c. entry_order key cs text (entry_of key c) ≡ order (key_text key c) text) (λ c. entry_order key cs text (entry_of key c) ≡ o → order (key_text key c) text ≡ o) (λ c e f. sym e ∙ f) l are
+
+    go : (r : Result ℕ ℕ) → MatchResult r (HoldsOf (λ e. entry_order key cs text e ≡ Equal) (map (entry_of key) l)) (Parts (λ e. entry_order key cs text e ≡ Less) (λ e. entry_order key cs text e ≡ Greater) (map (entry_of key) l))
+        → IsLocated key cs text r
+    go (Ok i) m = holds_back (entry_of key) (λ e. entry_order key cs text e ≡ Equal) (λ c. same_bytes (key_text key c) text ≡ true) l i
+        (all_imp (λ c. entry_order key cs text (entry_of key c) ≡ Equal → order (key_text key c) text ≡ Equal) (λ c. entry_order key cs text (entry_of key c) ≡ Equal → same_bytes (key_text key c) text ≡ true)
+        (λ c e f. same_if_equal (key_text key c) text (e f)) l (as_whole Equal)) m
+    go (Err i) m = parts_back (entry_of key) (λ e. entry_order key cs text e ≡ Less) (λ e. entry_order key cs text e ≡ Greater) (λ c. order (key_text key c) text ≡ Less) (λ c. order (key_text key c) text ≡ Greater) l i
+        (as_whole Less) (as_whole Greater) m

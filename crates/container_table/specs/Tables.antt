@@ -1,0 +1,51 @@
+-- What a table holds, and its containers by number, id and name (own).
+use Rattle.std.specs.Prelude.{ℕ, ◌==◌, List, [], Option, find}
+use Rattle.engine_text.specs.Texts.{same_bytes}
+use Rattle.engine_text.specs.declared.container.Container.{Container}
+use Rattle.engine_text.specs.declared.container.Life.{Life}
+use Rattle.container_table.specs.Lists.{update_first, remove_first}
+use Rattle.engine_text.specs.declared.step.DueAction.{DueAction}
+
+-- Containers in order of number, timers by rank and number, and for how many of each there is memory.
+pub record Holdings : Type 0 where
+  pub containers : List Container
+  pub timers : List DueAction
+  pub places : ℕ
+  pub timer_places : ℕ
+
+-- The table in which nothing is.
+abbrev pub no_holdings : Holdings
+no_holdings = record { containers = []; timers = []; places = 0; timer_places = 0 }
+
+-- The container of that number.
+abbrev pub numbered : ℕ → List Container → Option Container
+numbered n cs = find (λ c. c.number == n) cs
+
+-- The container of that id.
+abbrev pub with_id : List ℕ → List Container → Option Container
+with_id id cs = find (λ c. same_bytes c.id id) cs
+
+-- The container of that name.
+abbrev pub named : List ℕ → List Container → Option Container
+named name cs = find (λ c. same_bytes c.name name) cs
+
+-- Without the container of that number.
+abbrev pub without : ℕ → List Container → List Container
+without n cs = remove_first (λ c. c.number == n) cs
+
+-- The container of that number has another name.
+abbrev pub renamed : ℕ → List ℕ → List Container → List Container
+renamed n name cs = update_first (λ c. c.number == n) (λ c. record c { name = name }) cs
+
+-- The container of that number has another life.
+abbrev pub relived : ℕ → Life → List Container → List Container
+relived n life cs = update_first (λ c. c.number == n) (λ c. record c { life = life }) cs
+
+-- What a table holds of containers alone, and of timers alone.
+pub record Kept : Type 0 where
+  pub containers : List Container
+  pub places : ℕ
+
+pub record Timed : Type 0 where
+  pub timers : List DueAction
+  pub places : ℕ

@@ -1,0 +1,176 @@
+// Containers and their timers, whole and indexed.
+ghost use Rattle.std.specs.Prelude.{◌≡◌, ◌+◌, ◌<◌, ◌≤◌, [], ◌∷◌, ◌++◌, Some, None, IsSome, OnOk, length, slice_get, option_copied};
+ghost use Rattle.std.specs.List.{AllByRecursion};
+ghost use Rattle.container_table.specs.Reference.{container_by};
+ghost use Rattle.container_table.specs.Timers.{timer_in, cleared, with_timer, least};
+ghost use Rattle.container_table.specs.Tables.{no_holdings, numbered, with_id, named, without, renamed};
+
+use super::containers::Containers;
+use super::timers::Timers;
+use engine_text::{Container, DueAction, Found, NoMemory, Text};
+use std::alloc::Global;
+use std::marker::Model;
+
+/// Containers in order of number, and timers by rank and number.
+#[derive(Drop)]
+pub struct Table {
+    containers: Containers,
+    timers: Timers,
+}
+
+impl Model for Table {
+    ghost use Rattle.container_table.specs.Tables.{Holdings};
+
+    ghost Value = { Holdings };
+
+    ghost use Rattle.container_table.specs.TableInside.{holdings_of};
+
+    ghost view = { holdings_of };
+}
+
+impl Table {
+    /// Neither containers nor timers; it takes no memory.
+    pub fn new(alloc: Global) -> Table
+        ensures { result ≡ no_holdings }
+    {
+        Table {
+            containers: Containers::new(alloc),
+            timers: Timers::new(alloc),
+        }
+    }
+
+    /// Makes room for n containers and n timers more.
+    pub fn reserve(&mut self, alloc: Global, n: usize) -> Result<(), NoMemory>
+        ensures containers { self.new.containers ≡ self.old.containers }
+        ensures timers { self.new.timers ≡ self.old.timers }
+        ensures places { self.old.places ≤ self.new.places }
+        ensures timer_places { self.old.timer_places ≤ self.new.timer_places }
+        ensures ok { OnOk result (length self.new.containers + n ≤ self.new.places) }
+        ensures timers_ok { OnOk result (length self.new.timers + n ≤ self.new.timer_places) }
+    {
+        self.reserve_containers(alloc, n)?;
+        self.reserve_timers(n)
+    }
+
+    /// Makes room for n containers more.
+    pub fn reserve_containers(&mut self, alloc: Global, n: usize) -> Result<(), NoMemory>
+        ensures containers { self.new.containers ≡ self.old.containers }
+        ensures timers { self.new.timers ≡ self.old.timers }
+        ensures places { self.old.places ≤ self.new.places }
+        ensures timer_places { self.new.timer_places ≡ self.old.timer_places }
+        ensures ok { OnOk result (length self.new.containers + n ≤ self.new.places) }
+    {
+        self.containers.reserve(alloc, n)
+    }
+
+    /// Makes room for n timers more.
+    pub fn reserve_timers(&mut self, n: usize) -> Result<(), NoMemory>
+        ensures containers { self.new.containers ≡ self.old.containers }
+        ensures timers { self.new.timers ≡ self.old.timers }
+        ensures places { self.new.places ≡ self.old.places }
+        ensures timer_places { self.old.timer_places ≤ self.new.timer_places }
+        ensures ok { OnOk result (length self.new.timers + n ≤ self.new.timer_places) }
+    {
+        self.timers.reserve(n)
+    }
+
+    /// What the reference names: first by full id, then by name, then by a prefix of one id.
+    pub fn find(&self, reference: &str) -> Found
+        ensures { result ≡ container_by self.now.containers reference.now }
+    {
+        self.containers.find(reference)
+    }
+
+    /// The container of that number.
+    pub fn find_number(&self, number: u64) -> Option<&Container>
+        ensures { option_copied result ≡ numbered number self.now.containers }
+    {
+        self.containers.find_number(number)
+    }
+
+    /// The container of that name.
+    pub fn find_name(&self, name: &str) -> Option<&Container>
+        ensures { option_copied result ≡ named name.now self.now.containers }
+    {
+        self.containers.find_name(name)
+    }
+
+    /// How many containers there are.
+    pub fn len(&self) -> usize
+        ensures { result ≡ length self.now.containers }
+    {
+        self.containers.len()
+    }
+
+    /// The container at that place, in order of creation.
+    pub fn at(&self, place: usize) -> &Container
+        requires { place < length self.now.containers }
+        ensures { slice_get self.now.containers place ≡ Some result.now }
+    {
+        self.containers.at(place)
+    }
+
+    /// Adds a container, of which number, id and name are new; it takes no memory.
+    pub fn insert(&mut self, container: Container)
+        requires above { AllByRecursion (λ c. c.number < container.number) self.old.containers }
+        requires id { with_id container.id self.old.containers ≡ None }
+        requires name { named container.name self.old.containers ≡ None }
+        requires room { length self.old.containers < self.old.places }
+        ensures { self.new
+            ≡ record self.old { containers = self.old.containers ++ container ∷ [] } }
+    {
+        self.containers.insert(container)
+    }
+
+    /// Gives a container a name, which no container has; it takes no memory.
+    pub fn rename(&mut self, number: u64, name: Text)
+        requires stands { IsSome (numbered number self.old.containers) }
+        requires name { named name self.old.containers ≡ None }
+        ensures { self.new
+            ≡ record self.old { containers = renamed number name self.old.containers } }
+    {
+        self.containers.rename(number, name)
+    }
+
+    /// Takes a container out; it takes no memory, and its place stays for another.
+    pub fn remove(&mut self, number: u64) -> Container
+        requires { IsSome (numbered number self.old.containers) }
+        ensures value { numbered number self.old.containers ≡ Some result }
+        ensures rest { self.new
+            ≡ record self.old { containers = without number self.old.containers } }
+    {
+        self.containers.remove(number)
+    }
+
+    /// There is a timer of that rank and number at the moment, in the place of an earlier one; it
+    /// takes no memory.
+    pub fn set(&mut self, moment: u64, rank: u8, number: u64)
+        requires { length (with_timer moment rank number self.old.timers)
+            ≤ self.old.timer_places }
+        ensures { self.new
+            ≡ record self.old { timers = with_timer moment rank number self.old.timers } }
+    {
+        self.timers.set(moment, rank, number)
+    }
+
+    /// The timer of that rank and number is gone; it takes no memory.
+    pub fn clear(&mut self, rank: u8, number: u64)
+        ensures { self.new ≡ record self.old { timers = cleared rank number self.old.timers } }
+    {
+        self.timers.clear(rank, number)
+    }
+
+    /// The timer of that rank and number.
+    pub fn timer(&self, rank: u8, number: u64) -> Option<DueAction>
+        ensures { result ≡ timer_in rank number self.now.timers }
+    {
+        self.timers.timer(rank, number)
+    }
+
+    /// The least of the timers, by moment, rank and number.
+    pub fn least(&self) -> Option<DueAction>
+        ensures { result ≡ least self.now.timers }
+    {
+        self.timers.least()
+    }
+}
