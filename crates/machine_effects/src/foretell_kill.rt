@@ -241,4 +241,21 @@ impl Tables {
         add(out, event)?;
         self.tell_aimed_met(alloc, code, goal, h, script, moment, out)
     }
+
+    /// A stop deadline: event kill and SIGKILL, with the goal that the container has.
+    pub fn tell_deadline(
+        &self,
+        alloc: Global,
+        code: Option<u8>,
+        h: &Held,
+        script: &Option<Script>,
+        moment: u64,
+        out: &mut Vec<Event>,
+    ) -> Result<(), NoMemory>
+        ensures { OnOk result (out.new.items ≡ out.old.items
+            ++ told_kill 9 code (container_in h.now) script.now (at_moment moment self.now.state)) }
+    {
+        let goal = h.container.life.goal;
+        self.tell_kill(alloc, 9, code, goal, h, script, moment, out)
+    }
 }
