@@ -31,7 +31,7 @@ use Rattle.machine_model.specs.Room.{HasRoom}
 use Rattle.machine_model.specs.History.{Charter, after_step, reply_of, IsLawful, IsTimely, is_due, has_steps, is_drop}
 use Rattle.machine_model.proofs.ChainLemmas.{Keeps, At, keeps_and_then, keeps_each, launch-clock}
 use Rattle.session_model.specs.Moments.{ComesTo}
-use Rattle.daemon_core.specs.Built.{is_served}
+use Rattle.call_bounds.specs.Built.{is_built}
 use Rattle.daemon_core.specs.Whole.{IsAnswer}
 use Rattle.daemon_core.specs.Storing.{IsClear}
 
@@ -108,7 +108,7 @@ status_whole t Status.Dead c = answers_whole t 409 _ (omega arith, omega arith)
 
 -- ---- the calls that are served
 
-built_whole : (c : Call) → IsTrue (is_served c) → (k t : ℕ) (s : State) → IsWhole t (outcome_of c k (at_moment t s))
+built_whole : (c : Call) → IsTrue (is_built c) → (k t : ℕ) (s : State) → IsWhole t (outcome_of c k (at_moment t s))
 built_whole (call.Create spec) h k t s = image_whole t (is_image spec.image) spec (at_moment t s) refl
 built_whole (call.Start target) h k t s =
     found_whole t (container_by s.containers target) target (λ c. by_status c.life.status c) (λ c. status_whole t c.life.status c) (at_moment t s) refl
@@ -119,30 +119,30 @@ built_whole (call.List all limit filter) h k t s = answers_whole t 200 _ (omega 
 built_whole c h k t s = absurd (false≢true h)
 
 -- a call that is served stands at its moment
-pub built_at : (c : Call) → IsTrue (is_served c) → (k : ℕ) (s : State) (t : ℕ) → (after_step s (Step.Call k t c)).clock ≡ t
+pub built_at : (c : Call) → IsTrue (is_built c) → (k : ℕ) (s : State) (t : ℕ) → (after_step s (Step.Call k t c)).clock ≡ t
 built_at c h k s t = (built_whole c h k t s).clock
 
 -- and is answered whole
-pub built_answers : (c : Call) → IsTrue (is_served c) → (s : State) (k t : ℕ) → IsAnswer (reply_of s k t c)
+pub built_answers : (c : Call) → IsTrue (is_built c) → (s : State) (k t : ℕ) → IsAnswer (reply_of s k t c)
 built_answers c h s k t = (built_whole c h k t s).answer
 
 -- ---- what it isn't, and when it may be made
 
-pub built_drop : (c : Call) → IsTrue (is_served c) → IsFalse (is_drop c)
+pub built_drop : (c : Call) → IsTrue (is_built c) → IsFalse (is_drop c)
 built_drop (call.Create spec) h = refl
 built_drop (call.Start target) h = refl
 built_drop (call.Inspect target) h = refl
 built_drop (call.List all limit filter) h = refl
 built_drop c h = absurd (false≢true h)
 
-pub built_comes : (c : Call) (ms : List ℕ) → IsTrue (is_served c) → ComesTo true c ms
+pub built_comes : (c : Call) (ms : List ℕ) → IsTrue (is_built c) → ComesTo true c ms
 built_comes (call.Create spec) ms h = tt
 built_comes (call.Start target) ms h = tt
 built_comes (call.Inspect target) ms h = tt
 built_comes (call.List all limit filter) ms h = tt
 built_comes c ms h = absurd (false≢true h)
 
-pub built_ready : (c : Call) (s : State) → IsTrue (is_served c) → is_ready s c ≡ true
+pub built_ready : (c : Call) (s : State) → IsTrue (is_built c) → is_ready s c ≡ true
 built_ready (call.Create spec) s h = refl
 built_ready (call.Start target) s h = refl
 built_ready (call.Inspect target) s h = refl
@@ -154,7 +154,7 @@ and_right true y h = h
 and_right false y h = absurd (false≢true h)
 
 -- where there is room for it a step may be made
-pub room_steps : (ch : Charter) (s : State) (c : Call) → IsTrue (is_served c) → HasRoom ch s c → IsTrue (has_steps s)
+pub room_steps : (ch : Charter) (s : State) (c : Call) → IsTrue (is_built c) → HasRoom ch s c → IsTrue (has_steps s)
 room_steps ch s (call.Create spec) built h = and_right _ (has_steps s) h
 room_steps ch s (call.Start target) built h = and_right _ (has_steps s) h
 room_steps ch s (call.Inspect target) built h = and_right _ (has_steps s) h
@@ -169,7 +169,7 @@ not_due true false more idle = absurd (false≢true more)
 timely : (s : State) (t : ℕ) → IsTrue (has_steps s) → IsClear s t → IsTimely s t
 timely s t steps turn = (turn.from, turn.until, not_due (is_due s t) (has_steps s) steps turn.idle)
 
-pub built_lawful : (c : Call) (s : State) (k t : ℕ) → IsTrue (is_served c) → IsSound c → IsTrue (has_steps s) → IsClear s t
+pub built_lawful : (c : Call) (s : State) (k t : ℕ) → IsTrue (is_built c) → IsSound c → IsTrue (has_steps s) → IsClear s t
     → IsLawful s (Step.Call k t c)
 built_lawful (call.Create spec) s k t built sound steps turn = (sound, (timely s t steps turn, steps, refl))
 built_lawful (call.Start target) s k t built sound steps turn = (sound, (timely s t steps turn, steps, refl))

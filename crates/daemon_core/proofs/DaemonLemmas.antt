@@ -18,7 +18,7 @@ use Rattle.machine_model.proofs.Histories.{run_append, legal_append}
 use Rattle.session_model.specs.declared.turned.Turned.{Turned}
 use Rattle.session_model.specs.declared.turned.Turned.TheVariants as T
 use Rattle.session_model.specs.Turning.{Turn, TurnSays, Makes, MakesAt, GivesNoTicket}
-use Rattle.daemon_core.specs.Built.{is_served, AreBuilt}
+use Rattle.call_bounds.specs.Built.{is_built, AreBuilt}
 use Rattle.daemon_core.specs.Passing.{charter}
 use Rattle.daemon_core.specs.declared.stored.Stored.{Stored}
 use Rattle.daemon_core.specs.declared.daemon.Daemon.{Daemon}
@@ -70,7 +70,7 @@ room_same ch s (call.Take n) = refl
 room_same ch s (call.Drop n) = refl
 room_same ch s c = refl
 
-pub lawful_by : (ch : Charter) (s : State) (k t : ℕ) (c : Call) → IsTrue (is_served c) → IsSound c → IsClear s t → HasRoom ch s c
+pub lawful_by : (ch : Charter) (s : State) (k t : ℕ) (c : Call) → IsTrue (is_built c) → IsSound c → IsClear s t → HasRoom ch s c
     → IsLawful s (Step.Call k t c)
 lawful_by ch s k t c built sound turn room = built_lawful c s k t built sound (room_steps ch s c built room) turn
 
@@ -80,7 +80,7 @@ ends_by ch s h h' k t c (reply.Answer status body) a room at is = (room, at, is)
 ends_by ch s h h' k t c r a room at is = absurd a
 
 -- the call was made
-pub ends_made : (ch : Charter) (s s' : State) (h h' : List Step) (k t : ℕ) (c : Call) (r : Reply) → IsTrue (is_served c)
+pub ends_made : (ch : Charter) (s s' : State) (h h' : List Step) (k t : ℕ) (c : Call) (r : Reply) → IsTrue (is_built c)
     → HasRoom ch s c → Adds k t c r s s' h h' → Ends ch s k t c (turned_by r) h h'
 ends_made ch s s' h h' k t c r built room made =
     ends_by ch s h h' k t c r (subst IsAnswer (sym made.reply) (built_answers c built s k t)) room made.steps_are made.reply
@@ -153,7 +153,7 @@ short ch u s s' h h' k handed c st built at made =
     adds_due ch u s s' h h' k handed c T.NoMemory st made
     (says_short ch s k handed c made.dues built (subst (λ v. SomeDues s v made.dues) (sym at) made.some))
 
-makes_of : (ch : Charter) (s : State) (k handed : ℕ) (c : Call) (own : List Step) (r : Reply) → IsTrue (is_served c)
+makes_of : (ch : Charter) (s : State) (k handed : ℕ) (c : Call) (own : List Step) (r : Reply) → IsTrue (is_built c)
     → ((dues : List Step) × DuesUntil s (moment_used s handed) dues × MakesAt ch s k (moment_used s handed) c dues own r)
     → Makes ch s k handed c own r
 makes_of ch s k handed (call.Drop n) own r built m = absurd (false≢true built)
@@ -165,7 +165,7 @@ no_ticket r a = absurd a
 
 -- the call was answered behind the due steps
 pub answered : (ch : Charter) (u : ℕ) (s s1 : State) (h h1 h2 : List Step) (k handed : ℕ) (c : Call) (result : Turned)
-    → Stands ch s h → IsTrue (is_served c) → moment_used s handed ≡ u → AddsDues u s s1 h h1 → acts_by s1 u ≡ false
+    → Stands ch s h → IsTrue (is_built c) → moment_used s handed ≡ u → AddsDues u s s1 h h1 → acts_by s1 u ≡ false
     → IsLegal ch h2 → Ends ch s1 k u c result h1 h2 → Turn k handed (Some c) result (pass_of ch h) (pass_of ch h2)
 answered ch u s s1 h h1 h2 k handed c (T.Replied r) st built at made idle legal (room, at', is) =
     let last : List Step = Step.Call k u c ∷ [] in
@@ -196,7 +196,7 @@ answered ch u s s1 h h1 h2 k handed c result st built at made idle legal ends = 
 
 -- under the charter that it leaves
 pub answered_as : (ch ch' : Charter) (u : ℕ) (s s1 : State) (h h1 h2 : List Step) (k handed : ℕ) (c : Call) (result : Turned)
-    → ch' ≡ ch → Stands ch s h → IsTrue (is_served c) → moment_used s handed ≡ u → AddsDues u s s1 h h1 → acts_by s1 u ≡ false
+    → ch' ≡ ch → Stands ch s h → IsTrue (is_built c) → moment_used s handed ≡ u → AddsDues u s s1 h h1 → acts_by s1 u ≡ false
     → IsLegal ch' h2 → Ends ch s1 k u c result h1 h2 → Turn k handed (Some c) result (pass_of ch h) (pass_of ch' h2)
 answered_as ch ch' u s s1 h h1 h2 k handed c result same st built at made idle legal ends =
     subst (λ x. Turn k handed (Some c) result (pass_of ch h) (pass_of x h2)) (sym same)

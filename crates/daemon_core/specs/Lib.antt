@@ -1,4 +1,3 @@
-pub mod Built
 pub mod Whole
 pub mod Storing
 pub mod Passing

@@ -41,7 +41,7 @@ impl Daemon {
     ghost use Rattle.std.specs.Option.{option_map};
     ghost use Rattle.call_bounds.specs.Soundness.{IsSound};
     ghost use Rattle.session_model.specs.Turning.{MayAsk, Turn};
-    ghost use Rattle.daemon_core.specs.Built.{is_served, AreBuilt};
+    ghost use Rattle.call_bounds.specs.Built.{is_built, AreBuilt};
     ghost use Rattle.daemon_core.specs.Storing.{charter_of, pass_of, IsStored, IsClear, Ends};
     ghost use Rattle.daemon_core.specs.Passing.{charter, whole_pass};
 
@@ -93,7 +93,7 @@ impl Daemon {
     // Makes the call behind all that is due by its moment.
     fn make(&mut self, alloc: Global, conn: u32, moment: u64, call: &Call) -> Turned
         requires sound { IsSound call.now }
-        requires built { IsTrue (is_served call.now) }
+        requires built { IsTrue (is_built call.now) }
         requires at { IsClear self.old.stored.machine.state moment }
         ensures charter { charter self.new ≡ charter self.old }
         ensures ends { Ends (charter self.old) self.old.stored.machine.state conn moment call.now result self.old.stored.steps.items self.new.stored.steps.items }

@@ -2,7 +2,7 @@
 ghost use Rattle.std.specs.Prelude.{◌≡◌, ℕ, IfOk, OnErr, IsTrue};
 ghost use Rattle.engine_text.specs.declared.step.Step as steps;
 ghost use Rattle.machine_model.specs.History.{IsLawful};
-ghost use Rattle.daemon_core.specs.Built.{is_served};
+ghost use Rattle.call_bounds.specs.Built.{is_built};
 ghost use Rattle.daemon_core.specs.Storing.{Adds, AddsDue};
 
 use container_machine::{Machine, Prepared};
@@ -26,7 +26,7 @@ impl Stored {
         call: &Call,
     ) -> Result<Reply, NoMemory>
         requires lawful { IsLawful self.old.machine.state (steps.Step.Call conn moment call.now) }
-        requires built { IsTrue (is_served call.now) }
+        requires built { IsTrue (is_built call.now) }
         ensures made { IfOk result (λ r. Adds conn moment call.now r self.old.machine.state self.new.machine.state self.old.steps.items self.new.steps.items) }
         ensures state { OnErr result (self.new.machine.state ≡ self.old.machine.state) }
         ensures steps { OnErr result (self.new.steps.items ≡ self.old.steps.items) }

@@ -4,7 +4,7 @@ ghost use Rattle.std.specs.Option.{option_map};
 ghost use Rattle.machine_model.specs.History.{IsLegal};
 ghost use Rattle.session_model.specs.Pass.{PassView, IsNumber, HasItsCalls};
 ghost use Rattle.session_model.specs.Turning.{MayAsk, Turn};
-ghost use Rattle.daemon_core.specs.Built.{AreBuilt};
+ghost use Rattle.call_bounds.specs.Built.{AreBuilt};
 
 use engine_text::Call;
 use session_model::Turned;
