@@ -26,7 +26,8 @@ impl Object {
 
     /// With this member.
     pub fn with(self, alloc: Global, key: &str, value: Value) -> Result<Object, AllocError>
-        ensures { IfOk result (λ o. members_in o ≡ json.put key.now (view value) (members_in self)) }
+        ensures { IfOk result
+            (λ o. members_in o ≡ json.put key.now (view value) (members_in self)) }
     {
         let mut map = self.map;
         put(&mut map, alloc, key, value)?;
@@ -53,7 +54,8 @@ impl Object {
     /// With this number.
     pub fn number(self, alloc: Global, key: &str, number: u64) -> Result<Object, AllocError>
         ensures { IfOk result
-            (λ o. members_in o ≡ json.put key.now (json.number (json.unsigned number)) (members_in self)) }
+            (λ o. members_in o
+            ≡ json.put key.now (json.number (json.unsigned number)) (members_in self)) }
     {
         self.with(alloc, key, Value::from(number))
     }
