@@ -130,9 +130,9 @@ fn is_answer(answer: &DirectAnswer, words: &str) -> bool {
 }
 
 // Whether a class is the direct answer that these words tell.
-fn is_direct(class: Option<Class>, words: &str) -> bool {
+fn is_direct(class: &Option<Class>, words: &str) -> bool {
     match class {
-        Some(Class::Direct(answer)) => is_answer(&answer, words),
+        Some(Class::Direct(answer)) => is_answer(answer, words),
         _ => false,
     }
 }
@@ -143,7 +143,7 @@ fn holds(alloc: Global, routes: &Routes, line: &str) -> Result<bool, NoMemory> {
     let (target, rest) = cut(rest);
     let (body, answer) = cut(rest);
     let class = class_of(alloc, routes, method, target, body)?;
-    Ok(is_direct(class, answer))
+    Ok(is_direct(&class, answer))
 }
 
 // The first line of a table whose request gets another answer.
@@ -199,9 +199,9 @@ fn name_of(spec: &CreateSpec) -> &str {
 }
 
 // Whether a call is a create of this name and of the one image.
-fn is_create(call: Option<Call>, name: &str) -> bool {
+fn is_create(call: &Option<Call>, name: &str) -> bool {
     match call {
-        Some(Call::Create(spec)) => name_of(&spec) == name && spec.image.is("engine/tools:latest"),
+        Some(Call::Create(spec)) => name_of(spec) == name && spec.image.is("engine/tools:latest"),
         _ => false,
     }
 }
@@ -209,7 +209,7 @@ fn is_create(call: Option<Call>, name: &str) -> bool {
 // Whether a target asks for a create of this name.
 fn creates(alloc: Global, target: &str, name: &str) -> Result<bool, NoMemory> {
     let call = asked(alloc, "POST", target, "{\"Image\":\"engine/tools:latest\"}")?;
-    Ok(is_create(call, name))
+    Ok(is_create(&call, name))
 }
 
 #[test]
@@ -222,7 +222,7 @@ fn a_create_has_the_name_of_its_query(rt: HostRuntime) -> Result<(), Fail> {
 }
 
 // Whether a call is a start of the container of this reference.
-fn is_start(call: Option<Call>, reference: &str) -> bool {
+fn is_start(call: &Option<Call>, reference: &str) -> bool {
     match call {
         Some(Call::Start { target }) => target.is(reference),
         _ => false,
@@ -230,7 +230,7 @@ fn is_start(call: Option<Call>, reference: &str) -> bool {
 }
 
 // Whether a call is an inspect of the container of this reference.
-fn is_inspect(call: Option<Call>, reference: &str) -> bool {
+fn is_inspect(call: &Option<Call>, reference: &str) -> bool {
     match call {
         Some(Call::Inspect { target }) => target.is(reference),
         _ => false,
@@ -240,14 +240,14 @@ fn is_inspect(call: Option<Call>, reference: &str) -> bool {
 #[test]
 fn a_start_is_asked_of_the_container_that_its_path_names(rt: HostRuntime) -> Result<(), Fail> {
     let call = asked(rt.alloc(), "POST", "/v1.43/containers/web/start?x=1", "")?;
-    assert!(rt; is_start(call, "web"));
+    assert!(rt; is_start(&call, "web"));
     Ok(())
 }
 
 #[test]
 fn an_inspect_is_asked_of_the_container_that_its_path_names(rt: HostRuntime) -> Result<(), Fail> {
     let call = asked(rt.alloc(), "GET", "/containers/%2Fweb/json", "")?;
-    assert!(rt; is_inspect(call, "/web"));
+    assert!(rt; is_inspect(&call, "/web"));
     Ok(())
 }
 
@@ -271,19 +271,19 @@ fn is_named(filter: &Filter, name: &str) -> bool {
 }
 
 // Whether a call is a list of all, of two at most, and of this name.
-fn lists_two(call: Option<Call>, name: &str) -> bool {
+fn lists_two(call: &Option<Call>, name: &str) -> bool {
     match call {
         Some(Call::List { all, limit, filter }) => {
-            all && limit == Some(2) && is_named(&filter, name)
+            *all && *limit == Some(2) && is_named(filter, name)
         }
         _ => false,
     }
 }
 
 // Whether a call is a list of what is up, without a limit and a filter.
-fn lists_what_is_up(call: Option<Call>) -> bool {
+fn lists_what_is_up(call: &Option<Call>) -> bool {
     match call {
-        Some(Call::List { all, limit, filter }) => !all && limit.is_none() && filter.len() == 0,
+        Some(Call::List { all, limit, filter }) => !*all && limit.is_none() && filter.len() == 0,
         _ => false,
     }
 }
@@ -292,14 +292,14 @@ fn lists_what_is_up(call: Option<Call>) -> bool {
 fn a_list_is_asked_as_its_query_says(rt: HostRuntime) -> Result<(), Fail> {
     let target = "/v1.43/containers/json?all=1&limit=2&filters={%22name%22:[%22web%22]}";
     let call = asked(rt.alloc(), "GET", target, "")?;
-    assert!(rt; lists_two(call, "web"));
+    assert!(rt; lists_two(&call, "web"));
     Ok(())
 }
 
 #[test]
 fn a_list_without_a_query_is_of_what_is_up(rt: HostRuntime) -> Result<(), Fail> {
     let call = asked(rt.alloc(), "GET", "/containers/json", "")?;
-    assert!(rt; lists_what_is_up(call));
+    assert!(rt; lists_what_is_up(&call));
     Ok(())
 }
 
@@ -318,6 +318,6 @@ fn asked_by(alloc: Global, bytes: &[u8]) -> Result<Option<Call>, NoMemory> {
 #[test]
 fn a_request_is_classified_as_it_was_read(rt: HostRuntime) -> Result<(), Fail> {
     let call = asked_by(rt.alloc(), REQUEST.as_bytes())?;
-    assert!(rt; is_create(call, "web"));
+    assert!(rt; is_create(&call, "web"));
     Ok(())
 }
