@@ -12,7 +12,7 @@ import urllib.parse
 HERE = os.path.dirname(os.path.abspath(__file__))
 PHRASES = {200: "OK", 201: "Created", 204: "No Content", 304: "Not Modified", 400: "Bad Request", 404: "Not Found",
            409: "Conflict", 413: "Payload Too Large", 417: "Expectation Failed", 431: "Request Header Fields Too Large",
-           501: "Not Implemented", 505: "HTTP Version Not Supported"}
+           501: "Not Implemented", 503: "Service Unavailable", 505: "HTTP Version Not Supported"}
 STDIO = "--stdio --clock 1700000000000:0"
 NOW = "2023-11-14T22:13:20.000000000Z"  # the moment 1700000000000
 NEVER = "0001-01-01T00:00:00Z"
@@ -28,10 +28,13 @@ USUAL = ('{"Hostname":"","Domainname":"","User":"","AttachStdin":false,"AttachSt
          '"Ulimits":null},"NetworkingConfig":{"EndpointsConfig":{}}}')
 
 
-# ---- ids: 24 bytes of the ChaCha20 keystream of the zero key on the stream n, and n
+# ---- ids: 24 bytes of the ChaCha20 keystream of the seed as its key on the stream n, and n
 
-def keystream(n):
-    state = list(struct.unpack("<4I", b"expand 32-byte k")) + [0] * 8 + [0, 0, n & 0xFFFFFFFF, n >> 32]
+ZEROS = bytes(32)
+
+
+def keystream(n, seed):
+    state = list(struct.unpack("<4I8I", b"expand 32-byte k" + seed)) + [0, 0, n & 0xFFFFFFFF, n >> 32]
     work = state[:]
 
     def quarter(a, b, c, d):
@@ -48,8 +51,8 @@ def keystream(n):
     return struct.pack("<16I", *((a + b) & 0xFFFFFFFF for a, b in zip(work, state)))
 
 
-def id_of(n):
-    return keystream(n)[:24].hex() + f"{n:016x}"
+def id_of(n, seed=ZEROS):
+    return keystream(n, seed)[:24].hex() + f"{n:016x}"
 
 
 # ---- requests
@@ -88,8 +91,8 @@ def bad(status):
     return message(status, PHRASES[status], close=True)
 
 
-def created(n):
-    return answer(201, compact({"Id": id_of(n), "Warnings": []}))
+def created(n, seed=ZEROS):
+    return answer(201, compact({"Id": id_of(n, seed), "Warnings": []}))
 
 
 def conflict(name, n):
@@ -148,6 +151,18 @@ scenario("create", WEB, created(0), comings=("pieces=1", "pieces=4096", "cuts"))
 scenario("nothing", "", "", comings=("pieces=1", "read=0"))
 scenario("create_failing", WEB, "", status=4, comings=("read=0", "write=0"))
 scenario("other_words", WEB, USAGE, status=2, words="--stdio --listen 127.0.0.1:1")
+
+# what the line sets: the seed of ids, the most entries of the journal, and what isn't built or is no line
+SEED = bytes(range(0xA0, 0xC0))
+scenario("seed", [WEB, create("db")], [created(0, SEED), created(1, SEED)], words=f"{STDIO} --seed {SEED.hex().upper()}")
+scenario("journal_of_one", [WEB, create("db"), get("/containers/json?all=1"), get("/_ping")],
+         [created(0), message(503, "journal is full"), message(503, "journal is full"),
+          answer(200, "OK", kind="text/plain; charset=utf-8")], words=f"{STDIO} --journal 1")
+scenario("connections", WEB, created(0), words=f"--connections 1 {STDIO}")
+scenario("listen", WEB, "not built\n", status=2, words="--listen 127.0.0.1:2375 --connections 5",
+         comings=("pieces=4096", "read=0", "write=0"))
+scenario("drill", WEB, "not built\n", status=2, words="--drill 100000 --clock 1700000000000:0")
+scenario("clock_twice", WEB, USAGE, status=2, words=f"{STDIO} --clock 1700000000000:0", comings=("pieces=4096", "write=0"))
 scenario("same_name", [WEB, WEB, create(), get("/containers/anon-1/json")],
          [created(0), conflict("web", 0), created(1), shown(1, "anon-1", ["hello"], "created")])
 scenario("names", [create("a"), create("ab"), create("%2Fab")],
@@ -255,6 +270,8 @@ def main():
                 told.append(f"== {name} cut after each byte\n{len(text) - 1} cuts: status 3, nothing written\n")
             elif how == "pieces":
                 told.append(f"== {name} in pieces of {number}\nstatus {status}\n{wanted}\n")
+            elif status == 2:  # nothing is read, and a write that fails stays untold
+                told.append(f"== {name} with {how} {number} failing\nstatus 2\n{wanted if how == 'read' else ''}\n")
             else:
                 told.append(f"== {name} with {how} {number} failing\nstatus 4\n\n")
     with open(f"{HERE}/stdin", "w", newline="") as file:
