@@ -12,10 +12,12 @@ use Rattle.machine_model.specs.Due.{least_due}
 use Rattle.machine_model.specs.Step.{or_still}
 use Rattle.machine_model.specs.History.{after_step, state_from, is_by, is_due, acts_by, has_steps, latest, SomeDues, DuesUntil, IsLawful, calls_of}
 use Rattle.machine_model.proofs.Histories.{state_append, lawful_append}
+use Rattle.machine_model.proofs.IdLemmas.{ids_differ}
+use Rattle.machine_model.proofs.MomentLemmas.{moves}
 use Rattle.container_machine.specs.Kept.{IsKept}
 use Rattle.container_machine.specs.Memory.{Memory}
 use Rattle.container_machine.specs.Prepared.{IsStepped}
-use Rattle.container_machine.proofs.Histories.{step_due}
+use Rattle.container_machine.proofs.Orderly.{orderly}
 use Rattle.session_model.proofs.DueLemmas.{some_clock}
 use Rattle.daemon_core.specs.Storing.{is_call, AddsDue, AddsDues, IsClear}
 
@@ -46,9 +48,9 @@ stepped (Some e) before after h = h.0
 -- it lies at the clock or later
 pub due_later : (s s' : State) → IsKept s → IsLawful s Step.Due → s' ≡ after_step s Step.Due → s.clock ≤ s'.clock
 due_later s s' kept lawful is =
-    let one = step_due s (least_due s) kept refl lawful.0 lawful.1 in
-    let at : s'.clock ≡ one.moment = ap (λ (y : State). y.clock) is ∙ one.timed.clock in
-    omega (arith, one.later, at)
+    let later : s.clock ≤ (after_step s Step.Due).clock = (moves s Step.Due (orderly s ids_differ kept).limits.dues lawful).1 in
+    let at : s'.clock ≡ (after_step s Step.Due).clock = ap (λ (y : State). y.clock) is in
+    omega (arith, later, at)
 
 -- ---- some
 
