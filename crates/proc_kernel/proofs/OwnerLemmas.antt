@@ -43,7 +43,7 @@ owners_push owners slots s owners' slots' e f g =
     f ∙ ap (λ l. l ++ s.owner ∷ []) e
     ∙ sym (ap (λ l. owners_of (map entry_in l)) g ∙ ap owners_of (map-append entry_in slots (s ∷ [])) ∙ map-append (λ (x : Entry). x.owner) (map entry_in slots) (entry_in s ∷ []))
 
-map_remove : {A B : Type 0} (f : A → B) (xs : List A) (n : ℕ) → map f (remove xs n) ≡ remove (map f xs) n
+pub map_remove : {A B : Type 0} (f : A → B) (xs : List A) (n : ℕ) → map f (remove xs n) ≡ remove (map f xs) n
 map_remove f xs n =
     map-append f (take n xs) (drop (suc n) xs)
     ∙ ap (λ l. l ++ map f (drop (suc n) xs)) (sym (take-map f n xs))

@@ -1,25 +1,28 @@
 ghost use Rattle.std.specs.Prelude.{◌≡◌, ℕ, Some, None, ◌<◌, ◌+◌, ◌≤◌, [], ◌∷◌, ◌++◌, position, All, IfOk, OnOk, OnErr, map, length, option_map, slice_get};
-ghost use Rattle.std.specs.VecDeque.{deque_len, deque_capacity};
 ghost use Rattle.proc_kernel.specs.Processes.{run_due, spawn, feed, feed_end, freeze, thaw, signal, CanThaw};
 ghost use Rattle.proc_kernel.specs.Foretelling.{code_at};
 ghost use Rattle.proc_kernel.specs.Tables.{Table, is_there, change, process_of, after_step, effect_at, without, due_at, due_in, length_at, room_at, begun, OfProcess};
 
-use super::rooms::{deepen, refill};
+use super::input::{Input, Place};
+use super::rooms::{fill_boxes, fill_pieces, refill};
 use super::seats::Seats;
 use super::slot::Slot;
 use engine_text::{Buffer, Bytes, Effect, NoMemory, Owner, Script, Signal};
 use std::alloc::Global;
-use std::collections::VecDeque;
 use std::marker::Model;
+
+/// More pieces than ever come to one kernel.
+const MOST_PIECES: usize = 0x8000_0000_0000_0000;
 
 /// Processes by their owners, and the room that was made for their next steps. Moments are
 /// milliseconds; an owner without a process is passed over by each call but `spawn`.
 #[derive(Drop)]
 pub struct Kernel {
     seats: Seats,
-    slots: Vec<Slot>,
-    depth: usize,
-    trays: Vec<VecDeque<Bytes>>,
+    slots: Vec<Box<Slot>>,
+    fed: usize,
+    boxes: Vec<Box<Slot>>,
+    pieces: Vec<Place>,
     buffers: Vec<Buffer>,
     spare: usize,
     bytes: usize,
@@ -47,8 +50,9 @@ impl Kernel {
         Kernel {
             seats: Seats::new(alloc),
             slots: Vec::new(alloc),
-            depth: 0,
-            trays: Vec::new(alloc),
+            fed: 0,
+            boxes: Vec::new(alloc),
+            pieces: Vec::new(alloc),
             buffers: Vec::new(alloc),
             spare: 0,
             bytes: 0,
@@ -66,12 +70,15 @@ impl Kernel {
         if records <= self.spare && bytes <= self.bytes {
             return Ok(());
         }
+        if MOST_PIECES - self.fed <= records {
+            return Err(NoMemory);
+        }
         self.seats.reserve(records)?;
         if self.slots.reserve(records).is_err() {
             return Err(NoMemory);
         }
-        let depth = self.depth;
-        self.depth = deepen(alloc, &mut self.slots, &mut self.trays, depth, records)?;
+        fill_boxes(alloc, &mut self.boxes, records)?;
+        fill_pieces(alloc, &mut self.pieces, records)?;
         refill(alloc, &mut self.buffers, self.bytes, records, bytes)?;
         self.spare = records;
         self.bytes = bytes;
@@ -157,9 +164,9 @@ impl Kernel {
         let Some(i) = self.seats.place_of(owner) else {
             return;
         };
-        let slot = &mut self.slots[i];
-        slot.feed(piece, moment);
-        self.depth = self.depth.min(slot.places());
+        let place = self.pieces.pop().unwrap();
+        self.fed += 1;
+        self.slots[i].feed(place, piece, moment);
     }
 
     /// Lets that process's next op take effect at its due moment.
@@ -199,10 +206,11 @@ impl Kernel {
         ensures bytes { self.new.bytes ≡ self.old.bytes }
     {
         self.spare -= 1;
-        let tray = self.trays.pop().unwrap();
-        let slot = Slot::begin(owner, script, moment, stdin, room, tray);
+        let mut place = self.boxes.pop().unwrap();
+        let input = Input::new(*self.slots.allocator());
+        *place = Slot::begin(owner, script, moment, stdin, room, input);
         self.seats.push_reserved(owner);
-        self.slots.push_reserved(slot);
+        self.slots.push_reserved(place);
     }
 
     /// Takes that process away.
