@@ -1,3 +1,4 @@
+pub mod ClockLemmas
 pub mod CountLemmas
 pub mod EventLemmas
 pub mod ExecLemmas

@@ -73,6 +73,7 @@ opens charter is = record {
   clock = is.1;
   few = (tt, tt, tt);
   ranges = (omega arith, tt, tt, tt);
+  past = (tt, tt);
   counts = record {
     tickets = omega arith;
     steps = omega arith;

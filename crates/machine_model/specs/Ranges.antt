@@ -41,9 +41,22 @@ abbrev pub IsByte : Option ℕ → Type 0
 IsByte None = Unit {0}
 IsByte (Some code) = code < 256
 
--- Codes and signals lie in their ranges, and a container has at most 16 mounts, each an event of its launch.
+-- A moment that is there lies at or before the clock.
+abbrev pub HasPassed : ℕ → Option ℕ → Type 0
+HasPassed clock None = Unit {0}
+HasPassed clock (Some moment) = moment ≤ clock
+
+-- A container was created, last launched and last ended at or before the clock: else inspect could tell a moment that is
+-- past the greatest.
+abbrev pub IsPast : ℕ → Life → Type 0
+IsPast clock l = (l.created ≤ clock) × HasPassed clock l.started × HasPassed clock l.finished
+
+-- Codes and signals lie in their ranges, no moment is past the clock, and a container has at most 16 mounts, each an event
+-- of its launch.
 pub record IsInRange (s : State) : Type 0 where
   pub processes : AreCoded s.processes
   pub lives : AllByRecursion (λ c. IsLifeInRange c.life) s.containers
   pub codes : AllByRecursion (λ x. IsByte x.code) s.execs
   pub mounts : AllByRecursion (λ c. length c.life.mounts ≤ 16) s.containers
+  pub moments : AllByRecursion (λ c. IsPast s.clock c.life) s.containers
+  pub volumes : AllByRecursion (λ v. v.created ≤ s.clock) s.volumes

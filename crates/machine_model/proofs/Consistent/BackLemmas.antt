@@ -283,5 +283,6 @@ form_of s h =
       clock = h.limits.clock;
       few = (h.ranges.mounts, mains.0.5, below);
       ranges = (h.numbers.first_pid, h.ranges.processes, h.ranges.lives, h.ranges.codes);
+      past = (h.ranges.moments, h.ranges.volumes);
       counts = counts_of s h;
     }

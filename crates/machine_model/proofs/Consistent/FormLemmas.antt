@@ -31,6 +31,7 @@ use Rattle.machine_model.proofs.Fits.FreshLemmas.{Fresh}
 use Rattle.machine_model.proofs.Fits.StepLemmas.{has_timers, own_container, all_fine}
 use Rattle.machine_model.proofs.Kept.EventLemmas.{Few, paid_for}
 use Rattle.machine_model.proofs.Kept.TimeLemmas.{FitsAt, Times}
+use Rattle.machine_model.proofs.Kept.ClockLemmas.{Past}
 use Rattle.machine_model.proofs.Kept.ProcessLemmas.{has_processes, within_limits, live_paid}
 use Rattle.machine_model.proofs.OwnerLemmas.{same_owner-refl}
 use Rattle.machine_model.proofs.Fold.TellLemmas.{Carried}
@@ -72,6 +73,7 @@ pub record KeptForm (s : State) : Type 0 where
   pub clock : s.clock ≤ greatest_moment
   pub few : Few s
   pub ranges : Carried s
+  pub past : Past s
   pub counts : Counts s
 
 -- ---- counts
@@ -169,7 +171,7 @@ consistent s h = record {
   numbers = record { next_number = h.counts.next_number; next_ticket = h.counts.next_ticket; next_pid = h.counts.next_pid; first_pid = h.mains.0.4 };
   execs = has_execs s h.mains h.execs;
   going = can_go_on s h.mains h.execs h.times;
-  ranges = record { processes = h.ranges.1; lives = h.ranges.2; codes = h.ranges.3; mounts = h.few.0 };
+  ranges = record { processes = h.ranges.1; lives = h.ranges.2; codes = h.ranges.3; mounts = h.few.0; moments = h.past.0; volumes = h.past.1 };
 }
 
 abbrev OutputsBelow : State → Type 0

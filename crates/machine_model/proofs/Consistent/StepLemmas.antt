@@ -27,6 +27,8 @@ use Rattle.machine_model.proofs.Costs.CallLemmas.{call_costs}
 use Rattle.machine_model.proofs.Kept.CountLemmas.{Counted, counted_priced}
 use Rattle.machine_model.proofs.Kept.EventLemmas.{Few, Paid, paid_priced, paid_for}
 use Rattle.machine_model.proofs.Kept.TimeLemmas.{Times, KeepsTimes, times_priced}
+use Rattle.machine_model.proofs.Kept.ClockLemmas.{Past, KeepsPast, past_at, past_priced}
+use Rattle.machine_model.proofs.MomentLemmas.{call_later}
 use Rattle.machine_model.proofs.Consistent.FormLemmas.{Counts, KeptForm, consistent, fresh_of, times_at, Opens, timely_opens, drop_opens, one_less, StepsFit, few_steps}
 use Rattle.machine_model.proofs.ObeyLemmas.{found_all}
 use Rattle.machine_model.proofs.Fold.HistoryLemmas.{folded_step}
@@ -67,12 +69,12 @@ number_fits s h = omega (arith, h.next_number, h.steps)
 -- ---- a step, by its effect
 
 form_after : (s : State) (t calls : ℕ) (x : Cost) (e : Effect) → calls ≤ 1 → IsMost x full → Counted x (at_moment t s) e → Paid x (at_moment t s) e → KeepsTimes x (at_moment t s) e → KeepsExecs (at_moment t s) e
-    → Times (at_moment t s) → t ≤ greatest_moment → StepsFit s e.state.tickets → KeptForm s
-    → Counts (finished calls e).state × Times (finished calls e).state × ((finished calls e).state.clock ≤ greatest_moment) × Few (finished calls e).state × Execs (finished calls e).state
-form_after s t calls x e once low counted paid times execs now until fits h =
+    → KeepsPast x (at_moment t s) e → s.clock ≤ t → Times (at_moment t s) → t ≤ greatest_moment → StepsFit s e.state.tickets → KeptForm s
+    → Counts (finished calls e).state × Times (finished calls e).state × ((finished calls e).state.clock ≤ greatest_moment) × Few (finished calls e).state × Execs (finished calls e).state × Past (finished calls e).state
+form_after s t calls x e once low counted paid times execs past later now until fits h =
     let pays = paid h.few in
     let clock : e.state.clock ≡ t = counted.clock in
-    (counts_after s t calls x e once low counted pays.1 fits h.counts, times now, omega (arith, clock, until), pays.0, execs h.execs)
+    (counts_after s t calls x e once low counted pays.1 fits h.counts, times now, omega (arith, clock, until), pays.0, execs h.execs, past (past_at s t later h.past))
 
 -- ---- calls
 
@@ -110,7 +112,7 @@ form_call s connection t c lawful h =
     let ready : IsTrue (is_ready m c) = subst IsTrue (sym (same_ready s t c)) opens.ready in
     let counted : Counted full m e = call_costs Counted counted_priced c connection m (λ p. lawful.0) (λ p. ready) in
     let all = form_after s t 1 full e (omega arith) (most_of full full refl) counted (call_costs Paid paid_priced c connection m (λ p. lawful.0) (λ p. ready)) (call_costs KeepsTimes times_priced c connection m (λ p. lawful.0) (λ p. ready))
-    (runs_call execs_closed c connection m) opens.times opens.clock (call_steps s connection t c lawful.1 h.counts counted.tickets) h in
+    (runs_call execs_closed c connection m) (call_costs KeepsPast past_priced c connection m (λ p. lawful.0) (λ p. ready)) (call_later s connection t c lawful.1) opens.times opens.clock (call_steps s connection t c lawful.1 h.counts counted.tickets) h in
     record {
       names = names_step s (Step.Call connection t c) (number_fits (finished 1 e).state all.0) h.names;
       mains = mains_step s (Step.Call connection t c) (consistent s h) (fresh_of s h.names h.execs) h.mains;
@@ -121,6 +123,7 @@ form_call s connection t c lawful h =
       clock = all.2;
       few = all.3;
       ranges = (folded_step s (Step.Call connection t c) (consistent s h) lawful).1;
+      past = all.5;
       counts = all.0;
     }
 
@@ -140,7 +143,8 @@ due_until s d e due =
 
 due_by : (s : State) (o : Option DueAction) → least_due s ≡ o → IsLawful s Step.Due → KeptForm s
     → Counts (or_still (step_of o s) s).state × Times (or_still (step_of o s) s).state × ((or_still (step_of o s) s).state.clock ≤ greatest_moment) × Few (or_still (step_of o s) s).state × Execs (or_still (step_of o s) s).state
-due_by s None e lawful h = (h.counts, h.times, h.clock, h.few, h.execs)
+    × Past (or_still (step_of o s) s).state
+due_by s None e lawful h = (h.counts, h.times, h.clock, h.few, h.execs, h.past)
 due_by s (Some d) e lawful h =
     let t : ℕ = d.moment in
     let m : State = at_moment t s in
@@ -148,7 +152,7 @@ due_by s (Some d) e lawful h =
     let counted : Counted due_cost m x = (costs_due counted_priced d).holds m in
     let more : length x.state.tickets ≤ length s.tickets + 0 = counted.tickets in
     form_after s t 0 due_cost x (omega arith) (most_of due_cost full refl) counted ((costs_due paid_priced d).holds m) ((costs_due times_priced d).holds m) (runs_due execs_closed d m)
-    (times_at s t (due_later s d e h) (due_low s d e) h.times) (due_until s d e lawful.1) (few_steps s x.state.tickets lawful.0 (omega (arith, more)) h.counts.tickets) h
+    ((costs_due past_priced d).holds m) (due_later s d e h) (times_at s t (due_later s d e h) (due_low s d e) h.times) (due_until s d e lawful.1) (few_steps s x.state.tickets lawful.0 (omega (arith, more)) h.counts.tickets) h
 
 form_due : (s : State) → IsLawful s Step.Due → KeptForm s → KeptForm (after_step s Step.Due)
 form_due s lawful h =
@@ -163,6 +167,7 @@ form_due s lawful h =
       clock = all.2;
       few = all.3;
       ranges = (folded_step s Step.Due (consistent s h) lawful).1;
+      past = all.5;
       counts = all.0;
     }
 

@@ -40,6 +40,7 @@ use Rattle.engine_text.specs.declared.script.Effect.TheVariants.{Lives, Wrote, E
 use Rattle.engine_text.specs.declared.step.DueAction.{DueAction}
 use Rattle.engine_text.specs.declared.ticket.Asked.{Asked}
 use Rattle.machine_model.specs.Names.{holder}
+use Rattle.machine_model.specs.Ranges.{IsPast}
 use Rattle.machine_model.specs.Consistency.{is_there}
 use Rattle.std.specs.Prelude.{IsTrue}
 use Rattle.std.proofs.Common.{false}
@@ -98,12 +99,13 @@ most_of a b e =
 
 -- ---- single changes
 
--- what a change of a life leaves
-pub record IsQuiet (f : Life → Life) : Type 0 where
+-- what a change of a life at a moment leaves
+pub record IsQuiet (t : ℕ) (f : Life → Life) : Type 0 where
   pub mounts : (l : Life) → (f l).mounts ≡ l.mounts
   pub log : (l : Life) → (f l).log ≡ l.log
   pub starts : (l : Life) → (f l).starts ≡ l.starts
   pub restarts : (l : Life) → (f l).restarts ≤ l.restarts
+  pub moments : (l : Life) → IsPast t l → IsPast t (f l)
 
 -- what a step of a process writes
 abbrev pub write_part : ProcessEffect → Owner → State → Effect
@@ -122,7 +124,7 @@ pub record IsPriced (P : Type 0) (R : Cost → State → Effect → Type 0) : Ty
   pub on_told : (s : State) (v : Event) → v.moment ≡ s.clock → R (tells 1) s (tell (v ∷ []) s)
   pub on_mounts : (s : State) (a : Action) (c : Container) → container_numbered c.number s ≡ Some c → R (tells 16) s (tell (map (λ m. mount_event a m.volume c s.clock) c.life.mounts) s)
   pub on_ended : (s : State) (d : Died) → R none s (record { state = s; events = []; died = d ∷ [] })
-  pub on_renew : (s : State) (n : ℕ) (f : Life → Life) → IsQuiet f → R none s (renew n f s)
+  pub on_renew : (s : State) (n : ℕ) (f : Life → Life) → IsQuiet s.clock f → R none s (renew n f s)
   pub on_retry : (s : State) (n : ℕ) → R (record { told = 0; spawns = 0; makes = 0; asks = 0; retries = 1 }) s (renew n restarted s)
   pub on_step : (s : State) (owner : Owner) (step : ℕ → Process → ProcessStep) → IsStep step
       → R none s (and_then (change (stepped step owner)) (write_part (effect_of (step s.clock) (process_of owner s.processes)) owner) s)
@@ -189,8 +191,8 @@ costs_tell k event n at = costs_with k n (λ s c found. k.on_told s (event c s.c
 pub costs_mounts : {P : Type 0} {R : Cost → State → Effect → Type 0} → IsPriced P R → (a : Action) (n : ℕ) → Costs R (tells 16) (tell_mounts a n)
 costs_mounts k a n = costs_with k n (λ s c found. k.on_mounts s a c found)
 
-pub costs_renew : {P : Type 0} {R : Cost → State → Effect → Type 0} → IsPriced P R → (n : ℕ) (f : Life → Life) → IsQuiet f → Costs R none (renew n f)
-costs_renew k n f mark = record { holds = λ s. k.on_renew s n f mark }
+pub costs_renew : {P : Type 0} {R : Cost → State → Effect → Type 0} → IsPriced P R → (n : ℕ) (f : Life → Life) → ((t : ℕ) → IsQuiet t f) → Costs R none (renew n f)
+costs_renew k n f mark = record { holds = λ s. k.on_renew s n f (mark s.clock) }
 
 pub costs_timers : {P : Type 0} {R : Cost → State → Effect → Type 0} → IsPriced P R → (g : State → List DueAction) → ((s : State) → AreFrom s.clock s.timers → AreFrom s.clock (g s))
     → Costs R none (change (λ s. record s { timers = g s }))

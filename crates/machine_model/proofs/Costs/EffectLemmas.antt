@@ -63,7 +63,7 @@ costs_launch {R} k n = costs_with k n (λ s c found. program_costs R k (program_
 
 pub costs_launch_by_call : {P : Type 0} {R : Cost → State → Effect → Type 0} → IsPriced P R → (n : ℕ) → Costs R launch_cost (launch_by_call n)
 costs_launch_by_call k n =
-    costs_then k (costs_renew k n afresh (record { mounts = λ l. refl; log = λ l. refl; starts = λ l. refl; restarts = λ l. omega arith })) (costs_launch k n)
+    costs_then k (costs_renew k n afresh (λ t. record { mounts = λ l. refl; log = λ l. refl; starts = λ l. refl; restarts = λ l. omega arith; moments = λ l h. h })) (costs_launch k n)
 
 -- ---- a removal
 
@@ -82,22 +82,22 @@ costs_die : {P : Type 0} {R : Cost → State → Effect → Type 0} → IsPriced
 costs_die {R} k code n =
     let gone : Costs R none (change (drop_process (OfContainer n))) = record { holds = λ s. k.on_drop s n } in
     let ends : Costs R none (λ s. renew n (ended code s.clock) s) =
-    record { holds = λ s. k.on_renew s n (ended code s.clock) (record { mounts = λ l. refl; log = λ l. refl; starts = λ l. refl; restarts = λ l. omega arith }) } in
+    record { holds = λ s. k.on_renew s n (ended code s.clock) (record { mounts = λ l. refl; log = λ l. refl; starts = λ l. refl; restarts = λ l. omega arith; moments = λ l h. (h.0, h.1, omega arith) }) } in
     let told : Costs R none (λ t. record { state = t; events = []; died = record { number = n; code = code } ∷ [] }) = record { holds = λ s. k.on_ended s (record { number = n; code = code }) } in
     let all = costs_then k gone (costs_then k ends told) in
     record { holds = λ s. all.holds s }
 
 costs_follow : {P : Type 0} {R : Cost → State → Effect → Type 0} → IsPriced P R → (d : Decision) (n : ℕ) → Costs R none (follow d n)
-costs_follow k Stay n = costs_renew k n exited (record { mounts = λ l. refl; log = λ l. refl; starts = λ l. refl; restarts = λ l. omega arith })
+costs_follow k Stay n = costs_renew k n exited (λ t. record { mounts = λ l. refl; log = λ l. refl; starts = λ l. refl; restarts = λ l. omega arith; moments = λ l h. h })
 costs_follow k (Again delay) n =
-    costs_then k (costs_renew k n (restarting delay) (record { mounts = λ l. refl; log = λ l. refl; starts = λ l. refl; restarts = λ l. omega arith }))
+    costs_then k (costs_renew k n (restarting delay) (λ t. record { mounts = λ l. refl; log = λ l. refl; starts = λ l. refl; restarts = λ l. omega arith; moments = λ l h. h }))
     (costs_timers k (λ s. with_timer (s.clock + delay) 3 n s.timers) (λ s h. set_from (s.clock + delay) 3 n s.clock s.timers (omega arith) h))
 
 costs_by_goal : {P : Type 0} {R : Cost → State → Effect → Type 0} → IsPriced P R → (g : Goal) (c : Container) → Costs R goal_cost (by_goal g c)
 costs_by_goal k Goal.Remove c = costs_most k (costs_destroy k c.number) refl
 costs_by_goal k Goal.Stop c =
     costs_most k
-    (costs_then k (costs_renew k c.number exited (record { mounts = λ l. refl; log = λ l. refl; starts = λ l. refl; restarts = λ l. omega arith })) (costs_tell k (plain_event Stop) c.number (λ c t. refl))) refl
+    (costs_then k (costs_renew k c.number exited (λ t. record { mounts = λ l. refl; log = λ l. refl; starts = λ l. refl; restarts = λ l. omega arith; moments = λ l h. h })) (costs_tell k (plain_event Stop) c.number (λ c t. refl))) refl
 costs_by_goal k Goal.Restart c =
     costs_then k (costs_tell k (plain_event Stop) c.number (λ c t. refl)) (costs_then k (costs_launch_by_call k c.number) (costs_tell k (plain_event Restart) c.number (λ c t. refl)))
 costs_by_goal k Goal.None c =
@@ -126,7 +126,7 @@ costs_end_main k code n =
     (costs_then k (costs_timers k (λ s. cleared 2 n (cleared 1 n s.timers)) (λ s h. cleared_from 2 n s.clock (cleared 1 n s.timers) (cleared_from 1 n s.clock s.timers h)))
     (costs_then k (costs_mounts k Unmount n)
     (costs_then k (costs_decided k n)
-    (costs_then k (costs_renew k n no_goal (record { mounts = λ l. refl; log = λ l. refl; starts = λ l. refl; restarts = λ l. omega arith })) (costs_still k)))))))
+    (costs_then k (costs_renew k n no_goal (λ t. record { mounts = λ l. refl; log = λ l. refl; starts = λ l. refl; restarts = λ l. omega arith; moments = λ l h. h })) (costs_still k)))))))
 
 -- ---- steps of processes
 
@@ -182,7 +182,7 @@ costs_thaw_execs k n =
 costs_wake : {P : Type 0} {R : Cost → State → Effect → Type 0} → IsPriced P R → (n : ℕ) → Costs R (tells 1) (in_order (wake_parts n))
 costs_wake k n =
     costs_then k (costs_tell k (plain_event Unpause) n (λ c t. refl))
-    (costs_then k (costs_renew k n running (record { mounts = λ l. refl; log = λ l. refl; starts = λ l. refl; restarts = λ l. omega arith })) (costs_then k (costs_thaw_execs k n) (costs_still k)))
+    (costs_then k (costs_renew k n running (λ t. record { mounts = λ l. refl; log = λ l. refl; starts = λ l. refl; restarts = λ l. omega arith; moments = λ l h. h })) (costs_then k (costs_thaw_execs k n) (costs_still k)))
 
 abbrev pub meet_cost : Cost
 meet_cost = record { told = 37; spawns = 1; makes = 0; asks = 0; retries = 0 }
@@ -221,7 +221,7 @@ costs_deadline k (negsuc m) n = record { holds = k.on_still }
 abbrev pub halt_cost : Cost
 halt_cost = record { told = 38; spawns = 1; makes = 0; asks = 0; retries = 0 }
 
-pub costs_halt : {P : Type 0} {R : Cost → State → Effect → Type 0} → IsPriced P R → (mark : Life → Life) (seconds : Option ℤ) (signal : Option Signal) (c : Container) → IsQuiet mark → Costs R halt_cost (halt mark seconds signal c)
+pub costs_halt : {P : Type 0} {R : Cost → State → Effect → Type 0} → IsPriced P R → (mark : Life → Life) (seconds : Option ℤ) (signal : Option Signal) (c : Container) → ((t : ℕ) → IsQuiet t mark) → Costs R halt_cost (halt mark seconds signal c)
 costs_halt k mark seconds signal c is =
     costs_then k (costs_tell k (kill_event (signal_used signal c)) c.number (λ c t. refl))
     (costs_then k (costs_renew k c.number mark is)
@@ -230,7 +230,7 @@ costs_halt k mark seconds signal c is =
 pub costs_cancel : {P : Type 0} {R : Cost → State → Effect → Type 0} → IsPriced P R → (n : ℕ) → Costs R none (cancel_restart n)
 costs_cancel k n =
     costs_then k (costs_timers k (λ s. cleared 3 n s.timers) (λ s h. cleared_from 3 n s.clock s.timers h))
-    (costs_renew k n cancelled (record { mounts = λ l. refl; log = λ l. refl; starts = λ l. refl; restarts = λ l. omega arith }))
+    (costs_renew k n cancelled (λ t. record { mounts = λ l. refl; log = λ l. refl; starts = λ l. refl; restarts = λ l. omega arith; moments = λ l h. h }))
 
 -- ---- due steps
 
@@ -248,7 +248,7 @@ costs_stop_deadline k n =
 costs_removal_deadline : {P : Type 0} {R : Cost → State → Effect → Type 0} → IsPriced P R → (n : ℕ) → Costs R none (removal_deadline n)
 costs_removal_deadline k n =
     costs_then k (costs_timers k (λ s. cleared 2 n s.timers) (λ s h. cleared_from 2 n s.clock s.timers h))
-    (costs_then k (costs_renew k n died (record { mounts = λ l. refl; log = λ l. refl; starts = λ l. refl; restarts = λ l. omega arith }))
+    (costs_then k (costs_renew k n died (λ t. record { mounts = λ l. refl; log = λ l. refl; starts = λ l. refl; restarts = λ l. omega arith; moments = λ l h. h }))
     (costs_with {x = none} k n (λ s c found. k.on_time_out s c)))
 
 costs_restart_timer : {P : Type 0} {R : Cost → State → Effect → Type 0} → IsPriced P R → (n : ℕ) → Costs R (record { told = 17; spawns = 1; makes = 0; asks = 0; retries = 1 }) (restart_timer n)

@@ -13,6 +13,7 @@ use Rattle.engine_text.specs.declared.owner.Owner.TheVariants.{Exec as OfExec}
 
 pub record Level (s t : State) : Type 0 where
   pub containers : t.containers ≡ s.containers
+  pub volumes : t.volumes ≡ s.volumes
   pub outputs : t.outputs ≡ s.outputs
   pub timers : t.timers ≡ s.timers
   pub tickets : t.tickets ≡ s.tickets
@@ -26,11 +27,12 @@ pub record Level (s t : State) : Type 0 where
   pub calls : t.call_count ≡ s.call_count
 
 level_none : (s : State) → Level s s
-level_none s = record { containers = refl; outputs = refl; timers = refl; tickets = refl; exec_numbers = refl; next_number = refl; next_ticket = refl; next_pid = refl; steps = refl; events = refl; clock = refl; calls = refl }
+level_none s = record { containers = refl; volumes = refl; outputs = refl; timers = refl; tickets = refl; exec_numbers = refl; next_number = refl; next_ticket = refl; next_pid = refl; steps = refl; events = refl; clock = refl; calls = refl }
 
 pub level_then : (s t u : State) → Level s t → Level t u → Level s u
 level_then s t u a b = record {
   containers = b.containers ∙ a.containers;
+  volumes = b.volumes ∙ a.volumes;
   outputs = b.outputs ∙ a.outputs;
   timers = b.timers ∙ a.timers;
   tickets = b.tickets ∙ a.tickets;
@@ -49,6 +51,7 @@ level_end code k s = elim (end_exec_state code k s) [
   | inl same ↦ subst (Level s) (sym same.1) (level_none s)
   | inr same ↦ subst (Level s) (sym same) (record {
     containers = refl;
+    volumes = refl;
     outputs = refl;
     timers = refl;
     tickets = refl;

@@ -58,10 +58,10 @@ start_by R k Status.Dead c s = idle R k s
 pub stop_by : {P : Type 0} (R : Cost → State → Effect → Type 0) → IsPriced P R → (connection : ℕ) (seconds : Option ℤ) (signal : Option Signal) (u : Status) (c : Container) (s : State) → container_numbered c.number s ≡ Some c → R full s (stop.by_status u connection seconds signal c s).effect
 stop_by R k connection seconds signal Status.Running c s found =
     ticket R _ k connection c Asked.Stop (halt stop.stopping seconds signal c) s found
-    (costs_halt k stop.stopping seconds signal c (record { mounts = λ l. refl; log = λ l. refl; starts = λ l. refl; restarts = λ l. omega arith })) refl
+    (costs_halt k stop.stopping seconds signal c (λ t. record { mounts = λ l. refl; log = λ l. refl; starts = λ l. refl; restarts = λ l. omega arith; moments = λ l h. h })) refl
 stop_by R k connection seconds signal Status.Paused c s found =
     ticket R _ k connection c Asked.Stop (halt stop.stopping seconds signal c) s found
-    (costs_halt k stop.stopping seconds signal c (record { mounts = λ l. refl; log = λ l. refl; starts = λ l. refl; restarts = λ l. omega arith })) refl
+    (costs_halt k stop.stopping seconds signal c (λ t. record { mounts = λ l. refl; log = λ l. refl; starts = λ l. refl; restarts = λ l. omega arith; moments = λ l h. h })) refl
 stop_by R k connection seconds signal Status.Restarting c s found =
     top R _ k (and_then (cancel_restart c.number) (tell_of (plain_event Action.Stop) c.number)) s (costs_then k (costs_cancel k c.number) (costs_tell k (plain_event Action.Stop) c.number (λ c t. refl))) refl
 stop_by R k connection seconds signal Status.Created c s found = idle R k s
@@ -81,10 +81,10 @@ restart_by R k connection seconds signal Status.Created c s found = restart_ran 
 restart_by R k connection seconds signal Status.Exited c s found = restart_ran R k (program_of c.life.words 1) c s
 restart_by R k connection seconds signal Status.Running c s found =
     ticket R _ k connection c Asked.Restart (halt restart.to_restart seconds signal c) s found
-    (costs_halt k restart.to_restart seconds signal c (record { mounts = λ l. refl; log = λ l. refl; starts = λ l. refl; restarts = λ l. omega arith })) refl
+    (costs_halt k restart.to_restart seconds signal c (λ t. record { mounts = λ l. refl; log = λ l. refl; starts = λ l. refl; restarts = λ l. omega arith; moments = λ l h. h })) refl
 restart_by R k connection seconds signal Status.Paused c s found =
     ticket R _ k connection c Asked.Restart (halt restart.to_restart seconds signal c) s found
-    (costs_halt k restart.to_restart seconds signal c (record { mounts = λ l. refl; log = λ l. refl; starts = λ l. refl; restarts = λ l. omega arith })) refl
+    (costs_halt k restart.to_restart seconds signal c (λ t. record { mounts = λ l. refl; log = λ l. refl; starts = λ l. refl; restarts = λ l. omega arith; moments = λ l h. h })) refl
 restart_by R k connection seconds signal Status.Restarting c s found =
     top R _ k (and_then (cancel_restart c.number) (restart.launch_again c.number)) s (costs_then k (costs_cancel k c.number) (again_cost k c.number)) refl
 restart_by R k connection seconds signal Status.Removing c s found = idle R k s
@@ -94,7 +94,7 @@ restart_by R k connection seconds signal Status.Dead c s found = idle R k s
 
 delivers : {P : Type 0} {R : Cost → State → Effect → Type 0} → IsPriced P R → (final : Bool) (number n : ℕ) → Costs R meet_cost (kill.deliver final number n)
 delivers k true number n =
-    costs_then k (costs_renew k n kill.by_hand (record { mounts = λ l. refl; log = λ l. refl; starts = λ l. refl; restarts = λ l. omega arith })) (costs_meet k number n)
+    costs_then k (costs_renew k n kill.by_hand (λ t. record { mounts = λ l. refl; log = λ l. refl; starts = λ l. refl; restarts = λ l. omega arith; moments = λ l h. h })) (costs_meet k number n)
 delivers k false number n = costs_most k (costs_send k false number n) refl
 
 kill_runs : {P : Type 0} (R : Cost → State → Effect → Type 0) → IsPriced P R → (signal : Signal) (c : Container) (s : State) → R full s (kill.kill_running signal c s).effect
@@ -125,7 +125,7 @@ pauses {R} k n =
     costs_at (λ s. each (λ (x : Exec). pause.freeze_process (OfExec x.number)) (running_execs n s)) (λ s. (costs_each k (λ (x : Exec). freezes k (OfExec x.number)) (running_execs n s)).holds s) in
     costs_then k (freezes k (OfContainer n))
     (costs_then k execs
-    (costs_then k (costs_renew k n pause.paused (record { mounts = λ l. refl; log = λ l. refl; starts = λ l. refl; restarts = λ l. omega arith })) (costs_tell k (plain_event Action.Pause) n (λ c t. refl))))
+    (costs_then k (costs_renew k n pause.paused (λ t. record { mounts = λ l. refl; log = λ l. refl; starts = λ l. refl; restarts = λ l. omega arith; moments = λ l h. h })) (costs_tell k (plain_event Action.Pause) n (λ c t. refl))))
 
 pub pause_by : {P : Type 0} (R : Cost → State → Effect → Type 0) → IsPriced P R → (u : Status) (c : Container) (s : State) → R full s (pause.by_status u c s).effect
 pause_by R k Status.Running c s = top R _ k (pause.pause c.number) s (pauses k c.number) refl
@@ -170,14 +170,14 @@ rename_by R k Status.Dead name c s found = idle R k s
 lives_cost : {P : Type 0} {R : Cost → State → Effect → Type 0} → IsPriced P R → (b : Bool) (n : ℕ) → Costs R none (remove.if_it_lives b n)
 lives_cost k false n = costs_still k
 lives_cost k true n =
-    costs_then k (costs_renew k n remove.removing (record { mounts = λ l. refl; log = λ l. refl; starts = λ l. refl; restarts = λ l. omega arith }))
+    costs_then k (costs_renew k n remove.removing (λ t. record { mounts = λ l. refl; log = λ l. refl; starts = λ l. refl; restarts = λ l. omega arith; moments = λ l h. h }))
     (costs_timers k (λ s. with_timer (s.clock + 10000) 2 n s.timers) (λ s h. set_from (s.clock + 10000) 2 n s.clock s.timers (omega arith) h))
 
 removal_cost : {P : Type 0} {R : Cost → State → Effect → Type 0} → IsPriced P R → (n : ℕ) → Costs R (record { told = 38; spawns = 1; makes = 0; asks = 0; retries = 0 }) (remove.kill_to_remove n)
 removal_cost {R} k n =
     let lives : Costs R none (λ s. remove.if_it_lives (is_live (OfContainer n) s) n s) = costs_at (λ s. remove.if_it_lives (is_live (OfContainer n) s) n) (λ s. (lives_cost k (is_live (OfContainer n) s) n).holds s) in
     costs_then k (costs_tell k (kill_event 9) n (λ c t. refl))
-    (costs_then k (costs_renew k n remove.to_remove (record { mounts = λ l. refl; log = λ l. refl; starts = λ l. refl; restarts = λ l. omega arith })) (costs_then k (costs_meet k 9 n) lives))
+    (costs_then k (costs_renew k n remove.to_remove (λ t. record { mounts = λ l. refl; log = λ l. refl; starts = λ l. refl; restarts = λ l. omega arith; moments = λ l h. h })) (costs_then k (costs_meet k 9 n) lives))
 
 remove_runs : {P : Type 0} (R : Cost → State → Effect → Type 0) → IsPriced P R → (force : Bool) (connection : ℕ) (c : Container) (s : State) → container_numbered c.number s ≡ Some c → R full s (remove.remove_running force connection c s).effect
 remove_runs R k true connection c s found = ticket R _ k connection c Asked.Remove (remove.kill_to_remove c.number) s found (removal_cost k c.number) refl
