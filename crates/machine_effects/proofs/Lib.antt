@@ -19,7 +19,9 @@ pub mod WakeLemmas
 pub mod DestroyLemmas
 pub mod PlaceLemmas
 pub mod OpLemmas
+pub mod RoomLemmas
 pub mod DueLemmas
+pub mod LeastDueLemmas
 pub mod WokenLemmas
 pub mod MeetToldLemmas
 pub mod KillToldLemmas

@@ -32,8 +32,12 @@ place_in p g xs =
     ap (λ k. cond (nat_lt k (length (map g xs))) (Some k) None) (prefix_in (λ y. not (p y)) g xs)
     ∙ ap (λ k. cond (nat_lt (position_or_len (λ x. p (g x)) xs) k) (Some (position_or_len (λ x. p (g x)) xs)) None) l
 
+-- where nothing is, no room is wanted
+pub no_place : {A B : Type 0} (p : B → Bool) (g : A → B) (room : A → ℕ) (items : List A) → position (λ x. p (g x)) items ≡ None → (j : ℕ) → position p (map g items) ≡ Some j → 0 < slice_index (map room items) j
+no_place p g room items at j there = let both : Some j ≡ None = sym there ∙ (place_in p g items ∙ at) in absurd (cc)
+
 pub no_log : (items : List Held) (n : ℕ) → position (λ x. x.container.number == n) items ≡ None → FitsLog n (containers_in items) (map room_in items)
-no_log items n at j there = let both : Some j ≡ None = sym there ∙ (place_in (λ (c : Container). c.number == n) container_in items ∙ at) in absurd (cc)
+no_log items n at = no_place (λ (c : Container). c.number == n) container_in room_in items at
 
 -- a container in memory with another room means the same
 pub set_same : {A B : Type 0} (g : A → B) (d y : A) (xs : List A) (i : ℕ) → g y ≡ g (get_or xs i d) → map g (set xs i y) ≡ map g xs
@@ -41,18 +45,22 @@ set_same g d y [] i e = refl
 set_same g d y (x ∷ xs) zero e = ap (λ z. z ∷ map g xs) e
 set_same g d y (x ∷ xs) (suc i) e = ap (λ l. g x ∷ l) (set_same g d y xs i e)
 
-room_set : (xs : List Held) (i : ℕ) (y : Held) → i < length xs → get_or (map room_in (set xs i y)) i 0 ≡ room_in y
-room_set [] i y low = absurd (omega arith)
-room_set (x ∷ xs) zero y low = refl
-room_set (x ∷ xs) (suc i) y low = room_set xs i y (omega arith)
+room_set : {A : Type 0} (room : A → ℕ) (xs : List A) (i : ℕ) (y : A) → i < length xs → get_or (map room (set xs i y)) i 0 ≡ room y
+room_set room [] i y low = absurd (omega arith)
+room_set room (x ∷ xs) zero y low = refl
+room_set room (x ∷ xs) (suc i) y low = room_set room xs i y (omega arith)
+
+-- room is made at the place
+pub made_at : {A B : Type 0} (p : B → Bool) (g : A → B) (room : A → ℕ) (items : List A) (i : ℕ) (y : A) → position (λ x. p (g x)) items ≡ Some i → map g (set items i y) ≡ map g items → 0 < room y
+    → (j : ℕ) → position p (map g (set items i y)) ≡ Some j → 0 < slice_index (map room (set items i y)) j
+made_at p g room items i y at same more j there =
+    let one : Some j ≡ Some i = sym there ∙ (ap (position p) same ∙ (place_in p g items ∙ at)) in
+    let equal : j ≡ i = cc in
+    let q = position-Some (λ x. p (g x)) items i y at in
+    let e : get_or (map room (set items i y)) i 0 ≡ room y = room_set room items i y q.0 in
+    let low : 0 < get_or (map room (set items i y)) i 0 = omega (arith, e, more) in
+    subst (λ (k : ℕ). 0 < get_or (map room (set items i y)) k 0) (sym equal) low
 
 pub room_made : (items : List Held) (n i : ℕ) (y : Held) → position (λ x. x.container.number == n) items ≡ Some i → containers_in (set items i y) ≡ containers_in items
     → vec_len y.records < vec_capacity y.records → FitsLog n (containers_in (set items i y)) (map room_in (set items i y))
-room_made items n i y at same room j there =
-    let p : Container → Bool = λ c. c.number == n in
-    let one : Some j ≡ Some i = sym there ∙ (ap (position p) same ∙ (place_in p container_in items ∙ at)) in
-    let equal : j ≡ i = cc in
-    let q = position-Some (λ (x : Held). x.container.number == n) items i y at in
-    let e : get_or (map room_in (set items i y)) i 0 ≡ room_in y = room_set items i y q.0 in
-    let low : 0 < get_or (map room_in (set items i y)) i 0 = omega (arith, e, room) in
-    subst (λ (k : ℕ). 0 < get_or (map room_in (set items i y)) k 0) (sym equal) low
+room_made items n i y at same room = let more : 0 < room_in y = omega (arith, room) in made_at (λ (c : Container). c.number == n) container_in room_in items i y at same more

@@ -4,6 +4,7 @@ pub mod Fit
 pub mod Foretold
 pub mod Held
 pub mod Kits
+pub mod LeastDue
 pub mod Marks
 pub mod Memory
 pub mod Ops

@@ -1,7 +1,9 @@
 -- own: what the next op of a process needs.
-use Rattle.std.specs.Prelude.{ℕ, ◌<◌, ⊤}
+use Rattle.std.specs.Prelude.{ℕ, ◌<◌, ◌≤◌, ⊤, if◌then◌else◌, length}
 use Rattle.engine_text.specs.declared.owner.Owner.{Owner}
 use Rattle.engine_text.specs.declared.owner.Owner.TheVariants.{Container as OfContainer, Exec as OfExec}
+use Rattle.proc_kernel.specs.Tables.{length_at, process_of}
+use Rattle.machine_model.specs.State.{State, is_live}
 use Rattle.machine_effects.specs.Fit.{CanSettle}
 use Rattle.machine_effects.specs.Memory.{Memory}
 use Rattle.machine_effects.specs.Rooms.{FitsLog, FitsOutput}
@@ -16,3 +18,26 @@ HasRecordRoom (OfExec n) m = FitsOutput n m.state.outputs m.outputs
 abbrev pub CanEnd : Owner → Kit → Memory → Type 0
 CanEnd (OfContainer n) kit m = CanSettle n kit m.room m.state × (0 < m.spare)
 CanEnd (OfExec n) kit m = ⊤
+
+-- Of the container and the exec with that number the one whose process lives.
+abbrev pub owner_at : ℕ → State → Owner
+owner_at n s = if is_live (OfContainer n) s then OfContainer n else OfExec n
+
+-- There is room for what the end of a main process makes longer.
+pub record HasEndRoom (m : Memory) : Type 0 where
+  pub execs : length m.state.execs ≤ m.room.scratch
+  pub timers : length m.state.timers < m.room.timers
+  pub removed : length m.state.removed < m.room.removed
+  pub kept : length m.state.kept < m.room.kept
+
+-- The end of an exec makes nothing longer.
+abbrev pub HasEndRoomOf : Owner → Memory → Type 0
+HasEndRoomOf (OfContainer n) m = HasEndRoom m
+HasEndRoomOf (OfExec n) m = ⊤
+
+-- There is room for the next op of the owner's process, and for what may follow it.
+pub record HasOpRoom (owner : Owner) (m : Memory) : Type 0 where
+  pub end : HasEndRoomOf owner m
+  pub kept : HasRecordRoom owner m
+  pub length : length_at (process_of owner m.state.processes) ≤ m.bytes
+  pub spare : 1 < m.spare

@@ -2,7 +2,7 @@
 ghost use Rattle.std.specs.Prelude.{◌≡◌, ℕ, ◌+◌, ◌<◌, ◌≤◌, ◌==◌, [], length, find, option_map, option_copied, OnOk};
 ghost use Rattle.container_table.specs.Lists.{remove_first};
 ghost use Rattle.container_table.specs.Reference.{container_by};
-ghost use Rattle.container_table.specs.Timers.{cleared, with_timer};
+ghost use Rattle.container_table.specs.Timers.{cleared, least, with_timer};
 ghost use Rattle.machine_model.specs.Consistency.{is_there};
 ghost use Rattle.machine_effects.specs.Fit.{AreFew};
 ghost use Rattle.machine_effects.specs.Held.{container_in};
@@ -141,6 +141,13 @@ impl Containers {
         ensures room { self.new.room ≡ self.old.room }
     {
         timers::set(&mut self.timers, moment, rank, number);
+    }
+
+    /// The timer that comes first.
+    pub fn least_timer(&self) -> Option<DueAction>
+        ensures { result ≡ least self.now.timers }
+    {
+        timers::first_of(self.timers.as_slice())
     }
 
     /// Makes room for a timer more.

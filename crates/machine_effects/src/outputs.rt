@@ -1,5 +1,5 @@
 // The outputs of execs.
-ghost use Rattle.std.specs.Prelude.{◌≡◌, ℕ, ◌+◌, ◌<◌, ◌≤◌, ◌==◌, [], ◌∷◌, ◌++◌, not, length, map, filter, count_by, position, slice_index_or, vec_len, vec_capacity};
+ghost use Rattle.std.specs.Prelude.{◌≡◌, ℕ, OnOk, ◌+◌, ◌<◌, ◌≤◌, ◌==◌, [], ◌∷◌, ◌++◌, not, length, map, filter, count_by, position, slice_index_or, vec_len, vec_capacity};
 ghost use Rattle.std.specs.List.{remove};
 ghost use Rattle.container_table.specs.Lists.{update_first};
 ghost use Rattle.engine_text.specs.Owner.{same_owner};
@@ -12,7 +12,7 @@ ghost use Rattle.machine_effects.specs.declared.held.HeldOutput.{HeldOutput};
 
 use super::execs::Execs;
 use super::held::HeldOutput;
-use engine_text::{Bytes, Log, LogRecord, OwnedLog, Owner, Stream, same_owner};
+use engine_text::{Bytes, Log, LogRecord, NoMemory, OwnedLog, Owner, Stream, same_owner};
 use std::alloc::Global;
 use std::marker::Model;
 
@@ -102,6 +102,22 @@ fn write(held: &mut Vec<HeldOutput>, number: u64, written: LogRecord)
     }
 }
 
+// Makes room for one more record of the exec's output.
+fn reserve_record(held: &mut Vec<HeldOutput>, number: u64) -> Result<(), NoMemory>
+    ensures same { outputs_in held.new.items ≡ outputs_in held.old.items }
+    ensures room { OnOk result
+        (FitsOutput number (outputs_in held.new.items) (map output_room held.new.items)) }
+{
+    let Some(i) = place_of(held.as_slice(), number) else {
+        return Ok(());
+    };
+    let h = &mut held[i];
+    match h.records.reserve(1) {
+        Ok(()) => Ok(()),
+        Err(_) => Err(NoMemory),
+    }
+}
+
 impl Outputs {
     /// None; it takes no memory.
     pub fn new(alloc: Global) -> Outputs
@@ -145,5 +161,12 @@ impl Outputs {
             moment,
         };
         write(&mut self.held, number, written);
+    }
+    /// Makes room for one more record of the exec's output.
+    pub fn reserve_record(&mut self, number: u64) -> Result<(), NoMemory>
+        ensures outputs { self.new.outputs ≡ self.old.outputs }
+        ensures room { OnOk result (FitsOutput number self.new.outputs self.new.rooms) }
+    {
+        reserve_record(&mut self.held, number)
     }
 }

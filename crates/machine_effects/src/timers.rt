@@ -1,7 +1,8 @@
 // Timers in their list, one for each rank and number.
 ghost use Rattle.std.specs.Prelude.{◌≡◌, ℕ, ◌+◌, ◌<◌, ◌≤◌, ◌==◌, ◌∷◌, [], ◌++◌, position, length, take_while, vec_len, vec_capacity};
-ghost use Rattle.container_table.specs.Timers.{is_timer, cleared, with_timer, is_listed_before};
+ghost use Rattle.container_table.specs.Timers.{is_timer, cleared, least, with_timer, is_listed_before};
 
+use super::least::nearer;
 use engine_text::DueAction;
 
 fn timer_at(timers: &[DueAction], rank: u8, number: u64) -> Option<usize>
@@ -54,4 +55,15 @@ fn is_listed_before(a: &DueAction, b: &DueAction) -> bool
     ensures { result ≡ is_listed_before a.now b.now }
 {
     a.rank < b.rank || (a.rank == b.rank && a.number < b.number)
+}
+
+/// The timer that comes first.
+pub fn first_of(timers: &[DueAction]) -> Option<DueAction>
+    ensures { result ≡ least timers.now }
+{
+    let mut best = None;
+    for d in timers {
+        best = nearer(best, *d);
+    }
+    best
 }

@@ -93,7 +93,7 @@ pub passes : {A : Type 0} (p : A → Bool) (y : A) (xs : List A) → find p xs �
 passes p y [] found = absurd (cc)
 passes p y (x ∷ xs) found = passes_by p (p x) x y (find p xs) refl found (passes p y xs)
 
-exec_apart : (s : State) (n : ℕ) → IsConsistent s → HasOwner s (OfExec n) → (c : Container) → container_numbered n s ≡ Some c → ⊥
+pub exec_apart : (s : State) (n : ℕ) → IsConsistent s → HasOwner s (OfExec n) → (c : Container) → container_numbered n s ≡ Some c → ⊥
 exec_apart s n h there c found =
     let apart = apart_from (λ n. Unit {0}) (map (λ c. c.number) s.containers) (map (λ x. x.number) s.execs) h.names.numbers in
     let other : AllByRecursion (λ y. c.number ≢ y) (map (λ x. x.number) s.execs) =

@@ -1,0 +1,14 @@
+use Rattle.std.proofs.Common.{ap, ◌∙◌}
+use Rattle.container_table.specs.Timers.{least}
+use Rattle.machine_model.specs.Due.{least_due}
+use Rattle.machine_effects.specs.LeastDue.{actions_of, lesser}
+use Rattle.machine_effects.specs.Memory.{Memory}
+use Rattle.machine_effects.proofs.LeastDueLemmas.{least_both}
+use Rattle.machine_effects.proofs.tables.Tables.least_due.Goals as goal
+
+pub returns : goal.returns
+returns c =
+    c.lesser.ensures
+    ∙ (ap (λ o. lesser o c.least_timer.result) c.least_op.ensures
+    ∙ (ap (λ o. lesser (least (actions_of c.self.inside.kernel.processes)) o) c.least_timer.ensures
+    ∙ (least_both (actions_of c.self.inside.kernel.processes) c.self.inside.containers.timers ∙ ap (λ (m : Memory). least_due m.state) c.self.view_is)))
