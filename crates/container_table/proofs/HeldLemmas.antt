@@ -1,6 +1,6 @@
 -- Containers by number, and the indexes of a table.
 use Rattle.std.proofs.Common.{◌≡◌, ℕ, suc, zero, ◌<◌, ◌≤◌, Bool, true, false, if◌then◌else◌, List, [], ◌∷◌, ◌++◌, length, get_or, map, Option, Some, None, Result, Ok, Err, find, refl, sym, ◌∙◌, subst, ap, arith, Ordering, MatchResult}
-use Rattle.std.specs.Prelude.{◌==◌, nat_lt}
+use Rattle.std.specs.Prelude.{◌==◌, ◌-◌, ◌&&◌, nat_lt, slice_get}
 use Rattle.std.specs.List.{AllByRecursion, remove}
 use Rattle.std.proofs.Math.ListN.{set}
 use Rattle.std.specs.List.Sorted.{IsBinarySearchResult, IsSearchInRange}
@@ -9,6 +9,7 @@ use Rattle.std.specs.Cmp.{IsStrictWeakOrder}
 use Rattle.std.proofs.lemmas.Cmp.{nat_cmp_total, nat_list_cmp_total}
 use Rattle.std.proofs.lemmas.List.Sorted.{ranks_by, IsStrictWeakOrder-by_number}
 use Rattle.std.proofs.lemmas.Bool.Decides.{nat_tests}
+use Rattle.std.proofs.lemmas.Option.{slice_get_within, get_or_from_slice_get}
 use Rattle.std.specs.declared.boxed.Box.{Box}
 use Rattle.std.specs.declared.cmp.Ordering.TheVariants.{Less, Equal, Greater}
 use Rattle.engine_text.specs.declared.container.Container.{Container}
@@ -17,7 +18,7 @@ use Rattle.container_table.specs.Lists.{remove_first, update_first}
 use Rattle.container_table.specs.Order.{IsInOrder}
 use Rattle.container_table.specs.Search.{HoldsOf, Parts}
 use Rattle.container_table.specs.Starts.{front}
-use Rattle.container_table.specs.Tables.{numbered}
+use Rattle.container_table.specs.Tables.{numbered, is_above}
 use Rattle.container_table.specs.declared.entries.Key.{Key}
 use Rattle.container_table.specs.declared.entries.Entry.{Entry}
 use Rattle.container_table.specs.Held.{contents, key_text, entry_of, entry_order, found_text, is_numbered_before, is_sorted_before, sorted_by, IsIndex, IsLocated, IsPlaced}
@@ -191,3 +192,41 @@ located key cs text entries r h index bound found = go r (found_place (entry_ord
         (λ c e f. same_if_equal (key_text key c) text (e f)) l (as_whole Equal)) m
     go (Err i) m = parts_back (entry_of key) (λ e. entry_order key cs text e ≡ Less) (λ e. entry_order key cs text e ≡ Greater) (λ c. order (key_text key c) text ≡ Less) (λ c. order (key_text key c) text ≡ Greater) l i
         (as_whole Less) (as_whole Greater) m
+
+-- ---- a number above all
+
+below_more : (n : ℕ) (c d : Container) (ds : List Container) → is_numbered_before c d ≡ true → is_above n (c ∷ d ∷ ds) ≡ is_above n (d ∷ ds)
+below_more n c d ds e = go (nat_lt c.number n) (nat_lt d.number n) (is_above n ds) below
+  where
+    below : nat_lt d.number n ≡ true → nat_lt c.number n ≡ true
+    below f = grind (arith, nat_tests, e, f)
+
+    go : (a b t : Bool) → (b ≡ true → a ≡ true) → (a && (b && t)) ≡ (b && t)
+    go a true t f = rw (f refl) refl
+    go true false t f = refl
+    go false false t f = refl
+
+above_at : {Z : Type 0} (n : ℕ) (bs : List (Box Container Z)) (i : ℕ) (b : Box Container Z) → IsInOrder is_numbered_before (contents bs) → length bs ≡ suc i → is_above n (contents bs) ≡ nat_lt (get_or bs i b).value.number n
+above_at n [] i b h e = absurd (omega (arith, e))
+above_at n (x ∷ []) zero b h e = and_true (nat_lt x.value.number n)
+  where
+    and_true : (t : Bool) → (t && true) ≡ t
+    and_true true = refl
+    and_true false = refl
+above_at n (x ∷ []) (suc i) b h e = absurd (omega (arith, e))
+above_at n (x ∷ y ∷ bs) zero b h e = absurd (omega (arith, e))
+above_at n (x ∷ y ∷ bs) (suc i) b h e = below_more n x.value y.value (contents bs) h.0.0 ∙ above_at n (y ∷ bs) i b h.1 (omega (arith, e))
+
+-- Of containers in order of number the last tells it for all.
+pub above_last : {Z : Type 0} (n : ℕ) (bs : List (Box Container Z)) (b : Box Container Z) → IsInOrder is_numbered_before (contents bs) → Some b ≡ slice_get bs (length bs - 1) → is_above n (contents bs) ≡ nat_lt b.value.number n
+above_last n bs b h e =
+    let within : length bs - 1 < length bs = slice_get_within bs (length bs - 1) b (sym e) in
+    above_at n bs (length bs - 1) b h (omega (arith, within)) ∙ ap (λ x. nat_lt x.value.number n) (get_or_from_slice_get bs (length bs - 1) b b (sym e))
+
+pub all_above : (n : ℕ) (cs : List Container) → is_above n cs ≡ true → AllByRecursion (λ c. c.number < n) cs
+all_above n [] e = tt
+all_above n (c ∷ cs) e = go (nat_lt c.number n) refl e (all_above n cs)
+  where
+    go : (t : Bool) → nat_lt c.number n ≡ t → (t && is_above n cs) ≡ true → (is_above n cs ≡ true → AllByRecursion (λ d. d.number < n) cs) → AllByRecursion (λ d. d.number < n) (c ∷ cs)
+    go true f e more = (grind (arith, nat_tests, f), more e)
+    go false f e more = absurd (cc)

@@ -1,7 +1,9 @@
 -- Which container a reference names, told by the orders of the indexes.
-use Rattle.std.proofs.Common.{◌≡◌, ℕ, zero, suc, ◌+◌, ◌<◌, ◌≤◌, Bool, true, false, if◌then◌else◌, List, [], ◌∷◌, length, get_or, drop, map, filter, Option, Some, None, find, refl, sym, ◌∙◌, subst, ap, arith, add-one, Ordering, ◌||◌}
+use Rattle.std.proofs.Common.{◌≡◌, ℕ, zero, suc, ◌+◌, ◌<◌, ◌≤◌, Bool, true, false, if◌then◌else◌, List, [], ◌∷◌, length, get_or, drop, map, filter, Option, Some, None, find, refl, sym, ◌∙◌, subst, ap, arith, add-one, Ordering, Result, Ok, Err, ◌||◌}
 use Rattle.std.proofs.lemmas.List.{length-map}
 use Rattle.std.specs.List.{AllByRecursion}
+use Rattle.std.specs.Option.{is_none}
+use Rattle.std.specs.Result.{is_err}
 use Rattle.std.specs.Ordering.{is_eq, is_lt, ordering_reverse}
 use Rattle.std.proofs.lemmas.Cmp.{nat_list_cmp_total}
 use Rattle.std.proofs.lemmas.Map.Text.{is_eq-slice_cmp}
@@ -17,7 +19,7 @@ use Rattle.container_table.specs.Tables.{numbered, named}
 use Rattle.container_table.specs.declared.entries.Key.{Key}
 use Rattle.container_table.specs.declared.entries.Key.TheVariants.{Id}
 use Rattle.container_table.specs.declared.entries.Entry.{Entry}
-use Rattle.container_table.specs.Held.{key_text, entry_of, is_numbered_before, is_sorted_before, sorted_by, IsIndex, found_text, first_begins}
+use Rattle.container_table.specs.Held.{key_text, entry_of, is_numbered_before, is_sorted_before, sorted_by, IsIndex, IsLocated, found_text, first_begins}
 use Rattle.container_table.proofs.PlacedLemmas.{AreAlone, all_imp, all_in_order, all_found, in_order_back, alone_in_order, ordered}
 use Rattle.container_table.proofs.SearchLemmas.{find_at, find_none, all_of_parts}
 use Rattle.container_table.proofs.TextLemmas.{order, other_if_less, other_if_greater, none_below, none_behind, is_lt-Less}
@@ -91,6 +93,12 @@ located_none key cs text i at =
     find_none (λ c. same_bytes (key_text key c) text) cs (in_order_back (is_sorted_before key) (λ c. same_bytes (key_text key c) text ≡ false) cs
     (all_of_parts (λ c. order (key_text key c) text ≡ Less) (λ c. order (key_text key c) text ≡ Greater) (λ c. same_bytes (key_text key c) text ≡ false) (sorted_by key cs) i
     (λ c e. other_if_less (key_text key c) text e) (λ c e. other_if_greater (key_text key c) text e) at))
+
+-- whether a search finds none tells whether the text is new
+pub new_is : (key : Key) (cs : List Container) (text : List ℕ) (entries : List Entry) (r : Result ℕ ℕ) → IsInOrder is_numbered_before cs → IsIndex key cs entries → IsLocated key cs text r
+    → is_err r ≡ is_none (find (λ c. same_bytes (key_text key c) text) cs)
+new_is key cs text entries (Ok i) numbers index at = sym (ap is_none (located_one key cs text entries i numbers index at).1)
+new_is key cs text entries (Err i) numbers index at = sym (ap is_none (located_none key cs text i at))
 
 -- ---- the only one that passes
 

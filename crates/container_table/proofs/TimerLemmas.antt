@@ -1,5 +1,5 @@
 -- Timers in their two orders: what a change of one list is in the other.
-use Rattle.std.proofs.Common.{◌≡◌, ℕ, suc, ◌<◌, Bool, true, false, if◌then◌else◌, List, [], ◌∷◌, length, get_or, Option, Some, None, Result, refl, sym, ◌∙◌, subst, ap, arith, inl, inr, ◌⊎◌, Ordering}
+use Rattle.std.proofs.Common.{◌≡◌, ℕ, suc, ◌<◌, ◌≤◌, Bool, true, false, if◌then◌else◌, List, [], ◌∷◌, length, get_or, Option, Some, None, Result, refl, sym, ◌∙◌, subst, ap, arith, inl, inr, ◌⊎◌, Ordering}
 use Rattle.std.specs.List.{AllByRecursion, insert, remove}
 use Rattle.std.specs.List.Sorted.{IsBinarySearchResult, IsSearchInRange}
 use Rattle.std.specs.Ordering.{is_lt, is_eq, ordering_index}
@@ -254,3 +254,15 @@ first_is_least ds due order is = ap first_of is ∙ go (in_order is_before ds) r
     go (x ∷ xs) e h =
         sym (least_is x ds (in_order_in x ds (subst (IsIn x) (sym e) (inl refl)))
         (in_order_back is_before (λ d. is_before d x ≡ false) ds (subst (λ (fs : List DueAction). AllByRecursion (λ d. is_before d x ≡ false) fs) (sym e) (not_before x xs h.0))))
+
+pub length-cleared : (rank number : ℕ) (ds : List DueAction) → length (cleared rank number ds) ≤ length ds
+length-cleared rank number [] = omega arith
+length-cleared rank number (d ∷ ds) = go (is_timer rank number d) (length-cleared rank number ds)
+  where
+    go : (t : Bool) → length (cleared rank number ds) ≤ length ds → length (if t then ds else d ∷ cleared rank number ds) ≤ suc (length ds)
+    go true e = omega arith
+    go false e = omega (arith, e)
+
+-- One timer more wants at most one place more.
+pub one_more : (moment rank number : ℕ) (ds : List DueAction) (n : ℕ) → length ds < n → length (with_timer moment rank number ds) ≤ n
+one_more moment rank number ds n e = omega (arith, e, length-with_timer moment rank number ds, length-cleared rank number ds)

@@ -1,5 +1,7 @@
 -- What a table holds, and its containers by number, id and name (own).
-use Rattle.std.specs.Prelude.{ℕ, ◌==◌, List, [], Option, find}
+use Rattle.std.specs.Prelude.{ℕ, ◌==◌, ◌&&◌, nat_lt, Bool, List, [], Option, find}
+use Rattle.std.specs.List.{list_all}
+use Rattle.std.specs.Option.{is_none}
 use Rattle.engine_text.specs.Texts.{same_bytes}
 use Rattle.engine_text.specs.declared.container.Container.{Container}
 use Rattle.engine_text.specs.declared.container.Life.{Life}
@@ -28,6 +30,14 @@ with_id id cs = find (λ c. same_bytes c.id id) cs
 -- The container of that name.
 abbrev pub named : List ℕ → List Container → Option Container
 named name cs = find (λ c. same_bytes c.name name) cs
+
+-- Whether the number is above those of all.
+abbrev pub is_above : ℕ → List Container → Bool
+is_above n cs = list_all (λ c. nat_lt c.number n) cs
+
+-- Whether a container of that number, id and name can be added: the number is above the others, id and name are new.
+abbrev pub is_free : ℕ → List ℕ → List ℕ → List Container → Bool
+is_free n id name cs = is_above n cs && (is_none (with_id id cs) && is_none (named name cs))
 
 -- Without the container of that number.
 abbrev pub without : ℕ → List Container → List Container

@@ -1,11 +1,11 @@
 // Boxes of containers: those that are held, in order of number, and spare ones.
-ghost use Rattle.std.specs.Prelude.{◌≡◌, ℕ, ◌+◌, ◌<◌, ◌≤◌, [], ◌∷◌, ◌++◌, Some, Ok, OnOk, vec_len, vec_capacity};
+ghost use Rattle.std.specs.Prelude.{◌≡◌, ℕ, ◌+◌, ◌<◌, ◌≤◌, [], ◌∷◌, ◌++◌, Some, Ok, OnOk, option_map, vec_len, vec_capacity};
 ghost use Rattle.container_table.specs.Order.{IsInOrder};
-ghost use Rattle.container_table.specs.Tables.{numbered, without, renamed};
+ghost use Rattle.container_table.specs.Tables.{numbered, without, renamed, relived};
 ghost use Rattle.container_table.specs.Held.{contents, is_numbered_before, IsPlaced};
 
 use super::blank::blank;
-use engine_text::{Container, NoMemory, Text};
+use engine_text::{Container, Life, NoMemory, Text};
 use std::alloc::Global;
 use std::mem;
 
@@ -79,4 +79,19 @@ pub fn rename(list: &mut Vec<Box<Container>>, i: usize, number: u64, name: Text)
 {
     let held = &mut list[i];
     held.name = name;
+}
+
+/// Swaps the life of the container of that number, which stands at i, for another.
+pub fn swap_life(list: &mut Vec<Box<Container>>, i: usize, number: u64, life: &mut Life)
+    requires order { IsInOrder is_numbered_before (contents list.old.items) }
+    requires bound { i < vec_len list.old }
+    requires place { IsPlaced (contents list.old.items) number (Ok i) }
+    ensures life { option_map (λ c. c.life) (numbered number (contents list.old.items))
+        ≡ Some life.new }
+    ensures contents { contents list.new.items ≡ relived number life.old (contents list.old.items) }
+    ensures len { vec_len list.new ≡ vec_len list.old }
+    ensures capacity { vec_capacity list.new ≡ vec_capacity list.old }
+{
+    let held = &mut list[i];
+    mem::swap(&mut held.life, life);
 }

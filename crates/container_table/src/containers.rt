@@ -1,12 +1,12 @@
 // Containers in order of number, with their indexes by id and by name.
-ghost use Rattle.std.specs.Prelude.{◌≡◌, ◌+◌, ◌≤◌, ◌<◌, [], ◌∷◌, ◌++◌, Some, None, IsSome, OnOk, length, slice_get, option_copied, vec_len, vec_capacity};
+ghost use Rattle.std.specs.Prelude.{◌≡◌, ◌+◌, ◌≤◌, ◌<◌, [], ◌∷◌, ◌++◌, Some, None, IsSome, IsTrue, OnOk, nat_lt, length, slice_get, option_copied, option_map, vec_len, vec_capacity};
 ghost use Rattle.std.specs.List.{AllByRecursion};
 ghost use Rattle.container_table.specs.Reference.{container_by};
-ghost use Rattle.container_table.specs.Tables.{numbered, with_id, named, without, renamed};
+ghost use Rattle.container_table.specs.Tables.{numbered, with_id, named, is_free, without, renamed, relived};
 
 use super::entries::{Entry, Key};
 use super::{boxes, entries, lookups};
-use engine_text::{Container, Found, NoMemory, Text};
+use engine_text::{Container, Found, Life, NoMemory, Text};
 use std::alloc::Global;
 use std::marker::Model;
 
@@ -86,6 +86,31 @@ impl Containers {
         &self.list[place]
     }
 
+    /// Whether a container of that number, id and name can be added: the number is above the others,
+    /// and id and name are new.
+    pub fn is_free(&self, number: u64, id: &str, name: &str) -> bool
+        ensures value { result ≡ is_free number id.now name.now self.now.containers }
+        ensures above { IsTrue result
+            → AllByRecursion (λ c. c.number < number) self.now.containers }
+        ensures id { IsTrue result → with_id id.now self.now.containers ≡ None }
+        ensures name { IsTrue result → named name.now self.now.containers ≡ None }
+    {
+        let held = self.list.as_slice();
+        if !entries::is_above(held, number) {
+            return false;
+        }
+        lookups::is_new(self.ids.as_slice(), held, Key::Id, id)
+            && lookups::is_new(self.names.as_slice(), held, Key::Name, name)
+    }
+
+    /// Whether there is room for one container more.
+    pub fn has_room(&self) -> bool
+        ensures value { result ≡ nat_lt (length self.now.containers) self.now.places }
+        ensures room { IsTrue result → length self.now.containers < self.now.places }
+    {
+        !self.spare.is_empty()
+    }
+
     /// Makes room for n containers more.
     pub fn reserve(&mut self, alloc: Global, n: usize) -> Result<(), NoMemory>
         ensures containers { self.new.containers ≡ self.old.containers }
@@ -130,6 +155,19 @@ impl Containers {
             let container = entries::held_at(list, i, number);
             entries::refile(&mut self.names, list, container, name.as_str());
             boxes::rename(&mut self.list, i, number, name);
+        }
+    }
+
+    /// Gives a container another life, and hands out the one that it had; it takes no memory.
+    pub fn swap_life(&mut self, number: u64, life: &mut Life)
+        requires { IsSome (numbered number self.old.containers) }
+        ensures life { option_map (λ c. c.life) (numbered number self.old.containers)
+            ≡ Some life.new }
+        ensures containers { self.new.containers ≡ relived number life.old self.old.containers }
+        ensures places { self.new.places ≡ self.old.places }
+    {
+        if let Ok(i) = entries::place_of(self.list.as_slice(), number) {
+            boxes::swap_life(&mut self.list, i, number, life);
         }
     }
 

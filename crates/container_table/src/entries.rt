@@ -1,7 +1,8 @@
 // The sorted indexes of containers: numbers by id or by name.
-ghost use Rattle.std.specs.Prelude.{◌≡◌, ◌+◌, ◌<◌, ◌≤◌, [], ◌∷◌, ◌++◌, length, Some, Ok, option_copied, slice_index, vec_len, vec_capacity};
+ghost use Rattle.std.specs.Prelude.{◌≡◌, ◌+◌, ◌<◌, ◌≤◌, [], ◌∷◌, ◌++◌, length, Some, Ok, IsTrue, option_copied, slice_index, vec_len, vec_capacity};
+ghost use Rattle.std.specs.List.{AllByRecursion};
 ghost use Rattle.std.specs.List.Sorted.{IsSearchInRange};
-ghost use Rattle.container_table.specs.Tables.{numbered, without, renamed};
+ghost use Rattle.container_table.specs.Tables.{numbered, is_above, without, renamed};
 ghost use Rattle.container_table.specs.declared.entries.Key.TheVariants as keys;
 ghost use Rattle.container_table.specs.Order.{IsInOrder};
 ghost use Rattle.container_table.specs.Starts.{front};
@@ -65,6 +66,18 @@ pub fn place_of(held: &[Box<Container>], number: u64) -> Result<usize, usize>
     ensures place { IsPlaced (contents held.now) number result }
 {
     held.binary_search_by_key(&number, |b| b.number)
+}
+
+/// Whether the number is above those of all.
+pub fn is_above(held: &[Box<Container>], number: u64) -> bool
+    requires { IsInOrder is_numbered_before (contents held.now) }
+    ensures value { result ≡ is_above number (contents held.now) }
+    ensures all { IsTrue result → AllByRecursion (λ c. c.number < number) (contents held.now) }
+{
+    match held.last() {
+        None => true,
+        Some(container) => container.number < number,
+    }
 }
 
 /// The container of that number, which stands at i.

@@ -7,6 +7,8 @@ mod containers;
 mod entries;
 mod lookups;
 mod table;
+#[cfg(test)]
+mod tests;
 mod timers;
 
 pub use table::Table;

@@ -1,10 +1,12 @@
 // What a reference names, by the indexes.
-ghost use Rattle.std.specs.Prelude.{◌≡◌, ◌+◌, ◌≤◌, Err, length, drop, option_copied};
+ghost use Rattle.std.specs.Prelude.{◌≡◌, ◌+◌, ◌≤◌, Err, length, drop, find, option_copied};
+ghost use Rattle.std.specs.Option.{is_none};
+ghost use Rattle.engine_text.specs.Texts.{same_bytes};
 ghost use Rattle.container_table.specs.Reference.{by_prefix, container_by};
 ghost use Rattle.container_table.specs.Order.{IsInOrder};
 ghost use Rattle.container_table.specs.Tables.{named};
 ghost use Rattle.container_table.specs.declared.entries.Key.TheVariants as keys;
-ghost use Rattle.container_table.specs.Held.{contents, is_numbered_before, IsIndex, IsLocated, first_begins, sorted_by};
+ghost use Rattle.container_table.specs.Held.{contents, is_numbered_before, IsIndex, IsLocated, first_begins, key_text, sorted_by};
 
 use super::entries::{Entry, Key, locate, numbered_in, text_at};
 use engine_text::{Container, Found, without_slash};
@@ -37,6 +39,16 @@ pub fn prefixed(entries: &[Entry], held: &[Box<Container>], i: usize, reference:
         return Found::Many;
     }
     Found::One(entries[i].number)
+}
+
+/// Whether no container has that text.
+pub fn is_new(entries: &[Entry], held: &[Box<Container>], key: Key, text: &str) -> bool
+    requires order { IsInOrder is_numbered_before (contents held.now) }
+    requires index { IsIndex key (contents held.now) entries.now }
+    ensures { result
+        ≡ is_none (find (λ c. same_bytes (key_text key c) text.now) (contents held.now)) }
+{
+    locate(entries, held, key, text).is_err()
 }
 
 /// The container of that name.

@@ -1,13 +1,13 @@
 // Containers and their timers, whole and indexed.
-ghost use Rattle.std.specs.Prelude.{◌≡◌, ◌+◌, ◌<◌, ◌≤◌, [], ◌∷◌, ◌++◌, Some, None, IsSome, OnOk, length, slice_get, option_copied};
+ghost use Rattle.std.specs.Prelude.{◌≡◌, ℕ, ◌+◌, ◌<◌, ◌≤◌, [], ◌∷◌, ◌++◌, Some, None, IsSome, IsTrue, OnOk, nat_lt, length, slice_get, option_copied, option_map};
 ghost use Rattle.std.specs.List.{AllByRecursion};
 ghost use Rattle.container_table.specs.Reference.{container_by};
 ghost use Rattle.container_table.specs.Timers.{timer_in, cleared, with_timer, least};
-ghost use Rattle.container_table.specs.Tables.{no_holdings, numbered, with_id, named, without, renamed};
+ghost use Rattle.container_table.specs.Tables.{no_holdings, numbered, with_id, named, is_free, without, renamed, relived};
 
 use super::containers::Containers;
 use super::timers::Timers;
-use engine_text::{Container, DueAction, Found, NoMemory, Text};
+use engine_text::{Container, DueAction, Found, Life, NoMemory, Text};
 use std::alloc::Global;
 use std::marker::Model;
 
@@ -110,6 +110,26 @@ impl Table {
         self.containers.at(place)
     }
 
+    /// Whether a container of that number, id and name can be added: the number is above the others,
+    /// and id and name are new.
+    pub fn is_free(&self, number: u64, id: &str, name: &str) -> bool
+        ensures value { result ≡ is_free number id.now name.now self.now.containers }
+        ensures above { IsTrue result
+            → AllByRecursion (λ c. c.number < number) self.now.containers }
+        ensures id { IsTrue result → with_id id.now self.now.containers ≡ None }
+        ensures name { IsTrue result → named name.now self.now.containers ≡ None }
+    {
+        self.containers.is_free(number, id, name)
+    }
+
+    /// Whether there is room for one container more.
+    pub fn has_room(&self) -> bool
+        ensures value { result ≡ nat_lt (length self.now.containers) self.now.places }
+        ensures room { IsTrue result → length self.now.containers < self.now.places }
+    {
+        self.containers.has_room()
+    }
+
     /// Adds a container, of which number, id and name are new; it takes no memory.
     pub fn insert(&mut self, container: Container)
         requires above { AllByRecursion (λ c. c.number < container.number) self.old.containers }
@@ -132,6 +152,17 @@ impl Table {
         self.containers.rename(number, name)
     }
 
+    /// Gives a container another life, and hands out the one that it had; it takes no memory.
+    pub fn swap_life(&mut self, number: u64, life: &mut Life)
+        requires { IsSome (numbered number self.old.containers) }
+        ensures life { option_map (λ c. c.life) (numbered number self.old.containers)
+            ≡ Some life.new }
+        ensures rest { self.new
+            ≡ record self.old { containers = relived number life.old self.old.containers } }
+    {
+        self.containers.swap_life(number, life)
+    }
+
     /// Takes a container out; it takes no memory, and its place stays for another.
     pub fn remove(&mut self, number: u64) -> Container
         requires { IsSome (numbered number self.old.containers) }
@@ -140,6 +171,15 @@ impl Table {
             ≡ record self.old { containers = without number self.old.containers } }
     {
         self.containers.remove(number)
+    }
+
+    /// Whether there is room for one timer more.
+    pub fn has_timer_room(&self) -> bool
+        ensures value { result ≡ nat_lt (length self.now.timers) self.now.timer_places }
+        ensures room { IsTrue result → (moment rank number : ℕ)
+            → length (with_timer moment rank number self.now.timers) ≤ self.now.timer_places }
+    {
+        self.timers.has_room()
     }
 
     /// There is a timer of that rank and number at the moment, in the place of an earlier one; it

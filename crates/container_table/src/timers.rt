@@ -1,5 +1,5 @@
 // Timers by rank and number, and the same by moment.
-ghost use Rattle.std.specs.Prelude.{◌≡◌, ◌+◌, ◌<◌, ◌≤◌, [], None, OnOk, length, vec_len, vec_capacity};
+ghost use Rattle.std.specs.Prelude.{◌≡◌, ℕ, ◌+◌, ◌<◌, ◌≤◌, [], None, IsTrue, OnOk, nat_lt, length, vec_len, vec_capacity};
 ghost use Rattle.std.specs.List.Sorted.{IsSearchInRange};
 ghost use Rattle.container_table.specs.Lists.{placed};
 ghost use Rattle.container_table.specs.Order.{in_order, IsInOrder};
@@ -89,6 +89,15 @@ impl Timers {
         self.listed.reserve(n)?;
         self.due.reserve(n)?;
         Ok(())
+    }
+
+    /// Whether there is room for one timer more.
+    pub fn has_room(&self) -> bool
+        ensures value { result ≡ nat_lt (length self.now.timers) self.now.places }
+        ensures room { IsTrue result → (moment rank number : ℕ)
+            → length (with_timer moment rank number self.now.timers) ≤ self.now.places }
+    {
+        self.listed.len() < self.listed.capacity().min(self.due.capacity())
     }
 
     /// The timer of that rank and number.

@@ -1,0 +1,10 @@
+use Rattle.std.proofs.Common.{◌∙◌, ap, sym, nat_lt}
+use Rattle.container_table.specs.Held.{contents}
+use Rattle.container_table.proofs.HeldLemmas.{above_last, all_above}
+use Rattle.container_table.proofs.entries.is_above.Goals as goal
+
+pub returns-in-Some-clause-value : goal.returns-in-Some-clause-value
+returns-in-Some-clause-value c = ap (λ d. nat_lt d.number c.args.number) c.deref.ensures ∙ sym (above_last c.args.number c.args.held.now c.in-Some.container.now c.requires c.in-Some.ensures.value)
+
+pub returns-in-Some-clause-all : goal.returns-in-Some-clause-all
+returns-in-Some-clause-all c = λ t. all_above c.args.number (contents c.args.held.now) (above_last c.args.number c.args.held.now c.in-Some.container.now c.requires c.in-Some.ensures.value ∙ sym (ap (λ d. nat_lt d.number c.args.number) c.deref.ensures) ∙ t)
