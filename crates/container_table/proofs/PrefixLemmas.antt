@@ -17,7 +17,7 @@ use Rattle.container_table.specs.Order.{in_order, IsInOrder, are_apart, AreApart
 use Rattle.container_table.specs.Search.{HoldsOf, Parts}
 use Rattle.container_table.specs.Tables.{numbered, named}
 use Rattle.container_table.specs.declared.entries.Key.{Key}
-use Rattle.container_table.specs.declared.entries.Key.TheVariants.{Id}
+use Rattle.container_table.specs.declared.entries.Key.TheVariants.{Id, Name}
 use Rattle.container_table.specs.declared.entries.Entry.{Entry}
 use Rattle.container_table.specs.Held.{key_text, entry_of, is_numbered_before, is_sorted_before, sorted_by, IsIndex, IsLocated, found_text, first_begins}
 use Rattle.container_table.proofs.PlacedLemmas.{AreAlone, all_imp, all_in_order, all_found, in_order_back, alone_in_order, ordered}
@@ -276,3 +276,10 @@ found_by_id cs r entries i d numbers index at =
 pub found_by_name : (cs : List Container) (r : List ℕ) (i : ℕ) (o : Option Container)
     → Parts (λ c. order c.id r ≡ Less) (λ c. order c.id r ≡ Greater) (sorted_by Id cs) i → o ≡ named (without_slash r) cs → by_name o cs r ≡ container_by cs r
 found_by_name cs r i o at e = ap (λ (p : Option Container). by_name p cs r) e ∙ sym (ap (λ (p : Option Container). by_id p cs r) (located_none Id cs r i at))
+
+pub found_named : (cs : List Container) (r text : List ℕ) (names : List Entry) (i j : ℕ) (d : Entry) → IsInOrder is_numbered_before cs → IsIndex Name cs names → text ≡ without_slash r
+    → Parts (λ c. order c.id r ≡ Less) (λ c. order c.id r ≡ Greater) (sorted_by Id cs) i → HoldsOf (λ c. same_bytes c.name text ≡ true) (sorted_by Name cs) j
+    → Found.One (get_or names j d).number ≡ container_by cs r
+found_named cs r text names i j d numbers index e none at =
+    let one = located_one Name cs text names j numbers index at in
+    ap (λ (x : Entry). Found.One x.number) (one.2 d) ∙ found_by_name cs r i (Some one.0) none (sym one.1 ∙ ap (λ (t : List ℕ). named t cs) e)

@@ -76,9 +76,9 @@ pub fn find_in(ids: &[Entry], names: &[Entry], held: &[Box<Container>], referenc
 {
     match locate(ids, held, Key::Id, reference) {
         Ok(i) => Found::One(ids[i].number),
-        Err(i) => match named_in(names, held, without_slash(reference)) {
-            Some(container) => Found::One(container.number),
-            None => prefixed(ids, held, i, reference),
+        Err(i) => match locate(names, held, Key::Name, without_slash(reference)) {
+            Ok(j) => Found::One(names[j].number),
+            Err(_) => prefixed(ids, held, i, reference),
         },
     }
 }
