@@ -1,0 +1,5 @@
+pub mod KillLemmas
+pub mod MakeLemmas
+pub mod ReadyLemmas
+pub mod CommitLemmas
+pub mod StartLemmas

@@ -1,0 +1,42 @@
+use Rattle.std.proofs.Common.{◌≤◌, arith, refl, ap, sym, subst, ◌∙◌, ◌++◌, List}
+use Rattle.engine_text.specs.declared.event.Event.{Event}
+use Rattle.machine_effects.specs.Memory.{Memory, Room, standing}
+use Rattle.machine_calls.specs.Plans.{Fits}
+use Rattle.machine_model.specs.Step.{at_moment, counted}
+use Rattle.machine_calls.specs.Parts.{MachineParts}
+use Rattle.machine_calls.proofs.CommitLemmas.{commit_parts, kept_parts, count_fits}
+use Rattle.machine_calls.proofs.machine.Machine.commit.Goals as goal
+
+pub invariant_of-self : goal.invariant_of-self
+invariant_of-self c = record {
+  state = kept_parts c.args.prepared c.args.self.now c.requires.0 c.perform-death.result c.as_slice.result.now c.stand_at.new.self.state c.perform-death.new.tables.state c.settle.new.self.state c.count.new.self.state
+      c.requires.1 (ap (λ (m : Memory). m.state) c.stand_at.ensures ∙ ap (λ (w : MachineParts). at_moment c.args.prepared.moment w.memory.state) c.self.view_is) c.perform-death.ensures.state c.perform-death.ensures.died c.settle.ensures.state c.as_slice.ensures.value c.count.ensures.state;
+  moments = subst (λ (r : Room). 65536 ≤ r.moments) (sym (c.count.ensures.room ∙ (c.settle.ensures.room ∙ (c.perform-death.ensures.room ∙ ap (λ (m : Memory). m.room) c.stand_at.ensures)))) c.self.invariant.moments;
+}
+
+pub count-requires-clause-calls : goal.count-requires-clause-calls
+count-requires-clause-calls c = (count_fits c.as_slice.result.now 1 c.settle.new.self.state (kept_parts c.args.prepared c.args.self.now c.requires.0 c.perform-death.result c.as_slice.result.now c.stand_at.new.self.state c.perform-death.new.tables.state c.settle.new.self.state (counted c.as_slice.result.now 1 c.settle.new.self.state)
+    c.requires.1 (ap (λ (m : Memory). m.state) c.stand_at.ensures ∙ ap (λ (w : MachineParts). at_moment c.args.prepared.moment w.memory.state) c.self.view_is) c.perform-death.ensures.state c.perform-death.ensures.died c.settle.ensures.state c.as_slice.ensures.value refl)).0
+
+pub count-requires-clause-events : goal.count-requires-clause-events
+count-requires-clause-events c = (count_fits c.as_slice.result.now 1 c.settle.new.self.state (kept_parts c.args.prepared c.args.self.now c.requires.0 c.perform-death.result c.as_slice.result.now c.stand_at.new.self.state c.perform-death.new.tables.state c.settle.new.self.state (counted c.as_slice.result.now 1 c.settle.new.self.state)
+    c.requires.1 (ap (λ (m : Memory). m.state) c.stand_at.ensures ∙ ap (λ (w : MachineParts). at_moment c.args.prepared.moment w.memory.state) c.self.view_is) c.perform-death.ensures.state c.perform-death.ensures.died c.settle.ensures.state c.as_slice.ensures.value refl)).1
+
+pub returns : goal.returns
+returns c = λ asked for. record {
+  reply = for.reply;
+  state = commit_parts c.args.prepared c.args.self.now asked c.perform-death.result c.as_slice.result.now c.stand_at.new.self.state c.perform-death.new.tables.state c.settle.new.self.state c.count.new.self.state
+      for (ap (λ (m : Memory). m.state) c.stand_at.ensures ∙ ap (λ (w : MachineParts). at_moment c.args.prepared.moment w.memory.state) c.self.view_is) c.perform-death.ensures.state c.perform-death.ensures.died c.settle.ensures.state c.as_slice.ensures.value c.count.ensures.state;
+  events = c.append_reserved.ensures ∙ (ap (λ (w : MachineParts). w.events ++ c.args.prepared.events.items) c.self.view_is ∙ ap (λ (l : List Event). c.args.self.now.events ++ l) for.events);
+}
+
+pub perform-death-requires : goal.perform-death-requires
+perform-death-requires c =
+    subst (λ (m : Memory). Fits c.args.prepared.plan m)
+    (sym (c.stand_at.ensures ∙ (ap (λ t. standing t c.self.inside.tables) c.requires.1.moment ∙ ap (λ (w : MachineParts). standing c.requires.0.moment w.memory) c.self.view_is)))
+    c.requires.1.fits
+
+pub count-requires-clause-moments : goal.count-requires-clause-moments
+count-requires-clause-moments c =
+    let room : 65536 ≤ c.settle.new.self.room.moments = subst (λ (r : Room). 65536 ≤ r.moments) (sym (c.settle.ensures.room ∙ (c.perform-death.ensures.room ∙ ap (λ (m : Memory). m.room) c.stand_at.ensures))) c.self.invariant.moments in
+    omega (arith, room)

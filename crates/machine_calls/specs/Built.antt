@@ -1,0 +1,10 @@
+-- own: which calls this machine answers so far.
+use Rattle.std.specs.Prelude.{Bool, true, false}
+use Rattle.engine_text.specs.declared.call.Call.{Call}
+
+-- Starts, kills and pauses.
+abbrev pub is_served : Call → Bool
+is_served (Call.Kill target signal) = true
+is_served (Call.Pause target) = true
+is_served (Call.Start target) = true
+is_served _ = false

@@ -1,0 +1,2 @@
+pub mod Kill
+pub mod Start

@@ -1,0 +1,32 @@
+-- own: when a prepared due step may be committed, and what the commit does.
+use Rattle.std.specs.Prelude.{◌≡◌, ℕ, ◌+◌, ◌≤◌, ◌++◌, Option, Some, None, length}
+use Rattle.engine_text.specs.declared.step.DueAction.{DueAction}
+use Rattle.machine_model.specs.State.{State}
+use Rattle.machine_model.specs.Chain.{Effect}
+use Rattle.machine_model.specs.Consistency.{IsConsistent}
+use Rattle.machine_model.specs.Due.{due_effect, least_due}
+use Rattle.machine_model.specs.Step.{at_moment, finished}
+use Rattle.machine_effects.specs.Memory.{standing}
+use Rattle.machine_calls.specs.Parts.{MachineParts}
+use Rattle.machine_calls.specs.Plans.{plan_effect, Fits}
+use Rattle.machine_calls.specs.declared.prepared.PreparedDue.{PreparedDue}
+
+-- What a due action does at its moment.
+abbrev pub due_at : DueAction → State → Effect
+due_at d s = due_effect d (at_moment d.moment s)
+
+-- It is the least due action, made ready on this machine.
+pub record IsForDue (p : PreparedDue) (w : MachineParts) : Type 0 where
+  pub due : DueAction
+  pub least : least_due w.memory.state ≡ Some due
+  pub moment : p.moment ≡ due.moment
+  pub effect : plan_effect p.plan (at_moment due.moment w.memory.state) ≡ due_at due w.memory.state
+  pub events : p.events.items ≡ (due_at due w.memory.state).events
+  pub fits : Fits p.plan (standing due.moment w.memory)
+  pub kept : IsConsistent (finished 0 (due_at due w.memory.state)).state
+  pub places : length w.events + length p.events.items ≤ w.places
+
+-- The machine after a due step, if there is one.
+abbrev pub IsStepped : Option Effect → MachineParts → MachineParts → Type 0
+IsStepped None before after = ⊥
+IsStepped (Some e) before after = (after.memory.state ≡ e.state) × (after.events ≡ before.events ++ e.events)

@@ -1,0 +1,8 @@
+pub mod Built
+pub mod Calls
+pub mod Dues
+pub mod Making
+pub mod Parts
+pub mod Plans
+pub mod Prepared
+pub mod Views

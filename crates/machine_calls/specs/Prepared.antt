@@ -1,0 +1,53 @@
+-- own: when a prepared call may be committed, and what the commit does.
+use Rattle.std.specs.Prelude.{◌≡◌, ℕ, ◌+◌, ◌<◌, ◌≤◌, ◌^◌, ◌++◌, length, Result, Ok, Err}
+use Rattle.engine_text.specs.declared.call.Call.{Call}
+use Rattle.engine_text.specs.declared.reply.Reply.{Reply}
+use Rattle.engine_text.specs.declared.memory.NoMemory.{NoMemory}
+use Rattle.machine_model.specs.State.{State}
+use Rattle.machine_model.specs.Call.{outcome_of}
+use Rattle.machine_model.specs.Outcome.{Outcome}
+use Rattle.machine_model.specs.Step.{at_moment, call_outcome}
+use Rattle.machine_effects.specs.Memory.{Memory, standing}
+use Rattle.machine_calls.specs.Plans.{plan_effect, Fits}
+use Rattle.machine_model.specs.Consistency.{IsConsistent}
+use Rattle.machine_calls.specs.Parts.{MachineParts}
+use Rattle.machine_calls.specs.declared.prepared.Prepared.{Prepared}
+
+-- A connection's call at a moment.
+pub record Asked : Type 0 where
+  pub connection : ℕ
+  pub moment : ℕ
+  pub call : Call
+
+-- The same, of its parts.
+abbrev pub asked_by : ℕ → ℕ → Call → Asked
+asked_by connection moment c = record { connection = connection; moment = moment; call = c }
+
+-- What the call is answered at its moment.
+abbrev pub outcome_at : Asked → State → Outcome
+outcome_at a s = outcome_of a.call a.connection (at_moment a.moment s)
+
+-- It is that call, made ready on this machine.
+pub record IsFor (p : Prepared) (w : MachineParts) (a : Asked) : Type 0 where
+  pub moment : p.moment ≡ a.moment
+  pub effect : plan_effect p.plan (at_moment a.moment w.memory.state) ≡ (outcome_at a w.memory.state).effect
+  pub events : p.events.items ≡ (outcome_at a w.memory.state).effect.events
+  pub reply : p.reply ≡ (outcome_at a w.memory.state).reply
+  pub fits : Fits p.plan (standing a.moment w.memory)
+  pub kept : IsConsistent (call_outcome a.connection a.moment a.call w.memory.state).effect.state
+  pub places : length w.events + length p.events.items ≤ w.places
+
+-- It is some call, made ready on this machine.
+abbrev pub IsForSome : Prepared → MachineParts → Type 0
+IsForSome p w = (a : Asked) × IsFor p w a
+
+-- The machine after a step with that outcome, and the reply.
+pub record IsCommitted (o : Outcome) (answer : Reply) (before after : MachineParts) : Type 0 where
+  pub reply : answer ≡ o.reply
+  pub state : after.memory.state ≡ o.effect.state
+  pub events : after.events ≡ before.events ++ o.effect.events
+
+-- What a call that is made at once does; without memory nothing.
+abbrev pub IsAsked : Result Reply NoMemory → Outcome → MachineParts → MachineParts → Type 0
+IsAsked (Ok answer) o before after = IsCommitted o answer before after
+IsAsked (Err e) o before after = (after.memory.state ≡ before.memory.state) × (after.events ≡ before.events)

@@ -1,0 +1,4 @@
+// The calls, one by one.
+pub mod kill;
+pub mod pause;
+pub mod start;

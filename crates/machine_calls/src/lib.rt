@@ -1,0 +1,14 @@
+//! The machine of containers over its tables: a call is prepared, and then committed.
+#![tactic(auto)]
+
+mod answers;
+mod calls;
+mod lookup;
+mod machine;
+mod plan;
+mod prepared;
+mod refusals;
+mod texts;
+
+pub use machine::{Machine, ask};
+pub use prepared::{Prepared, PreparedDue};

@@ -1,0 +1,186 @@
+// The machine: its tables and the events so far.
+ghost use Rattle.std.specs.Prelude.{◌≡◌, ℕ, ◌+◌, ◌<◌, ◌≤◌, [], ◌++◌, length, vec_len, vec_capacity, IfOk, OnOk, IsTrue};
+ghost use Rattle.machine_model.specs.Step.{call_outcome, due_step};
+ghost use Rattle.engine_text.specs.declared.step.Step as steps;
+ghost use Rattle.machine_model.specs.Call.{outcome_of};
+ghost use Rattle.machine_model.specs.History.{IsLawful, greatest_moment};
+ghost use Rattle.machine_model.specs.State.{initial_state};
+ghost use Rattle.machine_model.specs.Soundness.{IsSound};
+ghost use Rattle.machine_calls.specs.Built.{is_served};
+ghost use Rattle.machine_calls.specs.Dues.{IsForDue, IsStepped};
+ghost use Rattle.machine_calls.specs.Making.{Makes};
+ghost use Rattle.machine_calls.specs.Plans.{HasRoomFor};
+ghost use Rattle.machine_model.specs.Consistency.{IsConsistent};
+ghost use Rattle.machine_calls.specs.Prepared.{Asked, asked_by, IsFor, IsForSome, IsCommitted, IsAsked};
+
+use super::calls;
+use super::plan::{Plan, perform};
+use super::prepared::{Prepared, PreparedDue};
+use engine_text::{Call, Event, NoMemory, Reply};
+use machine_effects::Tables;
+use std::alloc::Global;
+use std::marker::Model;
+
+/// The machine.
+#[derive(Drop)]
+pub struct Machine {
+    tables: Tables,
+    events: Vec<Event>,
+}
+
+impl Model for Machine {
+    ghost use Rattle.machine_calls.specs.Parts.{MachineParts};
+
+    ghost Value = { MachineParts };
+
+    ghost use Rattle.machine_calls.specs.Views.{parts_of, IsSoundInside};
+
+    ghost view = { parts_of };
+
+    ghost invariant = { IsSoundInside };
+}
+
+// These events come at the end, for which there is room.
+fn append_reserved(events: &mut Vec<Event>, mut more: Vec<Event>)
+    requires { vec_len events.old + vec_len more ≤ vec_capacity events.old }
+    ensures { events.new.items ≡ events.old.items ++ more.items }
+{
+    let _ = events.append(&mut more);
+}
+
+impl Machine {
+    /// No container, no event. The moment is at most the greatest one.
+    pub fn new(alloc: Global, seed: [u8; 32], moment: u64) -> Result<Machine, NoMemory>
+        requires { moment ≤ greatest_moment }
+        ensures state { IfOk result (λ m. m.memory.state ≡ initial_state seed moment) }
+        ensures events { IfOk result (λ m. m.events ≡ []) }
+    {
+        let tables = Tables::new(alloc, seed, moment)?;
+        Ok(Machine {
+            tables,
+            events: Vec::new(alloc),
+        })
+    }
+
+    // The call as it is answered in this state.
+    fn prepare_call(&self, alloc: Global, moment: u64, call: &Call) -> Result<Prepared, NoMemory>
+        requires sound { IsSound call.now }
+        requires served { IsTrue (is_served call.now) }
+        ensures { IfOk result (λ p. (connection : ℕ)
+            → Makes p moment self.now.memory.state (outcome_of call.now connection)) }
+    {
+        self.kept();
+        match call {
+            Call::Kill { target, signal } => {
+                calls::kill::prepare(&self.tables, alloc, moment, target.as_str(), *signal)
+            }
+            Call::Pause { target } => {
+                calls::pause::prepare(&self.tables, alloc, moment, target.as_str())
+            }
+            Call::Start { target } => {
+                calls::start::prepare(&self.tables, alloc, moment, target.as_str())
+            }
+            _ => unreachable!(),
+        }
+    }
+
+    /// The state is one that a machine can have.
+    pub fn kept(&self)
+        ensures state { IsConsistent self.now.memory.state }
+        ensures moments { 65536 ≤ self.now.memory.room.moments }
+    {
+        let _ = &self.events;
+    }
+
+    // Room for that, and for so many events.
+    fn make_room(&mut self, alloc: Global, plan: &Plan, events: usize) -> Result<(), NoMemory>
+        ensures state { self.new.memory.state ≡ self.old.memory.state }
+        ensures events { self.new.events ≡ self.old.events }
+        ensures places { OnOk result (length self.new.events + events ≤ self.new.places) }
+        ensures room { OnOk result (HasRoomFor plan.now self.new.memory) }
+    {
+        if self.events.reserve(events).is_err() {
+            return Err(NoMemory);
+        }
+        match plan {
+            Plan::Nothing => Ok(()),
+            Plan::KillRestarting { .. } => Ok(()),
+            Plan::Kill { .. } => self.tables.make_room(alloc),
+            Plan::Pause { .. } => self.tables.make_room(alloc),
+            Plan::Start { .. } => self.tables.make_room(alloc),
+        }
+    }
+
+    /// Makes a lawful call ready: its reply, its events, and all the memory that its commit wants.
+    pub fn prepare(
+        &mut self,
+        alloc: Global,
+        conn: u32,
+        moment: u64,
+        call: &Call,
+    ) -> Result<Prepared, NoMemory>
+        requires lawful { IsLawful self.old.memory.state (steps.Step.Call conn moment call.now) }
+        requires served { IsTrue (is_served call.now) }
+        ensures state { self.new.memory.state ≡ self.old.memory.state }
+        ensures events { self.new.events ≡ self.old.events }
+        ensures ready { IfOk result (λ p. IsFor p self.new (asked_by conn moment call.now)) }
+    {
+        self.kept();
+        let prepared = self.prepare_call(alloc, moment, call)?;
+        self.make_room(alloc, &prepared.plan, prepared.events.len())?;
+        Ok(prepared)
+    }
+
+    /// Makes the call that was prepared on this machine, unchanged since. It takes no memory.
+    pub fn commit(&mut self, prepared: Prepared) -> Reply
+        requires { IsForSome prepared self.old }
+        ensures { (asked : Asked) → IsFor prepared self.old asked
+            → IsCommitted (call_outcome asked.connection asked.moment asked.call self.old.memory.state) result self.old self.new }
+    {
+        let Prepared {
+            moment,
+            reply,
+            events,
+            plan,
+        } = prepared;
+        self.tables.stand_at(moment);
+        let death = perform(&mut self.tables, plan);
+        self.tables.settle(death);
+        self.tables.count(events.as_slice(), 1);
+        append_reserved(&mut self.events, events);
+        reply
+    }
+
+    /// Makes the due step that was prepared on this machine, unchanged since. It takes no memory.
+    pub fn commit_due(&mut self, prepared: PreparedDue)
+        requires { IsForDue prepared self.old }
+        ensures { IsStepped (due_step self.old.memory.state) self.old self.new }
+    {
+        let PreparedDue {
+            moment,
+            events,
+            plan,
+        } = prepared;
+        self.tables.stand_at(moment);
+        let death = perform(&mut self.tables, plan);
+        self.tables.settle(death);
+        self.tables.count(events.as_slice(), 0);
+        append_reserved(&mut self.events, events);
+    }
+}
+
+/// Makes a lawful call, and answers it; out of memory it changes nothing.
+pub fn ask(
+    machine: &mut Machine,
+    alloc: Global,
+    conn: u32,
+    moment: u64,
+    call: &Call,
+) -> Result<Reply, NoMemory>
+    requires lawful { IsLawful machine.old.memory.state (steps.Step.Call conn moment call.now) }
+    requires served { IsTrue (is_served call.now) }
+    ensures { IsAsked result (call_outcome conn moment call.now machine.old.memory.state) machine.old machine.new }
+{
+    let prepared = machine.prepare(alloc, conn, moment, call)?;
+    Ok(machine.commit(prepared))
+}

@@ -1,0 +1,32 @@
+// A call that is ready to be committed.
+ghost use Rattle.std.specs.Prelude.{◌≡◌};
+
+use super::plan::Plan;
+use engine_text::{Event, Reply};
+
+/// A call that is ready to be committed: its moment, its reply, its events, and what it does with
+/// the memory that this wants.
+#[derive(Drop)]
+pub struct Prepared {
+    pub(super) moment: u64,
+    pub(super) reply: Reply,
+    pub(super) events: Vec<Event>,
+    pub(super) plan: Plan,
+}
+
+impl Prepared {
+    /// The reply that the commit will give.
+    pub fn reply(&self) -> &Reply
+        ensures { result.now ≡ self.now.reply }
+    {
+        &self.reply
+    }
+}
+
+/// A due step that is ready to be committed.
+#[derive(Drop)]
+pub struct PreparedDue {
+    pub(super) moment: u64,
+    pub(super) events: Vec<Event>,
+    pub(super) plan: Plan,
+}
