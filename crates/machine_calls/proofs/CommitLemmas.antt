@@ -9,6 +9,7 @@ use Rattle.machine_model.specs.Outcome.{Outcome}
 use Rattle.machine_model.specs.Step.{at_moment, call_outcome, counted, due_step, finished}
 use Rattle.machine_model.specs.Effects.Settle.{settle_tickets}
 use Rattle.machine_model.specs.Consistency.{live_execs}
+use Rattle.machine_calls.specs.DuePlans.{due_plan_effect}
 use Rattle.machine_calls.specs.Plans.{plan_effect}
 use Rattle.machine_effects.specs.Settled.{deaths}
 use Rattle.machine_model.specs.Consistency.{IsConsistent}
@@ -18,7 +19,7 @@ use Rattle.engine_text.specs.declared.reply.Reply.{Reply}
 use Rattle.machine_effects.specs.declared.death.Death.{Death}
 use Rattle.machine_calls.specs.Dues.{IsForDue, IsStepped, due_at}
 use Rattle.machine_calls.specs.declared.prepared.Prepared.{Prepared}
-use Rattle.machine_calls.specs.declared.prepared.PreparedDue.{PreparedDue}
+use Rattle.machine_calls.specs.declared.due.PreparedDue.{PreparedDue}
 
 -- the state after all parts
 pub after_parts : (e : Effect) (events : List Event) (died : List Died) (k : ℕ) (b d f : State) → b ≡ e.state → died ≡ e.died → events ≡ e.events → d ≡ settle_tickets died b → f ≡ counted events k d
@@ -65,16 +66,16 @@ committed_on a answer before between after state events h =
 -- ---- of a due step
 
 pub due_parts : (p : PreparedDue) (w : MachineParts) (death : Option Death) (events : List Event) (a b d f : State) (h : IsForDue p w) → a ≡ at_moment p.moment w.memory.state
-    → b ≡ (plan_effect p.plan a).state → deaths death ≡ (plan_effect p.plan a).died → d ≡ settle_tickets (deaths death) b → events ≡ p.events.items → f ≡ counted events 0 d
+    → b ≡ (due_plan_effect p.plan a).state → deaths death ≡ (due_plan_effect p.plan a).died → d ≡ settle_tickets (deaths death) b → events ≡ p.events.items → f ≡ counted events 0 d
     → f ≡ (finished 0 (due_at h.due w.memory.state)).state
 due_parts p w death events a b d f h h0 h1 h2 h3 h4 h5 =
     let at : a ≡ at_moment h.due.moment w.memory.state = h0 ∙ ap (λ m. at_moment m w.memory.state) h.moment in
-    let same : plan_effect p.plan a ≡ due_at h.due w.memory.state = ap (plan_effect p.plan) at ∙ h.effect in
+    let same : due_plan_effect p.plan a ≡ due_at h.due w.memory.state = ap (due_plan_effect p.plan) at ∙ h.effect in
     after_parts (due_at h.due w.memory.state) events (deaths death) 0 b d f
     (h1 ∙ ap (λ (e : Effect). e.state) same) (h2 ∙ ap (λ (e : Effect). e.died) same) (h4 ∙ h.events) h3 h5
 
 pub kept_due_parts : (p : PreparedDue) (w : MachineParts) (death : Option Death) (events : List Event) (a b d f : State) (h : IsForDue p w) → a ≡ at_moment p.moment w.memory.state
-    → b ≡ (plan_effect p.plan a).state → deaths death ≡ (plan_effect p.plan a).died → d ≡ settle_tickets (deaths death) b → events ≡ p.events.items → f ≡ counted events 0 d
+    → b ≡ (due_plan_effect p.plan a).state → deaths death ≡ (due_plan_effect p.plan a).died → d ≡ settle_tickets (deaths death) b → events ≡ p.events.items → f ≡ counted events 0 d
     → IsConsistent f
 kept_due_parts p w death events a b d f h h0 h1 h2 h3 h4 h5 =
     subst (λ (s : State). IsConsistent s) (sym (due_parts p w death events a b d f h h0 h1 h2 h3 h4 h5)) h.kept

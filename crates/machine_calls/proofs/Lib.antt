@@ -3,3 +3,5 @@ pub mod MakeLemmas
 pub mod ReadyLemmas
 pub mod CommitLemmas
 pub mod StartLemmas
+pub mod DueFoundLemmas
+pub mod DueMakeLemmas

@@ -66,7 +66,7 @@ same_words : (c d : Container) → Some c ≡ Some d → program_of c.life.words
 same_words c d e = let is : c ≡ d = cc in ap (λ (x : Container). program_of x.life.words (x.life.starts + 1)) is
 
 -- a kit of the container serves it
-serves : (n : ℕ) (s : State) (c : Container) (script : Option Program) (kit : Kit) → container_numbered n s ≡ Some c → script ≡ program_of c.life.words (c.life.starts + 1) → IsKitOf n script s kit → Serves n kit s
+pub serves : (n : ℕ) (s : State) (c : Container) (script : Option Program) (kit : Kit) → container_numbered n s ≡ Some c → script ≡ program_of c.life.words (c.life.starts + 1) → IsKitOf n script s kit → Serves n kit s
 serves n s c script kit found named of = record {
   named = λ d at. of.script ∙ (named ∙ same_words c d (sym found ∙ at));
   numbers = of.numbers;

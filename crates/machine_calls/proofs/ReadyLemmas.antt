@@ -27,11 +27,11 @@ few s k =
     All-imp (λ (c : Container). c.life.starts ≤ s.step_count) (λ (c : Container). c.life.starts < 2 ^ 63) (λ c h. omega (arith, h, most)) s.containers k.counts.starts
 
 -- at a call's moment the processes' times are near
-timely : (t : ℕ) (s : State) → IsMomentOf s t → AreTimely (at_moment t s)
+pub timely : (t : ℕ) (s : State) → IsMomentOf s t → AreTimely (at_moment t s)
 timely t s h = record { clock = h.until; processes = h.times }
 
 -- the container's main process may end
-settles : (n : ℕ) (kit : Kit) (t : ℕ) (m : Memory) → Serves n kit m.state → IsConsistent m.state → t ≤ greatest_moment → HasRoom m → CanSettle n kit m.room (at_moment t m.state)
+pub settles : (n : ℕ) (kit : Kit) (t : ℕ) (m : Memory) → Serves n kit m.state → IsConsistent m.state → t ≤ greatest_moment → HasRoom m → CanSettle n kit m.room (at_moment t m.state)
 settles n kit t m serves k until room = record {
   clock = until;
   launch = record { few = few m.state k; pid = omega (arith, k.numbers.next_pid, k.counts.steps); named = serves.named };

@@ -8,21 +8,28 @@ use Rattle.machine_model.specs.Due.{due_effect, least_due}
 use Rattle.machine_model.specs.Step.{at_moment, finished}
 use Rattle.machine_effects.specs.Memory.{standing}
 use Rattle.machine_calls.specs.Parts.{MachineParts}
-use Rattle.machine_calls.specs.Plans.{plan_effect, Fits}
-use Rattle.machine_calls.specs.declared.prepared.PreparedDue.{PreparedDue}
+use Rattle.machine_calls.specs.DuePlans.{due_plan_effect, BringsDue, FitsDue}
+use Rattle.machine_calls.specs.declared.due.PreparedDue.{PreparedDue}
 
 -- What a due action does at its moment.
 abbrev pub due_at : DueAction → State → Effect
 due_at d s = due_effect d (at_moment d.moment s)
+
+-- It stands at the action's moment, and is what the action does there.
+pub record MakesDue (p : PreparedDue) (due : DueAction) (s : State) : Type 0 where
+  pub moment : p.moment ≡ due.moment
+  pub effect : due_plan_effect p.plan (at_moment due.moment s) ≡ due_at due s
+  pub events : p.events.items ≡ (due_at due s).events
+  pub brings : BringsDue p.plan due.moment s
 
 -- It is the least due action, made ready on this machine.
 pub record IsForDue (p : PreparedDue) (w : MachineParts) : Type 0 where
   pub due : DueAction
   pub least : least_due w.memory.state ≡ Some due
   pub moment : p.moment ≡ due.moment
-  pub effect : plan_effect p.plan (at_moment due.moment w.memory.state) ≡ due_at due w.memory.state
+  pub effect : due_plan_effect p.plan (at_moment due.moment w.memory.state) ≡ due_at due w.memory.state
   pub events : p.events.items ≡ (due_at due w.memory.state).events
-  pub fits : Fits p.plan (standing due.moment w.memory)
+  pub fits : FitsDue p.plan (standing due.moment w.memory)
   pub kept : IsConsistent (finished 0 (due_at due w.memory.state)).state
   pub places : length w.events + length p.events.items ≤ w.places
 

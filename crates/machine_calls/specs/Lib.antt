@@ -1,5 +1,6 @@
 pub mod Built
 pub mod Calls
+pub mod DuePlans
 pub mod Dues
 pub mod Making
 pub mod Parts

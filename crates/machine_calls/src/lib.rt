@@ -3,6 +3,7 @@
 
 mod answers;
 mod calls;
+mod due;
 mod lookup;
 mod machine;
 mod plan;
@@ -10,5 +11,6 @@ mod prepared;
 mod refusals;
 mod texts;
 
+pub use due::PreparedDue;
 pub use machine::{Machine, ask};
-pub use prepared::{Prepared, PreparedDue};
+pub use prepared::Prepared;

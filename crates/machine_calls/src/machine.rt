@@ -3,19 +3,21 @@ ghost use Rattle.std.specs.Prelude.{◌≡◌, ℕ, ◌+◌, ◌<◌, ◌≤◌,
 ghost use Rattle.machine_model.specs.Step.{call_outcome, due_step};
 ghost use Rattle.engine_text.specs.declared.step.Step as steps;
 ghost use Rattle.machine_model.specs.Call.{outcome_of};
-ghost use Rattle.machine_model.specs.History.{IsLawful, greatest_moment};
+ghost use Rattle.machine_model.specs.History.{IsLawful, greatest_moment, is_due};
 ghost use Rattle.machine_model.specs.State.{initial_state};
 ghost use Rattle.machine_model.specs.Soundness.{IsSound};
 ghost use Rattle.machine_calls.specs.Built.{is_served};
+ghost use Rattle.machine_calls.specs.DuePlans.{HasDueRoom};
 ghost use Rattle.machine_calls.specs.Dues.{IsForDue, IsStepped};
 ghost use Rattle.machine_calls.specs.Making.{Makes};
 ghost use Rattle.machine_calls.specs.Plans.{HasRoomFor};
 ghost use Rattle.machine_model.specs.Consistency.{IsConsistent};
 ghost use Rattle.machine_calls.specs.Prepared.{Asked, asked_by, IsFor, IsForSome, IsCommitted, IsAsked};
 
-use super::calls;
+use super::due::{DuePlan, PreparedDue};
 use super::plan::{Plan, perform};
-use super::prepared::{Prepared, PreparedDue};
+use super::prepared::Prepared;
+use super::{calls, due};
 use engine_text::{Call, Event, NoMemory, Reply};
 use machine_effects::Tables;
 use std::alloc::Global;
@@ -151,6 +153,55 @@ impl Machine {
         reply
     }
 
+    /// Whether something is due at or before the moment.
+    pub fn is_due(&self, moment: u64) -> bool
+        ensures { result ≡ is_due self.now.memory.state moment }
+    {
+        match self.tables.least_due() {
+            Some(action) => action.moment <= moment,
+            None => false,
+        }
+    }
+
+    // Room for that, and for so many events.
+    fn make_due_room(
+        &mut self,
+        alloc: Global,
+        plan: &DuePlan,
+        events: usize,
+    ) -> Result<(), NoMemory>
+        ensures state { self.new.memory.state ≡ self.old.memory.state }
+        ensures events { self.new.events ≡ self.old.events }
+        ensures places { OnOk result (length self.new.events + events ≤ self.new.places) }
+        ensures room { OnOk result (HasDueRoom plan.now self.new.memory) }
+    {
+        if self.events.reserve(events).is_err() {
+            return Err(NoMemory);
+        }
+        match plan {
+            DuePlan::Op { owner, .. } => self.tables.make_op_room(alloc, *owner),
+            DuePlan::StopDeadline { .. } => self.tables.make_room(alloc),
+            DuePlan::RemovalDeadline { .. } => Ok(()),
+            DuePlan::RestartTimer { .. } => self.tables.make_room(alloc),
+        }
+    }
+
+    /// Makes the least due action ready: its events, and all the memory that its commit wants.
+    pub fn prepare_due(&mut self, alloc: Global) -> Result<PreparedDue, NoMemory>
+        requires { IsLawful self.old.memory.state steps.Step.Due }
+        ensures state { self.new.memory.state ≡ self.old.memory.state }
+        ensures events { self.new.events ≡ self.old.events }
+        ensures ready { IfOk result (λ p. IsForDue p self.new) }
+    {
+        self.kept();
+        let Some(action) = self.tables.least_due() else {
+            unreachable!()
+        };
+        let prepared = due::prepare(&self.tables, alloc, action)?;
+        self.make_due_room(alloc, &prepared.plan, prepared.events.len())?;
+        Ok(prepared)
+    }
+
     /// Makes the due step that was prepared on this machine, unchanged since. It takes no memory.
     pub fn commit_due(&mut self, prepared: PreparedDue)
         requires { IsForDue prepared self.old }
@@ -162,7 +213,7 @@ impl Machine {
             plan,
         } = prepared;
         self.tables.stand_at(moment);
-        let death = perform(&mut self.tables, plan);
+        let death = due::perform(&mut self.tables, plan);
         self.tables.settle(death);
         self.tables.count(events.as_slice(), 0);
         append_reserved(&mut self.events, events);

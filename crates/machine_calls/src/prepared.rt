@@ -22,11 +22,3 @@ impl Prepared {
         &self.reply
     }
 }
-
-/// A due step that is ready to be committed.
-#[derive(Drop)]
-pub struct PreparedDue {
-    pub(super) moment: u64,
-    pub(super) events: Vec<Event>,
-    pub(super) plan: Plan,
-}

@@ -1,7 +1,7 @@
 use Rattle.std.proofs.Common.{◌≤◌, arith, refl, ap, sym, subst, ◌∙◌, ◌++◌, List}
 use Rattle.engine_text.specs.declared.event.Event.{Event}
 use Rattle.machine_effects.specs.Memory.{Memory, Room, standing}
-use Rattle.machine_calls.specs.Plans.{Fits}
+use Rattle.machine_calls.specs.DuePlans.{FitsDue}
 use Rattle.machine_model.specs.Step.{at_moment, counted}
 use Rattle.machine_calls.specs.Parts.{MachineParts}
 use Rattle.machine_model.specs.Step.{finished, step_of}
@@ -33,7 +33,7 @@ returns c =
 
 pub perform-death-requires : goal.perform-death-requires
 perform-death-requires c =
-    subst (λ (m : Memory). Fits c.args.prepared.plan m)
+    subst (λ (m : Memory). FitsDue c.args.prepared.plan m)
     (sym (c.stand_at.ensures ∙ (ap (λ t. standing t c.self.inside.tables) c.requires.moment ∙ ap (λ (w : MachineParts). standing c.requires.due.moment w.memory) c.self.view_is)))
     c.requires.fits
 
