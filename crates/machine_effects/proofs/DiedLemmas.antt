@@ -22,7 +22,7 @@ use Rattle.machine_model.specs.Effects.Destroy.{destroy, without}
 use Rattle.machine_model.specs.Effects.EndMain.{end_main, die, clear_deadlines, end_exec, end_execs, by_goal, by_status, follow, decision_at}
 use Rattle.machine_model.specs.Effects.Launch.{launch, launch_by_call, afresh, launch_program, container_room}
 use Rattle.machine_effects.specs.Effects.EndMain.{begun}
-use Rattle.machine_model.specs.Effects.Meet.{by_effect, stepped, thaw_execs, wake_parts, woken, send, meet_signal, running}
+use Rattle.machine_model.specs.Effects.Meet.{by_effect, step_process, stepped, thaw_container, thaw_execs, wake_parts, woken, send, meet_signal, running}
 use Rattle.machine_model.specs.Calls.Pause.{pause, paused, freeze_process, freeze_execs}
 use Rattle.machine_effects.specs.Fit.{died_of, CanSettle}
 use Rattle.machine_effects.specs.Memory.{Room}
@@ -150,6 +150,12 @@ met_found number n (Some d) s a c died e h k =
 -- the end that a signal's meeting tells is that of the signal
 pub died_met : (number n : ℕ) (s a : State) (c : Container) (died : List Died) → container_numbered n s ≡ Some c → a ≡ (woken c.life.status n s).state → died ≡ (send true number n a).died → died ≡ (meet_signal number n s).died
 died_met number n s a c died e h k = met_found number n (container_numbered n s) s a c died e h k
+
+-- so is it of the end of a pause, and of its main process
+pub died_thaw : (n : ℕ) (s a : State) (died : List Died) → a ≡ (in_order (wake_parts n) s).state → died ≡ (step_process thaw (Owner.Container n) a).died → died ≡ (thaw_container n s).died
+died_thaw n s a died e h =
+    h ∙ (ap (λ z. (step_process thaw (Owner.Container n) z).died) e
+    ∙ sym (ap (λ l. l ++ (step_process thaw (Owner.Container n) (in_order (wake_parts n) s).state).died) (none_wake n s)))
 
 -- ---- what a wake keeps
 

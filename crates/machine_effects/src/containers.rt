@@ -1,5 +1,5 @@
 // The table of containers: their logs and timers with them.
-ghost use Rattle.std.specs.Prelude.{◌≡◌, ℕ, ◌+◌, ◌<◌, ◌≤◌, ◌==◌, [], length, find, option_map, option_copied, OnOk};
+ghost use Rattle.std.specs.Prelude.{◌≡◌, ℕ, ◌+◌, ◌<◌, ◌≤◌, ◌==◌, [], length, find, option_map, option_copied, slice_get, Some, OnOk};
 ghost use Rattle.container_table.specs.Lists.{remove_first};
 ghost use Rattle.container_table.specs.Reference.{container_by};
 ghost use Rattle.container_table.specs.Timers.{cleared, least, with_timer};
@@ -72,6 +72,21 @@ impl Containers {
             ≡ find (λ c. c.number == number) self.now.containers }
     {
         lives::numbered(self.held.as_slice(), number)
+    }
+
+    /// How many they are.
+    pub fn len(&self) -> usize
+        ensures { result ≡ length self.now.containers }
+    {
+        self.held.len()
+    }
+
+    /// The container at that place.
+    pub fn at(&self, place: usize) -> &Held
+        requires { place < length self.now.containers }
+        ensures { slice_get self.now.containers place ≡ Some (container_in result.now) }
+    {
+        &self.held[place]
     }
 
     /// Whether there is a container with that number.

@@ -15,6 +15,7 @@ mod foretell_met;
 mod held;
 mod kit;
 mod least;
+mod listing;
 mod lives;
 mod marks;
 mod moments;

@@ -3,7 +3,7 @@ ghost use Rattle.std.specs.Prelude.{◌≡◌, ◌<◌, ◌≤◌, length};
 ghost use Rattle.engine_text.specs.declared.owner.Owner as owners;
 ghost use Rattle.proc_kernel.specs.Processes.{thaw};
 ghost use Rattle.machine_model.specs.Chain.{in_order};
-ghost use Rattle.machine_model.specs.Effects.Meet.{step_process, by_effect, thaw_execs, send, woken, wake_parts, meet_signal};
+ghost use Rattle.machine_model.specs.Effects.Meet.{step_process, by_effect, thaw_execs, send, woken, wake_parts, thaw_container, meet_signal};
 ghost use Rattle.machine_effects.specs.Fit.{AreTimely, IsQuiet, CanSettle, died_of};
 
 use crate::kit::Kit;
@@ -120,6 +120,32 @@ impl Tables {
             Status::Exited => {}
             Status::Dead => {}
         }
+    }
+
+    // The container's main process goes on.
+    fn thaw_main(&mut self, number: u64, kit: Kit) -> Option<u8>
+        requires timely { AreTimely self.old.state }
+        requires fit { CanSettle number kit self.old.room self.old.state }
+        requires spare { 0 < self.old.spare }
+        ensures state { self.new.state ≡ (step_process thaw (owners.Owner.Container number) self.old.state).state }
+        ensures died { died_of number result ≡ (step_process thaw (owners.Owner.Container number) self.old.state).died }
+        ensures room { self.new.room ≡ self.old.room }
+    {
+        let effect = self.thaw_process(Owner::Container(number));
+        self.main_effect(effect, number, kit)
+    }
+
+    /// The end of a pause; the code of the main process, if what waited for it ended it.
+    pub fn thaw_container(&mut self, number: u64, kit: Kit) -> Option<u8>
+        requires timely { AreTimely self.old.state }
+        requires fit { CanSettle number kit self.old.room self.old.state }
+        requires spare { 0 < self.old.spare }
+        ensures state { self.new.state ≡ (thaw_container number self.old.state).state }
+        ensures died { died_of number result ≡ (thaw_container number self.old.state).died }
+        ensures room { self.new.room ≡ self.old.room }
+    {
+        self.wake(number);
+        self.thaw_main(number, kit)
     }
 
     /// The signal is met, by a frozen process with a thaw.
