@@ -2,9 +2,11 @@
 use Rattle.std.specs.Prelude.{Bool, true, false}
 use Rattle.engine_text.specs.declared.call.Call.{Call}
 
--- Starts, kills and pauses.
+-- These.
 abbrev pub is_served : Call → Bool
+is_served (Call.Inspect target) = true
 is_served (Call.Kill target signal) = true
+is_served (Call.List all limit filters) = true
 is_served (Call.Pause target) = true
 is_served (Call.Start target) = true
 is_served _ = false

@@ -1,2 +1,3 @@
 pub mod Kill
+pub mod List
 pub mod Start

@@ -1,4 +1,6 @@
 // The calls, one by one.
+pub mod inspect;
 pub mod kill;
+pub mod list;
 pub mod pause;
 pub mod start;

@@ -4,6 +4,7 @@
 mod answers;
 mod calls;
 mod due;
+mod filters;
 mod lookup;
 mod machine;
 mod plan;

@@ -76,6 +76,12 @@ impl Machine {
             Call::Kill { target, signal } => {
                 calls::kill::prepare(&self.tables, alloc, moment, target.as_str(), *signal)
             }
+            Call::Inspect { target } => {
+                calls::inspect::prepare(&self.tables, alloc, moment, target.as_str())
+            }
+            Call::List { all, limit, filter } => {
+                calls::list::prepare(&self.tables, alloc, moment, *all, *limit, filter)
+            }
             Call::Pause { target } => {
                 calls::pause::prepare(&self.tables, alloc, moment, target.as_str())
             }
