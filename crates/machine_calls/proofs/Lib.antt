@@ -8,3 +8,4 @@ pub mod CommitLemmas
 pub mod StartLemmas
 pub mod DueFoundLemmas
 pub mod DueMakeLemmas
+pub mod UnpauseLemmas

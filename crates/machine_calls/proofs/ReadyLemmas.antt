@@ -54,6 +54,11 @@ fits (Plan.Start n script) t m brings k at room = record {
   launch = record { few = few m.state k; pid = omega (arith, k.numbers.next_pid, k.counts.steps); named = brings };
   spare = room.spare;
 }
+fits (Plan.Unpause n kit) t m brings k at room = record {
+  timely = timely t m.state at;
+  fit = settles n kit t m brings k at.until room;
+  spare = room.spare;
+}
 
 pub ready : (p : Prepared) (w : MachineParts) (connection moment : ℕ) (c : Call) → IsConsistent w.memory.state → IsLawful w.memory.state (Step.Call connection moment c)
     → Makes p moment w.memory.state (outcome_of c connection) → HasRoomFor p.plan w.memory → length w.events + length p.events.items ≤ w.places → IsFor p w (asked_by connection moment c)

@@ -9,4 +9,5 @@ is_served (Call.Kill target signal) = true
 is_served (Call.List all limit filters) = true
 is_served (Call.Pause target) = true
 is_served (Call.Start target) = true
+is_served (Call.Unpause target) = true
 is_served _ = false

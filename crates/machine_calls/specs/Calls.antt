@@ -1,3 +1,4 @@
 pub mod Kill
 pub mod List
 pub mod Start
+pub mod Unpause

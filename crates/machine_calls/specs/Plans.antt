@@ -8,8 +8,10 @@ use Rattle.machine_effects.specs.Fit.{IsScriptOf, exec_numbers, outputs_of}
 use Rattle.machine_effects.specs.Memory.{Memory, HasRoom}
 use Rattle.machine_effects.specs.declared.kit.Kit.{Kit}
 use Rattle.machine_model.specs.Effects.Launch.{launch_by_call}
+use Rattle.machine_model.specs.Effects.Meet.{thaw_container}
 use Rattle.machine_calls.specs.Calls.Start.{CanStart}
 use Rattle.machine_calls.specs.Calls.Kill.{kill_effect, kill_restarting_effect, CanKill}
+use Rattle.machine_calls.specs.Calls.Unpause.{CanThaw}
 use Rattle.machine_calls.specs.declared.plan.Plan.{Plan}
 
 -- What the plan does.
@@ -19,6 +21,7 @@ plan_effect (Plan.Kill n sent last kit) = kill_effect n sent last
 plan_effect (Plan.KillRestarting n sent) = kill_restarting_effect n sent
 plan_effect (Plan.Pause n) = pause n
 plan_effect (Plan.Start n script) = launch_by_call n
+plan_effect (Plan.Unpause n kit) = thaw_container n
 
 -- The tables stand as it needs them.
 abbrev pub Fits : Plan → Memory → Type 0
@@ -27,6 +30,7 @@ Fits (Plan.Kill n sent last kit) m = CanKill n sent kit m
 Fits (Plan.KillRestarting n sent) m = ⊤
 Fits (Plan.Pause n) m = length m.state.execs ≤ m.room.scratch
 Fits (Plan.Start n script) m = CanStart n script m
+Fits (Plan.Unpause n kit) m = CanThaw n kit m
 
 -- There is room for it.
 abbrev pub HasRoomFor : Plan → Memory → Type 0
@@ -35,6 +39,7 @@ HasRoomFor (Plan.Kill n sent last kit) m = HasRoom m
 HasRoomFor (Plan.KillRestarting n sent) m = ⊤
 HasRoomFor (Plan.Pause n) m = HasRoom m
 HasRoomFor (Plan.Start n script) m = HasRoom m
+HasRoomFor (Plan.Unpause n kit) m = HasRoom m
 
 -- The memory that it brings is what the end of the container's main process may want.
 pub record Serves (n : ℕ) (kit : Kit) (s : State) : Type 0 where
@@ -50,3 +55,4 @@ Brings (Plan.Kill n sent last kit) s = Serves n kit s × (sent.number < 32)
 Brings (Plan.KillRestarting n sent) s = ⊤
 Brings (Plan.Pause n) s = ⊤
 Brings (Plan.Start n script) s = IsScriptOf n script s
+Brings (Plan.Unpause n kit) s = Serves n kit s

@@ -4,3 +4,4 @@ pub mod kill;
 pub mod list;
 pub mod pause;
 pub mod start;
+pub mod unpause;

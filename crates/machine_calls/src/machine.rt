@@ -88,6 +88,9 @@ impl Machine {
             Call::Start { target } => {
                 calls::start::prepare(&self.tables, alloc, moment, target.as_str())
             }
+            Call::Unpause { target } => {
+                calls::unpause::prepare(&self.tables, alloc, moment, target.as_str())
+            }
             _ => unreachable!(),
         }
     }
@@ -116,6 +119,7 @@ impl Machine {
             Plan::Kill { .. } => self.tables.make_room(alloc),
             Plan::Pause { .. } => self.tables.make_room(alloc),
             Plan::Start { .. } => self.tables.make_room(alloc),
+            Plan::Unpause { .. } => self.tables.make_room(alloc),
         }
     }
 

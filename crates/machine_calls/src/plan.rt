@@ -28,6 +28,10 @@ pub enum Plan {
         number: u64,
         script: Option<Script>,
     },
+    Unpause {
+        number: u64,
+        kit: Kit,
+    },
 }
 
 /// Makes it. It takes no memory.
@@ -57,5 +61,6 @@ pub fn perform(tables: &mut Tables, plan: Plan) -> Option<Death>
             calls::start::perform(tables, number, script);
             None
         }
+        Plan::Unpause { number, kit } => calls::unpause::perform(tables, number, kit),
     }
 }
