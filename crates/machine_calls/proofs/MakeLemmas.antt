@@ -75,8 +75,12 @@ serves n s c script kit found named of = record {
 }
 
 -- once each, in a consistent state
-pub stand_once : (t : ℕ) (s : State) → IsConsistent s → StandOnce (at_moment t s)
-stand_once t s k = record { execs = distinct_behind (map (λ (c : Container). c.number) s.containers) (map (λ (x : Exec). x.number) s.execs) k.names.numbers; processes = k.processes.single }
+pub stand_once : (s : State) → IsConsistent s → StandOnce s
+stand_once s k = record { execs = distinct_behind (map (λ (c : Container). c.number) s.containers) (map (λ (x : Exec). x.number) s.execs) k.names.numbers; processes = k.processes.single }
+
+-- at each moment
+pub once_at : (t : ℕ) (s : State) → IsConsistent s → StandOnce (at_moment t s)
+once_at t s k = let once = stand_once s k in record { execs = once.execs; processes = once.processes }
 
 pub makes_kill : (p : Prepared) (t : ℕ) (s : State) (c : Container) (sent : Signal) (last : Bool) (script : Option Program) (code : Option ℕ) (kit : Kit) (empty one : List Event) (e : Event)
     → IsConsistent s → container_numbered c.number s ≡ Some c → sent.number < 32 → last ≡ is_final sent c → script ≡ program_of c.life.words (c.life.starts + 1)
@@ -91,7 +95,7 @@ makes_kill p t s c sent last script code kit empty one e k found low final named
       moment = moment;
       effect = ap (λ q. plan_effect q z) plan ∙ same;
       events = first_then empty one p.events.items _ e (kill_event sent.number c t) h1 h2 h3 h4
-          ∙ (sym (kill_told sent last c.number z c script code found named (stand_once t s k) (is t)) ∙ ap (λ (x : Effect). x.events) same);
+          ∙ (sym (kill_told sent last c.number z c script code found named (once_at t s k) (is t)) ∙ ap (λ (x : Effect). x.events) same);
       reply = reply;
       brings = subst (λ q. Brings q s) (sym plan) (serves c.number s c script kit found named of, low);
     }

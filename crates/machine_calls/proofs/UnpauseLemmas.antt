@@ -23,7 +23,7 @@ use Rattle.machine_calls.specs.Making.{Makes}
 use Rattle.machine_calls.specs.Plans.{plan_effect, Brings}
 use Rattle.machine_calls.specs.declared.plan.Plan.{Plan}
 use Rattle.machine_calls.specs.declared.prepared.Prepared.{Prepared}
-use Rattle.machine_calls.proofs.MakeLemmas.{serves, stand_once}
+use Rattle.machine_calls.proofs.MakeLemmas.{once_at, serves}
 
 pub makes_unpause : (p : Prepared) (t : ℕ) (s : State) (c : Container) (script : Option Program) (code : Option ℕ) (kit : Kit) (empty : List Event)
     → IsConsistent s → container_numbered c.number s ≡ Some c → c.life.status ≡ Status.Paused → script ≡ program_of c.life.words (c.life.starts + 1)
@@ -35,7 +35,7 @@ makes_unpause p t s c script code kit empty k found paused named is moment plan 
     record {
       moment = moment;
       effect = ap (λ q. plan_effect q z) plan;
-      events = events ∙ (ap (λ l. l ++ told_unpause code c script z) none ∙ sym (unpause_told c.number z c script code found paused named (stand_once t s k) (is t)));
+      events = events ∙ (ap (λ l. l ++ told_unpause code c script z) none ∙ sym (unpause_told c.number z c script code found paused named (once_at t s k) (is t)));
       reply = reply;
       brings = subst (λ q. Brings q s) (sym plan) (serves c.number s c script kit found named of);
     }
