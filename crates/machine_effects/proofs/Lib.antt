@@ -27,3 +27,6 @@ pub mod MeetToldLemmas
 pub mod KillToldLemmas
 pub mod CallToldLemmas
 pub mod DiedToldLemmas
+pub mod CreateLemmas
+pub mod NameLemmas
+pub mod IdLemmas

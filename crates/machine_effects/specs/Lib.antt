@@ -7,6 +7,7 @@ pub mod Kits
 pub mod LeastDue
 pub mod Marks
 pub mod Memory
+pub mod NewVolumes
 pub mod Ops
 pub mod Outputs
 pub mod Places

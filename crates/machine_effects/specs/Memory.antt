@@ -12,11 +12,14 @@ pub record Room : Type 0 where
   pub moments : ℕ
   pub scratch : ℕ
 
--- The state; the kernel's spare room, records and the bytes of each; how many more records each log and
+-- The state; how many containers, volumes and references to these may stand; the kernel's spare room, records and the bytes of each; how many more records each log and
 -- output has room for; the numbers that a step has noted.
 pub record Memory : Type 0 where
   pub state : State
   pub room : Room
+  pub containers : ℕ
+  pub volumes : ℕ
+  pub uses : ℕ
   pub spare : ℕ
   pub bytes : ℕ
   pub logs : List ℕ

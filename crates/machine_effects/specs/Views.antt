@@ -1,7 +1,6 @@
 pub mod Containers
 pub mod Execs
 pub mod Outputs
-pub mod Volumes
 pub mod Tickets
 pub mod Removals
 pub mod Moments

@@ -1,9 +1,10 @@
 // The table of containers: their logs and timers with them.
-ghost use Rattle.std.specs.Prelude.{◌≡◌, ℕ, ◌+◌, ◌<◌, ◌≤◌, ◌==◌, [], length, find, option_map, option_copied, slice_get, Some, OnOk};
+ghost use Rattle.std.specs.Prelude.{◌≡◌, ℕ, ◌+◌, ◌<◌, ◌≤◌, ◌^◌, ◌==◌, [], ◌∷◌, ◌++◌, length, find, option_map, option_copied, slice_get, Some, IfOk, OnOk};
 ghost use Rattle.container_table.specs.Lists.{remove_first};
 ghost use Rattle.container_table.specs.Reference.{container_by};
 ghost use Rattle.container_table.specs.Timers.{cleared, least, with_timer};
 ghost use Rattle.machine_model.specs.Consistency.{is_there};
+ghost use Rattle.machine_model.specs.Names.{chosen_name, holder};
 ghost use Rattle.machine_effects.specs.Fit.{AreFew};
 ghost use Rattle.machine_effects.specs.Held.{container_in};
 ghost use Rattle.machine_effects.specs.Rooms.{FitsLog};
@@ -12,8 +13,8 @@ ghost use Rattle.machine_effects.specs.Marks.{marked, with_life, launched_at};
 
 use super::held::Held;
 use super::marks::Mark;
-use super::{find, lives, timers};
-use engine_text::{Bytes, DueAction, Found, NoMemory, Stream};
+use super::{find, lives, names, timers};
+use engine_text::{Bytes, DueAction, Found, NoMemory, Stream, Text};
 use std::alloc::Global;
 use std::marker::Model;
 
@@ -156,6 +157,44 @@ impl Containers {
         ensures room { self.new.room ≡ self.old.room }
     {
         timers::set(&mut self.timers, moment, rank, number);
+    }
+
+    /// The container that has the name.
+    pub fn holder(&self, name: &str) -> Option<&Held>
+        ensures { option_map container_in (option_copied result) ≡ holder name.now self.now.containers }
+    {
+        find::holder(self.held.as_slice(), name)
+    }
+
+    /// The name that a create gives its container, the next number being n.
+    pub fn chosen_name(&self, alloc: Global, given: &Option<Text>, n: u64) -> Result<Text, NoMemory>
+        requires { n < 2 ^ 63 }
+        ensures { IfOk result (λ t. t ≡ chosen_name given.now n self.now.containers) }
+    {
+        names::chosen_name(alloc, given, n, self.held.as_slice())
+    }
+
+    /// A container more; there was room for it.
+    pub fn add(&mut self, one: Held)
+        requires { length self.old.containers < self.old.places }
+        ensures containers { self.new.containers ≡ self.old.containers ++ container_in one ∷ [] }
+        ensures timers { self.new.timers ≡ self.old.timers }
+        ensures room { self.new.room ≡ self.old.room }
+    {
+        lives::add(&mut self.held, one);
+    }
+
+    /// Makes room for a container more.
+    pub fn reserve_place(&mut self) -> Result<(), NoMemory>
+        ensures containers { self.new.containers ≡ self.old.containers }
+        ensures timers { self.new.timers ≡ self.old.timers }
+        ensures room { self.new.room ≡ self.old.room }
+        ensures places { OnOk result (length self.new.containers < self.new.places) }
+    {
+        match self.held.reserve(1) {
+            Ok(()) => Ok(()),
+            Err(_) => Err(NoMemory),
+        }
     }
 
     /// The timer that comes first.

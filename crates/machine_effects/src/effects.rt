@@ -1,5 +1,6 @@
 // The effects of a step, one method each.
 mod cancel;
+mod create;
 mod deliver;
 mod destroy;
 mod due;

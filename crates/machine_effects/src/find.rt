@@ -2,6 +2,7 @@
 ghost use Rattle.std.specs.Prelude.{◌≡◌, ◌==◌, find, take, option_copied, option_map, position};
 ghost use Rattle.engine_text.specs.Texts.{same_bytes, begins_with, without_slash};
 ghost use Rattle.container_table.specs.Reference.{container_by, by_prefix};
+ghost use Rattle.machine_model.specs.Names.{holder};
 ghost use Rattle.machine_effects.specs.PrefixSearch.{further};
 ghost use Rattle.machine_effects.specs.Held.{container_in, containers_in};
 
@@ -40,6 +41,14 @@ fn with_name<'a>(held: &'a [Held], name: &str) -> Option<&'a Held>
     ensures { option_copied result ≡ find (λ h. same_bytes h.container.name name.now) held.now }
 {
     held.iter().find(|h| has_name(h, name))
+}
+
+/// The container that has the name.
+#[tactic(auto, using(crate::proofs::HeldLemmas::holder_in))]
+pub fn holder<'a>(held: &'a [Held], name: &str) -> Option<&'a Held>
+    ensures { option_map container_in (option_copied result) ≡ holder name.now (containers_in held.now) }
+{
+    with_name(held, name)
 }
 
 fn further(found: Found, number: u64, fits: bool) -> Found

@@ -47,6 +47,14 @@ pub fn launch(held: &mut Vec<Held>, number: u64, moment: u64, pid: u64)
     }
 }
 
+/// A container more; there was room for it.
+pub fn add(held: &mut Vec<Held>, one: Held)
+    requires { vec_len held.old < vec_capacity held.old }
+    ensures { containers_in held.new.items ≡ containers_in held.old.items ++ container_in one ∷ [] }
+{
+    held.push_reserved(one);
+}
+
 /// The container is gone from the list.
 pub fn remove(held: &mut Vec<Held>, number: u64) -> Option<Held>
     ensures containers { containers_in held.new.items

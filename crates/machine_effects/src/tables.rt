@@ -28,13 +28,13 @@ use super::moments::Moments;
 use super::outputs::Outputs;
 use super::removals::Removals;
 use super::tickets::Tickets;
-use super::volumes::Volumes;
 use engine_text::{
     Bytes, Effect, Event, Exec, Found, NoMemory, OwnedLog, Owner, Script, Signal, Stream,
 };
 use proc_kernel::Kernel;
 use std::alloc::Global;
 use std::marker::Model;
+use volume_table::Volumes;
 
 /// Every part of the machine's state.
 #[derive(Drop)]

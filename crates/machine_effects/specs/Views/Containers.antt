@@ -11,4 +11,5 @@ container_rows m = record {
   logs = map room_in m.held.items;
   timers = m.timers.items;
   room = vec_capacity m.timers;
+  places = vec_capacity m.held;
 }

@@ -41,6 +41,9 @@ memory_of m = record {
     moments = m.moments.room;
     scratch = vec_capacity m.scratch;
   };
+  containers = m.containers.places;
+  volumes = m.volumes.room;
+  uses = m.volumes.use_room;
   spare = m.kernel.spare;
   bytes = m.kernel.bytes;
   logs = m.containers.logs;
