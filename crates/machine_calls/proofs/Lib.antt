@@ -1,3 +1,4 @@
+pub mod CreateLemmas
 pub mod FilterLemmas
 pub mod InspectLemmas
 pub mod KillLemmas

@@ -97,5 +97,5 @@ makes_kill p t s c sent last script code kit empty one e k found low final named
       events = first_then empty one p.events.items _ e (kill_event sent.number c t) h1 h2 h3 h4
           ∙ (sym (kill_told sent last c.number z c script code found named (once_at t s k) (is t)) ∙ ap (λ (x : Effect). x.events) same);
       reply = reply;
-      brings = subst (λ q. Brings q s) (sym plan) (serves c.number s c script kit found named of, low);
+      brings = subst (λ q. Brings q t s) (sym plan) (serves c.number s c script kit found named of, low);
     }

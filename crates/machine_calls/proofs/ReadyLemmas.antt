@@ -40,8 +40,13 @@ settles n kit t m serves k until room = record {
   timers = room.timers;
 }
 
-fits : (plan : Plan) (t : ℕ) (m : Memory) → Brings plan m.state → IsConsistent m.state → IsMomentOf m.state t → HasRoomFor plan m → Fits plan (standing t m)
+fits : (plan : Plan) (t : ℕ) (m : Memory) → Brings plan t m.state → IsConsistent m.state → IsMomentOf m.state t → HasRoomFor plan m → Fits plan (standing t m)
 fits Plan.Nothing t m brings k at room = tt
+fits (Plan.Create held volumes) t m brings k at room = record {
+  room = record { place = room.place; volumes = room.volumes; uses = room.uses };
+  volumes = brings;
+  number = omega (arith, k.numbers.next_number, k.counts.steps);
+}
 fits (Plan.Kill n sent last kit) t m brings k at room = record {
   signal = brings.1;
   timely = timely t m.state at;

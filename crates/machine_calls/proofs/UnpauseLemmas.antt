@@ -37,5 +37,5 @@ makes_unpause p t s c script code kit empty k found paused named is moment plan 
       effect = ap (λ q. plan_effect q z) plan;
       events = events ∙ (ap (λ l. l ++ told_unpause code c script z) none ∙ sym (unpause_told c.number z c script code found paused named (once_at t s k) (is t)));
       reply = reply;
-      brings = subst (λ q. Brings q s) (sym plan) (serves c.number s c script kit found named of);
+      brings = subst (λ q. Brings q t s) (sym plan) (serves c.number s c script kit found named of);
     }

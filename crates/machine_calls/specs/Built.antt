@@ -4,6 +4,7 @@ use Rattle.engine_text.specs.declared.call.Call.{Call}
 
 -- These.
 abbrev pub is_served : Call → Bool
+is_served (Call.Create asked) = true
 is_served (Call.Inspect target) = true
 is_served (Call.Kill target signal) = true
 is_served (Call.List all limit filters) = true

@@ -24,7 +24,7 @@ pub record Makes (p : Prepared) (t : ℕ) (s : State) (f : State → Outcome) : 
   pub effect : plan_effect p.plan (at_moment t s) ≡ (f (at_moment t s)).effect
   pub events : p.events.items ≡ (f (at_moment t s)).effect.events
   pub reply : p.reply ≡ (f (at_moment t s)).reply
-  pub brings : Brings p.plan s
+  pub brings : Brings p.plan t s
 
 -- A container that a reference names, or the answer that there is none.
 abbrev pub IsLooked : Looked → ℕ → List ℕ → State → Type 0

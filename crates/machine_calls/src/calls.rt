@@ -1,4 +1,5 @@
 // The calls, one by one.
+pub mod create;
 pub mod inspect;
 pub mod kill;
 pub mod list;

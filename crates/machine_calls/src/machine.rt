@@ -73,6 +73,7 @@ impl Machine {
     {
         self.kept();
         match call {
+            Call::Create(asked) => calls::create::prepare(&self.tables, alloc, moment, asked),
             Call::Kill { target, signal } => {
                 calls::kill::prepare(&self.tables, alloc, moment, target.as_str(), *signal)
             }
@@ -115,6 +116,9 @@ impl Machine {
         }
         match plan {
             Plan::Nothing => Ok(()),
+            Plan::Create { held, .. } => self
+                .tables
+                .make_add_room(alloc, held.container.life.mounts.len()),
             Plan::KillRestarting { .. } => Ok(()),
             Plan::Kill { .. } => self.tables.make_room(alloc),
             Plan::Pause { .. } => self.tables.make_room(alloc),

@@ -4,13 +4,17 @@ ghost use Rattle.machine_calls.specs.Plans.{plan_effect, Fits};
 ghost use Rattle.machine_effects.specs.Settled.{deaths};
 
 use super::calls;
-use engine_text::{Script, Signal};
-use machine_effects::{Death, Kit, Tables};
+use engine_text::{Script, Signal, Volume};
+use machine_effects::{Death, Held, Kit, Tables};
 
 /// What a prepared call does.
 #[derive(Drop)]
 pub enum Plan {
     Nothing,
+    Create {
+        held: Held,
+        volumes: Vec<Volume>,
+    },
     Kill {
         number: u64,
         sent: Signal,
@@ -43,6 +47,10 @@ pub fn perform(tables: &mut Tables, plan: Plan) -> Option<Death>
 {
     match plan {
         Plan::Nothing => None,
+        Plan::Create { held, volumes } => {
+            calls::create::perform(tables, held, volumes);
+            None
+        }
         Plan::Kill {
             number,
             sent,
