@@ -104,23 +104,30 @@ def moment(ms):
     return f"2023-11-14T22:13:20.{ms:03}000000Z"
 
 
-def shown(n, name, words, status, code=0, pid=0, started=NEVER, finished=NEVER):
+def mount(volume, path, writable=True):
+    return {"Destination": path, "Driver": "local", "Mode": "", "Name": volume, "RW": writable,
+            "Source": f"/var/lib/engine/volumes/{volume}/_data", "Type": "volume"}
+
+
+def shown(n, name, words, status, code=0, pid=0, started=NEVER, finished=NEVER, policy=("no", 0), restarts=0, mounts=(),
+          stdin=False, stop="SIGTERM"):
     return answer(200, compact({
         "Args": words[1:],
-        "Config": {"Cmd": words, "Image": "engine/tools:latest", "Labels": {}, "OpenStdin": False, "StdinOnce": False,
-                   "StopSignal": "SIGTERM", "StopTimeout": 10, "Tty": False},
+        "Config": {"Cmd": words, "Image": "engine/tools:latest", "Labels": {}, "OpenStdin": stdin, "StdinOnce": stdin,
+                   "StopSignal": stop, "StopTimeout": 10, "Tty": False},
         "Created": NOW,
-        "HostConfig": {"AutoRemove": False, "RestartPolicy": {"MaximumRetryCount": 0, "Name": "no"}},
-        "Id": id_of(n), "Image": "engine/tools:latest", "Mounts": [], "Name": f"/{name}", "Path": words[0],
-        "RestartCount": 0,
+        "HostConfig": {"AutoRemove": False, "RestartPolicy": {"MaximumRetryCount": policy[1], "Name": policy[0]}},
+        "Id": id_of(n), "Image": "engine/tools:latest", "Mounts": list(mounts), "Name": f"/{name}", "Path": words[0],
+        "RestartCount": restarts,
         "State": {"Dead": False, "Error": "", "ExitCode": code, "FinishedAt": finished, "OOMKilled": False,
-                  "Paused": False, "Pid": pid, "Restarting": False, "Running": status == "running",
-                  "StartedAt": started, "Status": status}}))
+                  "Paused": status == "paused", "Pid": pid, "Restarting": status == "restarting",
+                  "Running": status in ("running", "paused", "restarting"), "StartedAt": started, "Status": status}}))
 
 
-def item(n, name, words, status, text, labels=None):
+def item(n, name, words, status, text, labels=None, mounts=()):
     return {"Command": " ".join(words), "Created": 1700000000, "Id": id_of(n), "Image": "engine/tools:latest",
-            "Labels": labels or {}, "Mounts": [], "Names": [f"/{name}"], "Ports": [], "State": status, "Status": text}
+            "Labels": labels or {}, "Mounts": list(mounts), "Names": [f"/{name}"], "Ports": [], "State": status,
+            "Status": text}
 
 
 def listed(*items):
@@ -222,6 +229,106 @@ scenario("list_filters", THREE + [
     listed(JOB_ITEM, WEB_ITEM), listed(), listed(JOB_ITEM), listed(), listed(DB_ITEM), listed(), listed(JOB_ITEM, WEB_ITEM),
     listed(WEB_ITEM), listed(WEB_ITEM), listed(DB_ITEM), listed(DB_ITEM), listed(), listed(), listed(), listed(DB_ITEM),
     message(400, "invalid filter")])
+
+# signals: a container that ignores three of them, and how a signal is spelled
+DEAF = ["deaf"]
+NOT_RUNNING = message(409, f"Container {id_of(0)} is not running")
+scenario("kill", [create("web", DEAF), post("/containers/web/kill"), post("/containers/web/start"),
+                  post("/containers/web/kill?signal=TERM"), post("/v1.43/containers/web/kill?signal=SIGHUP"),
+                  post("/containers/web/kill?signal=2"), get("/containers/web/json"), post("/containers/web/kill"),
+                  get("/containers/web/json"), post("/containers/web/kill?signal="), post("/containers/db/kill"),
+                  post("/containers/web/kill?signal=0"), post("/containers/web/kill?signal=32")],
+         [created(0), NOT_RUNNING, answer(204), answer(204), answer(204), answer(204),
+          shown(0, "web", DEAF, "running", pid=1001, started=NOW), answer(204),
+          shown(0, "web", DEAF, "exited", code=137, started=NOW, finished=NOW), NOT_RUNNING,
+          message(404, "No such container: db"), message(400, "Invalid signal: 0"), message(400, "Invalid signal: 32")],
+         comings=("pieces=1", "pieces=4096"))
+LONG = ["sleep", "600000"]
+SPELLED = {"USR1": 138, "sigusr2": 140, "SIGINT": 130, "15": 143, "09": 137, "hup": 129}
+scenario("signals", [x for n, form in enumerate(SPELLED) for x in (
+    create(f"box{n}", LONG), post(f"/containers/box{n}/start"), post(f"/containers/box{n}/kill?signal=WINCH"),
+    post(f"/containers/box{n}/kill?signal={form}"), get(f"/containers/box{n}/json"))],
+    [x for n, code in enumerate(SPELLED.values()) for x in (
+        created(n), answer(204), answer(204), answer(204),
+        shown(n, f"box{n}", LONG, "exited", code=code, started=NOW, finished=NOW))])
+
+# a paused container keeps the time that is left, and signals wait for it, but for those that end it
+PAUSED = shown(0, "web", LONG, "paused", pid=1001, started=NOW)
+scenario("pause", [create("web", LONG), post("/containers/web/pause"), post("/containers/web/unpause"),
+                   post("/containers/web/start"), post("/containers/web/pause"), post("/containers/web/pause"),
+                   post("/containers/web/start"), get("/containers/web/json"), get("/containers/json"),
+                   post("/containers/web/kill?signal=USR1"), get("/containers/web/json"), post("/containers/web/kill"),
+                   get("/containers/web/json"), post("/containers/web/pause"), post("/containers/db/pause")],
+         [created(0), NOT_RUNNING, message(409, f"Container {id_of(0)} is not paused"), answer(204), answer(204),
+          message(409, f"Container {id_of(0)} is already paused"),
+          message(409, "cannot start a paused container, try unpause instead"), PAUSED,
+          listed(item(0, "web", LONG, "paused", "Up (Paused)")), answer(204), PAUSED, answer(204),
+          shown(0, "web", LONG, "exited", code=137, started=NOW, finished=NOW), NOT_RUNNING,
+          message(404, "No such container: db")])
+SHORT = ["sleep", "15"]
+scenario("pause_keeps_time", [create("web", SHORT), post("/containers/web/start"), post("/containers/web/pause"),
+                              get("/containers/web/json"), post("/containers/web/unpause"), get("/containers/web/json"),
+                              post("/containers/web/unpause")],
+         [created(0), answer(204), answer(204), shown(0, "web", SHORT, "paused", pid=1001, started=moment(10)), answer(204),
+          shown(0, "web", SHORT, "exited", started=moment(10), finished=moment(45)),
+          message(409, f"Container {id_of(0)} is not paused")], words="--stdio --clock 1700000000000:10")
+scenario("waiting_signal", [create("web", LONG), post("/containers/web/start"), post("/containers/web/pause"),
+                            post("/containers/web/kill?signal=USR1"), post("/containers/web/unpause"),
+                            get("/containers/web/json")],
+         [created(0), answer(204), answer(204), answer(204), answer(204),
+          shown(0, "web", LONG, "exited", code=138, started=NOW, finished=NOW)])
+# an op that can't be interrupted: the signal is met when it ends
+STUCK = ["stuck", "25"]
+scenario("stuck", [create("web", STUCK), post("/containers/web/start"), post("/containers/web/kill"),
+                   get("/containers/web/json"), get("/containers/web/json")],
+         [created(0), answer(204), answer(204), shown(0, "web", STUCK, "running", pid=1001, started=moment(10)),
+          shown(0, "web", STUCK, "exited", code=137, started=moment(10), finished=moment(35))],
+         words="--stdio --clock 1700000000000:10")
+
+# restarts: 100 milliseconds behind the first end, twice as long behind the next one
+POLICY = ("on-failure", 2)
+FAILS = ["exit", "1"]
+
+
+def with_policy(words, policy):
+    return compact({"Image": "engine/tools", "Cmd": words,
+                    "HostConfig": {"RestartPolicy": {"Name": policy[0], "MaximumRetryCount": policy[1]}}})
+
+
+def failing(status, at, restarts):
+    return shown(0, "web", FAILS, status, code=1, started=moment(at), finished=moment(at), policy=POLICY, restarts=restarts)
+
+
+scenario("restarts", [create("web", body=with_policy(FAILS, POLICY)), post("/containers/web/start"),
+                      get("/containers/web/json"), get("/containers/web/json"), get("/containers/json"),
+                      post("/containers/web/start"), post("/containers/web/kill?signal=USR1"), post("/containers/web/pause"),
+                      get("/containers/web/json"), post("/containers/web/kill"), post("/containers/web/start"),
+                      get("/containers/web/json")],
+         [created(0), answer(204), failing("restarting", 50, 0), failing("restarting", 150, 1),
+          listed(item(0, "web", FAILS, "restarting", "Restarting (1)")), answer(304),
+          message(409, f"Container {id_of(0)} is restarting, wait until the container is running"),
+          NOT_RUNNING, failing("exited", 350, 2), NOT_RUNNING, answer(204), failing("restarting", 500, 0)],
+         words="--stdio --clock 1700000000000:50")
+scenario("restart_given_up", [create("web", body=with_policy(FAILS, ("always", 0))), post("/containers/web/start"),
+                              post("/containers/web/kill?signal=15"), get("/containers/web/json")],
+         [created(0), answer(204), answer(204),
+          shown(0, "web", FAILS, "exited", code=1, started=NOW, finished=NOW, policy=("always", 0))])
+
+# volumes of mounts, and standard input that nobody feeds
+BINDS = compact({"Image": "engine/tools", "HostConfig": {"Binds": ["data:/srv:ro", "data:/copy"], "Mounts": [
+    {"Type": "volume", "Source": "logs", "Target": "/logs"}]}})
+MOUNTS = [mount("data", "/srv", False), mount("data", "/copy"), mount("logs", "/logs")]
+scenario("mounts", [create("web", body=BINDS), create("db"), get("/containers/web/json"), filtered({"volume": ["logs"]}),
+                    get("/containers/json?all=1&filters=" + urllib.parse.quote(compact({"volume": ["data", "none"]}))),
+                    post("/containers/web/start"), get("/containers/web/json")],
+         [created(0), created(1), shown(0, "web", ["hello"], "created", mounts=MOUNTS), listed(),
+          listed(item(0, "web", ["hello"], "created", "Created", mounts=MOUNTS)), answer(204),
+          shown(0, "web", ["hello"], "exited", started=NOW, finished=NOW, mounts=MOUNTS)])
+INPUT = compact({"Image": "engine/tools", "Cmd": ["cat"], "OpenStdin": True, "StdinOnce": True, "StopSignal": "SIGINT"})
+scenario("open_input", [create("web", body=INPUT), post("/containers/web/start"), get("/containers/web/json"),
+                        post("/containers/web/kill?signal=INT"), get("/containers/web/json")],
+         [created(0), answer(204), shown(0, "web", ["cat"], "running", pid=1001, started=NOW, stdin=True, stop="SIGINT"),
+          answer(204), shown(0, "web", ["cat"], "exited", code=130, started=NOW, finished=NOW, stdin=True, stop="SIGINT")])
 
 refused("too_long", "POST /v1.43/containers/create HTTP/1.1\r\nHost: x\r\nContent-Length: 1048577\r\n\r\n", 413)
 refused("without_host", "GET /_ping HTTP/1.1\r\n\r\n", 400)

@@ -1,22 +1,11 @@
 -- The calls that aren't built yet (own: a request for one is answered 501 "not built"). Building a call takes its line away.
-use Rattle.std.specs.Prelude.{Bool, true, false, ◌&&◌, not, Option, Some, None, IsTrue}
-use Rattle.engine_text.specs.Policy.{is_no}
+use Rattle.std.specs.Prelude.{Bool, true, false, Option, Some, None, IsTrue}
 use Rattle.engine_text.specs.declared.call.Call.{Call}
-use Rattle.engine_text.specs.declared.call.CreateSpec.{CreateSpec}
-use Rattle.call_bounds.specs.Soundness.{is_full}
-
--- Of creates those with mounts, a restart policy or open standard input.
-abbrev pub is_built_create : CreateSpec → Bool
-is_built_create spec = not (is_full spec.mounts) && is_no spec.policy && not spec.open_stdin
 
 -- Whether a call is built: all are but these.
 abbrev pub is_built : Call → Bool
-is_built (Call.Create spec) = is_built_create spec
 is_built (Call.Stop target wait signal) = false
 is_built (Call.Restart target wait signal) = false
-is_built (Call.Kill target signal) = false
-is_built (Call.Pause target) = false
-is_built (Call.Unpause target) = false
 is_built (Call.Rename target name) = false
 is_built (Call.Wait target until) = false
 is_built (Call.Remove target force) = false

@@ -2,25 +2,15 @@
 ghost use Rattle.std.specs.Prelude.{◌≡◌};
 ghost use Rattle.call_bounds.specs.Built as spec;
 
-use engine_text::{Call, CreateSpec};
-
-fn is_built_create(asked: &CreateSpec) -> bool
-    ensures { result ≡ spec.is_built_create asked.now }
-{
-    asked.mounts.as_slice().is_empty() && asked.policy.is_no() && !asked.open_stdin
-}
+use engine_text::Call;
 
 /// Whether a call is built; a request for another is answered 501.
 pub fn is_built(call: &Call) -> bool
     ensures { result ≡ spec.is_built call.now }
 {
     match call {
-        Call::Create(asked) => is_built_create(asked),
         Call::Stop { .. } => false,
         Call::Restart { .. } => false,
-        Call::Kill { .. } => false,
-        Call::Pause { .. } => false,
-        Call::Unpause { .. } => false,
         Call::Rename { .. } => false,
         Call::Wait { .. } => false,
         Call::Remove { .. } => false,

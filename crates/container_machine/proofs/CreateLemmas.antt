@@ -1,24 +1,51 @@
--- A create without mounts adds a container and its event.
-use Rattle.std.proofs.Common.{◌≡◌, Bool, List, [], ◌∷◌, append-nil, refl, IsTrue, ◌&&◌, not}
-use Rattle.machine_model.specs.State.{State}
-use Rattle.machine_model.specs.EventTexts.{plain_event}
-use Rattle.call_bounds.specs.Soundness.{is_full}
-use Rattle.machine_model.specs.Calls.Create.{add}
-use Rattle.engine_text.specs.Policy.{is_no}
-use Rattle.engine_text.specs.declared.container.Container.{Container}
-use Rattle.engine_text.specs.declared.event.Event.{Event}
-use Rattle.engine_text.specs.declared.event.Action.TheVariants.{Create}
+-- A create that is made ready is the create's outcome.
+use Rattle.std.proofs.Common.{◌≡◌, ℕ, List, [], ◌∷◌, ◌++◌, refl, ap, sym, ◌∙◌}
+use Rattle.std.specs.Prelude.{codes}
+use Rattle.engine_text.specs.Id.{id_of}
 use Rattle.engine_text.specs.declared.call.CreateSpec.{CreateSpec}
-use Rattle.container_machine.specs.Prepared.{with_bare}
-use Rattle.call_bounds.specs.Built.{is_built_create}
+use Rattle.engine_text.specs.declared.container.Container.{Container}
+use Rattle.engine_text.specs.declared.container.Life.{Life}
+use Rattle.engine_text.specs.declared.event.Action.TheVariants.{Create}
+use Rattle.engine_text.specs.declared.event.Event.{Event}
+use Rattle.engine_text.specs.declared.log.LogRecord.{LogRecord}
+use Rattle.engine_text.specs.declared.reply.Reply.TheVariants.{Answer}
+use Rattle.engine_text.specs.declared.volume.Volume.{Volume}
+use Rattle.machine_model.specs.Calls.Create.{add, created, new_container, new_life}
+use Rattle.machine_model.specs.Chain.{Effect}
+use Rattle.machine_model.specs.EventTexts.{plain_event}
+use Rattle.machine_model.specs.State.{State}
+use Rattle.machine_model.specs.Step.{at_moment}
+use Rattle.machine_effects.specs.NewVolumes.{missing_volumes, told_volumes}
+use Rattle.machine_effects.proofs.CreateLemmas.{added_told}
+use Rattle.container_machine.specs.Making.{Makes}
+use Rattle.container_machine.specs.Plans.{plan_effect, Brings}
+use Rattle.container_machine.specs.declared.prepared.Prepared.{Prepared}
 
-pub added : (c : Container) (s : State) (e : Event) → c.life.mounts ≡ [] → e ≡ plain_event Create c s.clock
-    → record { state = with_bare c s; events = e ∷ []; died = [] } ≡ add c s
-added c s e bare told = rw (bare, told) (simp append-nil)
+-- the container in memory, whose log is empty
+pub new_held : (number : ℕ) (id name : List ℕ) (life : Life) (log : List LogRecord) (asked : CreateSpec) (t : ℕ) (s : State) → number ≡ s.next_number → id ≡ id_of s.seed s.next_number
+    → life ≡ new_life asked t → log ≡ [] → record { number = number; id = id; name = name; life = record life { log = log } } ≡ new_container name asked (at_moment t s)
+new_held number id name life log asked t s h1 h2 h3 h4 =
+    ap (λ (n : ℕ). record { number = n; id = id; name = name; life = record life { log = log } }) h1
+    ∙ (ap (λ (i : List ℕ). record { number = s.next_number; id = i; name = name; life = record life { log = log } }) h2
+    ∙ (ap (λ (l : Life). record { number = s.next_number; id = id_of s.seed s.next_number; name = name; life = record l { log = log } }) h3
+    ∙ ap (λ (l : List LogRecord). record { number = s.next_number; id = id_of s.seed s.next_number; name = name; life = record (new_life asked t) { log = l } }) h4))
 
-empty : {A : Type 0} (xs : List A) (a b : Bool) → IsTrue (not (is_full xs) && a && b) → xs ≡ []
-empty [] a b h = refl
-empty (x ∷ xs) a b h = absurd (cc)
-
-pub no_mounts : (spec : CreateSpec) → IsTrue (is_built_create spec) → spec.mounts ≡ []
-no_mounts spec h = empty spec.mounts (is_no spec.policy) (not spec.open_stdin) h
+pub makes_create : (p : Prepared) (t : ℕ) (s : State) (name : List ℕ) (asked : CreateSpec) (d : Container) (volumes : List Volume) (empty one : List Event) (e : Event)
+    → d ≡ new_container name asked (at_moment t s) → p.moment ≡ t → ((z : State) → plan_effect p.plan z ≡ add d z) → Brings p.plan t s
+    → p.reply ≡ Answer 201 (codes "{\"Id\":\"" ++ d.id ++ codes "\",\"Warnings\":[]}") → volumes ≡ missing_volumes t d.life.mounts s.volumes
+    → empty ≡ [] → one ≡ empty ++ told_volumes volumes t → p.events.items ≡ one ++ e ∷ [] → e ≡ plain_event Create d t
+    → Makes p t s (λ z. created (new_container name asked z) z)
+makes_create p t s name asked d volumes empty one e is moment plan brings reply missing h1 h2 h3 h4 =
+    let z : State = at_moment t s in
+    let effect : add d z ≡ add (new_container name asked z) z = ap (λ x. add x z) is in
+    record {
+      moment = moment;
+      effect = plan z ∙ effect;
+      events = h3
+          ∙ (ap (λ l. l ++ e ∷ []) (h2 ∙ ap (λ l. l ++ told_volumes volumes t) h1)
+          ∙ (ap (λ x. told_volumes volumes t ++ x ∷ []) h4
+          ∙ (ap (λ vs. told_volumes vs t ++ plain_event Create d t ∷ []) missing
+          ∙ (sym (added_told d z) ∙ ap (λ (x : Effect). x.events) effect))));
+      reply = reply ∙ ap (λ (x : Container). Answer 201 (codes "{\"Id\":\"" ++ x.id ++ codes "\",\"Warnings\":[]}")) is;
+      brings = brings;
+    }

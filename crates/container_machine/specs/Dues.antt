@@ -1,27 +1,39 @@
--- What is due of the processes, one after the other (own).
-use Rattle.std.specs.Prelude.{ℕ, if◌then◌else◌, List, Option, Some, None}
-use Rattle.std.specs.List.{filter_map}
-use Rattle.container_table.specs.Timers.{is_before}
-use Rattle.proc_kernel.specs.Processes.{next_due}
-use Rattle.proc_kernel.specs.Tables.{Entry}
-use Rattle.machine_model.specs.State.{owner_number}
-use Rattle.machine_model.specs.Due.{action_at}
-use Rattle.engine_text.specs.declared.owner.Owner.{Owner}
+-- own: when a prepared due step may be committed, and what the commit does.
+use Rattle.std.specs.Prelude.{◌≡◌, ℕ, ◌+◌, ◌≤◌, ◌++◌, Option, Some, None, length}
 use Rattle.engine_text.specs.declared.step.DueAction.{DueAction}
+use Rattle.machine_model.specs.State.{State}
+use Rattle.machine_model.specs.Chain.{Effect}
+use Rattle.machine_model.specs.Consistency.{IsConsistent}
+use Rattle.machine_model.specs.Due.{due_effect, least_due}
+use Rattle.machine_model.specs.Step.{at_moment, finished}
+use Rattle.machine_effects.specs.Memory.{standing}
+use Rattle.container_machine.specs.Parts.{MachineParts}
+use Rattle.container_machine.specs.DuePlans.{due_plan_effect, BringsDue, FitsDue}
+use Rattle.container_machine.specs.declared.due.PreparedDue.{PreparedDue}
 
-abbrev pub action_of : Entry → Option DueAction
-action_of e = action_at (owner_number e.owner) (next_due e.process)
+-- What a due action does at its moment.
+abbrev pub due_at : DueAction → State → Effect
+due_at d s = due_effect d (at_moment d.moment s)
 
-abbrev pub actions_of : List Entry → List DueAction
-actions_of = filter_map action_of
+-- It stands at the action's moment, and is what the action does there.
+pub record MakesDue (p : PreparedDue) (due : DueAction) (s : State) : Type 0 where
+  pub moment : p.moment ≡ due.moment
+  pub effect : due_plan_effect p.plan (at_moment due.moment s) ≡ due_at due s
+  pub events : p.events.items ≡ (due_at due s).events
+  pub brings : BringsDue p.plan due.moment s
 
--- the lesser of the best so far and another
-abbrev pub nearer : Option DueAction → DueAction → Option DueAction
-nearer None d = Some d
-nearer (Some best) d = Some (if is_before d best then d else best)
+-- It is the least due action, made ready on this machine.
+pub record IsForDue (p : PreparedDue) (w : MachineParts) : Type 0 where
+  pub due : DueAction
+  pub least : least_due w.memory.state ≡ Some due
+  pub moment : p.moment ≡ due.moment
+  pub effect : due_plan_effect p.plan (at_moment due.moment w.memory.state) ≡ due_at due w.memory.state
+  pub events : p.events.items ≡ (due_at due w.memory.state).events
+  pub fits : FitsDue p.plan (standing due.moment w.memory)
+  pub kept : IsConsistent (finished 0 (due_at due w.memory.state)).state
+  pub places : length w.events + length p.events.items ≤ w.places
 
--- the best so far, after one more process
-abbrev pub further_at : Option DueAction → Option Owner → Option ℕ → Option DueAction
-further_at best None due = best
-further_at best (Some owner) None = best
-further_at best (Some owner) (Some moment) = nearer best (record { moment = moment; rank = 0; number = owner_number owner })
+-- The machine after a due step, if there is one.
+abbrev pub IsStepped : Option Effect → MachineParts → MachineParts → Type 0
+IsStepped None before after = ⊥
+IsStepped (Some e) before after = (after.memory.state ≡ e.state) × (after.events ≡ before.events ++ e.events)

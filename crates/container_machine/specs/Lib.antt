@@ -1,11 +1,8 @@
-pub mod Held
-pub mod Memory
-pub mod Kept
-pub mod Launched
-pub mod Lives
+pub mod Calls
+pub mod DuePlans
 pub mod Dues
+pub mod Making
+pub mod Parts
+pub mod Plans
 pub mod Prepared
-pub mod Inside
-pub mod Further
-pub mod Limits
-pub mod Ran
+pub mod Views

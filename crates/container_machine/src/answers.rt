@@ -3,9 +3,10 @@ ghost use Rattle.std.specs.Prelude.{◌≡◌, ℕ, IfOk, codes, string_bytes};
 ghost use Rattle.serde_json.specs.View.{view};
 ghost use Rattle.serde_json.specs.Data.{string, object, no_members, member};
 ghost use Rattle.machine_model.specs.Outcome.{message_text};
-ghost use Rattle.container_machine.specs.Prepared.{answering, refusing};
+ghost use Rattle.container_machine.specs.Making.{IsAnswer};
 
-use super::prepared::{Change, Prepared};
+use super::plan::Plan;
+use super::prepared::Prepared;
 use engine_text::{NoMemory, Reply, Text};
 use serde_json::{Value, json};
 use std::alloc::{AllocError, Global};
@@ -31,23 +32,22 @@ pub fn message(alloc: Global, text: &str) -> Result<Text, NoMemory>
     Ok(Text::from_string(body))
 }
 
-/// An answer that changes nothing.
-pub fn answer(moment: u64, status: u16, body: Text) -> Prepared
-    ensures { result ≡ answering moment status body }
+/// A reply to a plan without events.
+pub fn answer(alloc: Global, moment: u64, status: u16, body: Text) -> Prepared
+    ensures { IsAnswer moment status body result }
 {
-    let reply = Reply::Answer { status, body };
-    let change = Change::Nothing;
     Prepared {
         moment,
-        reply,
-        change,
+        reply: Reply::Answer { status, body },
+        events: Vec::new(alloc),
+        plan: Plan::Nothing,
     }
 }
 
 /// A refusal with that text.
 pub fn refuse(alloc: Global, moment: u64, status: u16, text: &Text) -> Result<Prepared, NoMemory>
-    ensures { IfOk result (λ p. p ≡ refusing moment status text.now) }
+    ensures { IfOk result (λ p. IsAnswer moment status (message_text text.now) p) }
 {
     let body = message(alloc, text.as_str())?;
-    Ok(answer(moment, status, body))
+    Ok(answer(alloc, moment, status, body))
 }

@@ -1,4 +1,8 @@
-mod create;
-mod inspect;
-mod list;
-mod start;
+// The calls, one by one.
+pub mod create;
+pub mod inspect;
+pub mod kill;
+pub mod list;
+pub mod pause;
+pub mod start;
+pub mod unpause;

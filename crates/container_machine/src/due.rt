@@ -1,58 +1,210 @@
-// The least of what is due.
-ghost use Rattle.std.specs.Prelude.{◌≡◌, ℕ, ◌+◌, ◌<◌, ◌==◌, List, take, Option, Some, None, length};
-ghost use Rattle.container_table.specs.Timers.{is_before, least};
-ghost use Rattle.machine_model.specs.State.{owner_number};
-ghost use Rattle.container_machine.specs.Dues.{actions_of, nearer, further_at};
+// Due steps: the next op of a process, a deadline or a timer that has come.
+ghost use Rattle.std.specs.Prelude.{◌≡◌, ℕ, ◌+◌, ◌<◌, ◌^◌, [], Some, IfOk, IsTrue};
+ghost use Rattle.machine_model.specs.State.{State, container_numbered};
+ghost use Rattle.machine_model.specs.Consistency.{HasOwner, IsConsistent, is_there};
+ghost use Rattle.machine_model.specs.Due.{least_due};
+ghost use Rattle.machine_effects.specs.Fit.{died_of};
+ghost use Rattle.machine_effects.specs.Held.{container_in};
+ghost use Rattle.machine_effects.specs.Settled.{deaths};
+ghost use Rattle.container_machine.specs.DuePlans.{due_plan_effect, FitsDue, ServesOwner};
+ghost use Rattle.container_machine.specs.Dues.{MakesDue};
+ghost use Rattle.container_machine.specs.Plans.{Serves};
 
-use engine_text::{DueAction, Owner};
-use proc_kernel::Kernel;
+use engine_text::{DueAction, Event, NoMemory, Numbers, Owner, Script, Signal};
+use machine_effects::{Death, Held, Kit, Tables, number_of, tell_launch};
+use proc_kernel::program;
+use std::alloc::Global;
 
-fn is_before(a: DueAction, b: DueAction) -> bool
-    ensures { result ≡ is_before a b }
-{
-    a.moment < b.moment
-        || (a.moment == b.moment && (a.rank < b.rank || (a.rank == b.rank && a.number < b.number)))
+/// What a due step does.
+#[derive(Drop)]
+pub enum DuePlan {
+    Op { owner: Owner, kit: Kit },
+    StopDeadline { number: u64, kit: Kit },
+    RemovalDeadline { number: u64 },
+    RestartTimer { number: u64, script: Option<Script> },
 }
 
-fn nearer(best: Option<DueAction>, action: DueAction) -> Option<DueAction>
-    ensures { result ≡ nearer best action }
+/// A due step that is ready to be committed.
+#[derive(Drop)]
+pub struct PreparedDue {
+    pub(super) moment: u64,
+    pub(super) events: Vec<Event>,
+    pub(super) plan: DuePlan,
+}
+
+fn death_of(number: u64, code: Option<u8>) -> Option<Death>
+    ensures { deaths result ≡ died_of number code }
 {
-    match best {
-        None => Some(action),
-        Some(b) => Some(if is_before(action, b) { action } else { b }),
+    match code {
+        None => None,
+        Some(code) => Some(Death { number, code }),
     }
 }
 
-fn number_of(owner: Owner) -> u64
-    ensures { result ≡ owner_number owner }
+/// Makes it. It takes no memory.
+pub fn perform(tables: &mut Tables, plan: DuePlan) -> Option<Death>
+    requires { FitsDue plan tables.old }
+    ensures state { tables.new.state ≡ (due_plan_effect plan tables.old.state).state }
+    ensures died { deaths result ≡ (due_plan_effect plan tables.old.state).died }
+    ensures room { tables.new.room ≡ tables.old.room }
+{
+    match plan {
+        DuePlan::Op { owner, kit } => {
+            let code = tables.run_op(owner, kit);
+            death_of(number_of(owner), code)
+        }
+        DuePlan::StopDeadline { number, kit } => {
+            let code = tables.stop_deadline(number, kit);
+            death_of(number, code)
+        }
+        DuePlan::RemovalDeadline { number } => {
+            tables.removal_deadline(number);
+            None
+        }
+        DuePlan::RestartTimer { number, script } => {
+            tables.restart_timer(number, script);
+            None
+        }
+    }
+}
+
+// The container with that number, which stands.
+fn standing(tables: &Tables, number: u64) -> &Held
+    requires { IsTrue (is_there (container_numbered number tables.now.state)) }
+    ensures { container_numbered number tables.now.state ≡ Some (container_in result.now) }
+{
+    match tables.numbered(number) {
+        Some(h) => h,
+        None => unreachable!(),
+    }
+}
+
+// The memory that the end of the container's main process may want.
+fn main_kit(tables: &Tables, alloc: Global, number: u64, h: &Held) -> Result<Kit, NoMemory>
+    requires stands { container_numbered number tables.now.state ≡ Some (container_in h.now) }
+    requires kept { IsConsistent tables.now.state }
+    ensures { IfOk result (λ k. Serves number k tables.now.state) }
+{
+    let life = &h.container.life;
+    let script = program(alloc, &life.words, life.starts + 1)?;
+    tables.kit(alloc, number, script)
+}
+
+// The memory that the end of the owner's process may want.
+fn owner_kit(tables: &Tables, alloc: Global, owner: Owner) -> Result<Kit, NoMemory>
+    requires stands { HasOwner tables.now.state owner }
+    requires kept { IsConsistent tables.now.state }
+    ensures { IfOk result (λ k. ServesOwner owner k tables.now.state) }
 {
     match owner {
-        Owner::Container(number) => number,
-        Owner::Exec(number) => number,
+        Owner::Container(number) => {
+            let h = standing(tables, number);
+            main_kit(tables, alloc, number, h)
+        }
+        Owner::Exec(_) => Ok(Kit {
+            script: None,
+            logs: Vec::new(alloc),
+            execs: Numbers::new(alloc),
+        }),
     }
 }
 
-fn further(best: Option<DueAction>, owner: Option<Owner>, due: Option<u64>) -> Option<DueAction>
-    ensures { result ≡ further_at best owner due }
+// The next op of the process of that number.
+fn prepare_op(tables: &Tables, alloc: Global, due: DueAction) -> Result<PreparedDue, NoMemory>
+    requires kept { IsConsistent tables.now.state }
+    requires least { least_due tables.now.state ≡ Some due }
+    requires rank { due.rank ≡ 0 }
+    ensures { IfOk result (λ p. MakesDue p due tables.now.state) }
 {
-    let (Some(owner), Some(moment)) = (owner, due) else {
-        return best;
-    };
-    let action = DueAction {
+    let moment = due.moment;
+    let owner = tables.owner_at(due.number);
+    let kit = owner_kit(tables, alloc, owner)?;
+    let code = tables.due_code(owner);
+    let mut events = Vec::new(alloc);
+    tables.tell_op(alloc, owner, code, &kit.script, moment, &mut events)?;
+    Ok(PreparedDue {
         moment,
-        rank: 0,
-        number: number_of(owner),
-    };
-    nearer(best, action)
+        events,
+        plan: DuePlan::Op { owner, kit },
+    })
 }
 
-/// The least of what is due of the processes.
-pub fn least_of(kernel: &Kernel) -> Option<DueAction>
-    ensures { result ≡ least (actions_of kernel.now.processes) }
+// The stop deadline of the container of that number.
+fn prepare_stop_deadline(
+    tables: &Tables,
+    alloc: Global,
+    due: DueAction,
+) -> Result<PreparedDue, NoMemory>
+    requires kept { IsConsistent tables.now.state }
+    requires least { least_due tables.now.state ≡ Some due }
+    requires rank { due.rank ≡ 1 }
+    ensures { IfOk result (λ p. MakesDue p due tables.now.state) }
 {
-    let mut best = None;
-    for i in 0..kernel.len() {
-        best = further(best, kernel.owner_at(i), kernel.due_of(i));
+    let moment = due.moment;
+    let number = due.number;
+    let h = standing(tables, number);
+    let kit = main_kit(tables, alloc, number, h)?;
+    let code = tables.signal_code(number, Signal { number: 9 }, true);
+    let mut events = Vec::new(alloc);
+    tables.tell_deadline(alloc, code, h, &kit.script, moment, &mut events)?;
+    Ok(PreparedDue {
+        moment,
+        events,
+        plan: DuePlan::StopDeadline { number, kit },
+    })
+}
+
+// The removal deadline of the container of that number.
+fn removal_deadline(alloc: Global, due: DueAction) -> PreparedDue
+    requires { due.rank ≡ 2 }
+    ensures { (s : State) → MakesDue result due s }
+{
+    PreparedDue {
+        moment: due.moment,
+        events: Vec::new(alloc),
+        plan: DuePlan::RemovalDeadline { number: due.number },
     }
-    best
+}
+
+// The restart timer of the container of that number.
+fn prepare_restart_timer(
+    tables: &Tables,
+    alloc: Global,
+    due: DueAction,
+) -> Result<PreparedDue, NoMemory>
+    requires kept { IsConsistent tables.now.state }
+    requires least { least_due tables.now.state ≡ Some due }
+    requires rank { due.rank ≡ 3 }
+    ensures { IfOk result (λ p. MakesDue p due tables.now.state) }
+{
+    let moment = due.moment;
+    let number = due.number;
+    let h = standing(tables, number);
+    let life = &h.container.life;
+    let script = program(alloc, &life.words, life.starts + 1)?;
+    let mut events = Vec::new(alloc);
+    tell_launch(alloc, &script, h, moment, &mut events)?;
+    Ok(PreparedDue {
+        moment,
+        events,
+        plan: DuePlan::RestartTimer { number, script },
+    })
+}
+
+/// Makes the least due action ready.
+pub fn prepare(tables: &Tables, alloc: Global, due: DueAction) -> Result<PreparedDue, NoMemory>
+    requires kept { IsConsistent tables.now.state }
+    requires least { least_due tables.now.state ≡ Some due }
+    ensures { IfOk result (λ p. MakesDue p due tables.now.state) }
+{
+    if due.rank == 0 {
+        return prepare_op(tables, alloc, due);
+    }
+    if due.rank == 1 {
+        return prepare_stop_deadline(tables, alloc, due);
+    }
+    if due.rank == 2 {
+        return Ok(removal_deadline(alloc, due));
+    }
+    prepare_restart_timer(tables, alloc, due)
 }

@@ -3,11 +3,11 @@ ghost use Rattle.std.specs.Prelude.{◌≡◌, ◌++◌, codes, decimal};
 ghost use Rattle.std.specs.List.{list_any, list_all};
 ghost use Rattle.engine_text.specs.Texts.{same_bytes, has_part};
 ghost use Rattle.machine_model.specs.Filters as spec;
-ghost use Rattle.container_machine.specs.Held.{container_in};
+ghost use Rattle.machine_effects.specs.Held.{container_in};
 
-use super::held::Held;
 use api_json::{IMAGE_NAME, status_word};
 use engine_text::{Filter, FilterKey, FilterRow, Mount, Pair, Status, Text, has_part};
+use machine_effects::Held;
 
 /// Whether the name is one of the image's two.
 pub fn is_image(image: &Text) -> bool
@@ -70,10 +70,10 @@ fn has_volume(mounts: &[Mount], value: &Text) -> bool
 }
 
 // Whether a container fits a value of a key.
-fn fits(held: &Held, key: FilterKey, value: &Text) -> bool
-    ensures { result ≡ spec.container_fits (container_in held.now) key value.now }
+fn fits(h: &Held, key: FilterKey, value: &Text) -> bool
+    ensures { result ≡ spec.container_fits (container_in h.now) key value.now }
 {
-    let container = &held.container;
+    let container = &h.container;
     let life = &container.life;
     match key {
         FilterKey::Id => container.id.as_slice().starts_with(value.as_slice()),
@@ -87,33 +87,33 @@ fn fits(held: &Held, key: FilterKey, value: &Text) -> bool
     }
 }
 
-fn any_fits(held: &Held, row: &FilterRow) -> bool
-    ensures { result ≡ list_any (spec.container_fits (container_in held.now) row.now.key) row.now.values }
+fn any_fits(h: &Held, row: &FilterRow) -> bool
+    ensures { result ≡ list_any (spec.container_fits (container_in h.now) row.now.key) row.now.values }
 {
     let key = row.key;
-    row.values.as_slice().iter().any(|v| fits(held, key, v))
+    row.values.as_slice().iter().any(|v| fits(h, key, v))
 }
 
-fn all_fit(held: &Held, row: &FilterRow) -> bool
-    ensures { result ≡ list_all (spec.container_fits (container_in held.now) row.now.key) row.now.values }
+fn all_fit(h: &Held, row: &FilterRow) -> bool
+    ensures { result ≡ list_all (spec.container_fits (container_in h.now) row.now.key) row.now.values }
 {
     let key = row.key;
-    row.values.as_slice().iter().all(|v| fits(held, key, v))
+    row.values.as_slice().iter().all(|v| fits(h, key, v))
 }
 
 // Whether a container passes a row: for a label all values, else one.
-fn row_passes(held: &Held, row: &FilterRow) -> bool
-    ensures { result ≡ spec.row_passes row.now.key (spec.container_fits (container_in held.now) row.now.key) row.now.values }
+fn row_passes(h: &Held, row: &FilterRow) -> bool
+    ensures { result ≡ spec.row_passes row.now.key (spec.container_fits (container_in h.now) row.now.key) row.now.values }
 {
     match row.key {
-        FilterKey::Label => all_fit(held, row),
-        _ => any_fits(held, row),
+        FilterKey::Label => all_fit(h, row),
+        _ => any_fits(h, row),
     }
 }
 
 /// Whether a container passes all rows.
-pub fn passes(held: &Held, rows: &Filter) -> bool
-    ensures { result ≡ spec.passes (spec.container_fits (container_in held.now)) rows.now }
+pub fn passes(h: &Held, rows: &Filter) -> bool
+    ensures { result ≡ spec.passes (spec.container_fits (container_in h.now)) rows.now }
 {
-    rows.as_slice().iter().all(|row| row_passes(held, row))
+    rows.as_slice().iter().all(|row| row_passes(h, row))
 }

@@ -1,24 +1,19 @@
-//! The machine of containers: what each call and each due action does to its state.
+//! The machine of containers over its tables: a call is prepared, and then committed.
 #![tactic(auto)]
 
 mod answers;
 mod calls;
+mod counts;
 mod due;
-mod events;
 mod filters;
-mod find;
-mod held;
 pub mod laws;
-mod lives;
+mod lookup;
 mod machine;
-mod names;
+mod plan;
 mod prepared;
 mod refusals;
-#[cfg(test)]
-mod tests;
 mod texts;
 
-pub use call_bounds::is_built;
-pub use held::Held;
-pub use machine::Machine;
-pub use prepared::{Change, Prepared, PreparedDue};
+pub use due::PreparedDue;
+pub use machine::{Machine, ask};
+pub use prepared::Prepared;

@@ -1,32 +1,17 @@
-// A step that is ready to be committed, with all that it puts in.
+// A call that is ready to be committed.
 ghost use Rattle.std.specs.Prelude.{◌≡◌};
 
-use super::held::Held;
-use engine_text::{DueAction, Event, Reply, Script};
+use super::plan::Plan;
+use engine_text::{Event, Reply};
 
-/// What a prepared call changes.
-#[derive(Drop)]
-pub enum Change {
-    Nothing,
-    Add {
-        held: Held,
-        event: Event,
-    },
-    Launch {
-        number: u64,
-        script: Script,
-        stdin: bool,
-        room: u64,
-        event: Event,
-    },
-}
-
-/// A call that is ready to be committed: its moment, its reply and its change.
+/// A call that is ready to be committed: its moment, its reply, its events, and what it does with
+/// the memory that this wants.
 #[derive(Drop)]
 pub struct Prepared {
-    pub moment: u64,
-    pub reply: Reply,
-    pub change: Change,
+    pub(super) moment: u64,
+    pub(super) reply: Reply,
+    pub(super) events: Vec<Event>,
+    pub(super) plan: Plan,
 }
 
 impl Prepared {
@@ -36,11 +21,4 @@ impl Prepared {
     {
         &self.reply
     }
-}
-
-/// A due action that is ready to be committed, with the event of the end that it brings, if it does.
-#[derive(Drop)]
-pub struct PreparedDue {
-    pub due: DueAction,
-    pub end: Option<Event>,
 }

@@ -85,3 +85,36 @@ pub fn unknown_command(alloc: Global, word: &str) -> Result<Text, NoMemory>
 {
     join(alloc, "unknown command: ", word, "")
 }
+
+/// A container doesn't run.
+pub fn not_running(alloc: Global, id: &str) -> Result<Text, NoMemory>
+    ensures { IfOk result (λ t. t ≡ spec.not_running id.now) }
+{
+    join(alloc, "Container ", id, " is not running")
+}
+
+/// A container isn't paused.
+pub fn not_paused(alloc: Global, id: &str) -> Result<Text, NoMemory>
+    ensures { IfOk result (λ t. t ≡ spec.not_paused id.now) }
+{
+    join(alloc, "Container ", id, " is not paused")
+}
+
+/// A container is restarting.
+pub fn restarting(alloc: Global, id: &str) -> Result<Text, NoMemory>
+    ensures { IfOk result (λ t. t ≡ spec.restarting id.now) }
+{
+    join(
+        alloc,
+        "Container ",
+        id,
+        " is restarting, wait until the container is running",
+    )
+}
+
+/// A container is paused.
+pub fn already_paused(alloc: Global, id: &str) -> Result<Text, NoMemory>
+    ensures { IfOk result (λ t. t ≡ spec.already_paused id.now) }
+{
+    join(alloc, "Container ", id, " is already paused")
+}

@@ -15,6 +15,7 @@ use Rattle.machine_model.specs.Room.{HasRoom, has_room}
 use Rattle.call_bounds.specs.Soundness.{IsSound}
 use Rattle.machine_model.specs.History.{Charter, IsLegal, IsLawful, AreLawful, state_after, state_from, moment_used, latest, greatest_moment, acts_by, calls_of, bears, DuesUntil, SomeDues, reply_of}
 use Rattle.machine_model.proofs.Histories.{run_append, legal_append}
+use Rattle.machine_model.proofs.ObeyLemmas.{HaveReplies}
 use Rattle.session_model.specs.declared.turned.Turned.{Turned}
 use Rattle.session_model.specs.declared.turned.Turned.TheVariants as T
 use Rattle.session_model.specs.Turning.{Turn, TurnSays, Makes, MakesAt, GivesNoTicket}
@@ -24,7 +25,7 @@ use Rattle.daemon_core.specs.declared.stored.Stored.{Stored}
 use Rattle.daemon_core.specs.declared.daemon.Daemon.{Daemon}
 use Rattle.daemon_core.specs.Whole.{IsAnswer}
 use Rattle.daemon_core.specs.Storing.{pass_of, is_call, Adds, AddsDues, IsClear, Ends, turned_by, charter_for, moment_of}
-use Rattle.daemon_core.proofs.BuiltLemmas.{built_answers, built_drop, built_lawful, room_steps}
+use Rattle.daemon_core.proofs.BuiltLemmas.{have_replies, built_answers, built_drop, built_lawful, room_steps}
 use Rattle.daemon_core.proofs.DueLemmas.{all_made, dues_calls, dues_own}
 
 -- ---- a daemon, by what it keeps
@@ -34,11 +35,11 @@ pub record Stands (ch : Charter) (s : State) (h : List Step) : Type 0 where
   pub is : s ≡ state_after ch h
   pub legal : IsLegal ch h
 
-pub as_stored : (d : Stored) (x : State) → d.machine.state ≡ x → d ≡ record d { machine = record d.machine { state = x } }
-as_stored d x e = ap (λ y. record d { machine = record d.machine { state = y } }) e
+pub as_stored : (d : Stored) (x : State) → d.machine.memory.state ≡ x → d ≡ record d { machine = record d.machine { memory = record d.machine.memory { state = x } } }
+as_stored d x e = ap (λ y. record d { machine = record d.machine { memory = record d.machine.memory { state = y } } }) e
 
-pub stands : (d : Daemon) → Stands (charter d) d.stored.machine.state d.stored.steps.items
-stands d = record { is = ap (λ (x : Stored). x.machine.state) d.state; legal = d.legal }
+pub stands : (d : Daemon) → Stands (charter d) d.stored.machine.memory.state d.stored.steps.items
+stands d = record { is = ap (λ (x : Stored). x.machine.memory.state) d.state; legal = d.legal }
 
 stands_more : (ch : Charter) (s s' : State) (h h' more : List Step) → Stands ch s h → s' ≡ state_from s more → h' ≡ h ++ more
     → AreLawful s more → Stands ch s' h'
@@ -79,11 +80,16 @@ ends_by : (ch : Charter) (s : State) (h h' : List Step) (k t : ℕ) (c : Call) (
 ends_by ch s h h' k t c (reply.Answer status body) a room at is = (room, at, is)
 ends_by ch s h h' k t c r a room at is = absurd a
 
+-- a call of a daemon is answered whole
+answer_of : (ch : Charter) (s : State) (h : List Step) → Stands ch s h → (c : Call) → IsTrue (is_built c) → (k t : ℕ)
+    → IsAnswer (reply_of s k t c)
+answer_of ch s h st c built k t = built_answers c built s (subst HaveReplies (sym st.is) (have_replies ch h)) k t
+
 -- the call was made
-pub ends_made : (ch : Charter) (s s' : State) (h h' : List Step) (k t : ℕ) (c : Call) (r : Reply) → IsTrue (is_built c)
-    → HasRoom ch s c → Adds k t c r s s' h h' → Ends ch s k t c (turned_by r) h h'
-ends_made ch s s' h h' k t c r built room made =
-    ends_by ch s h h' k t c r (subst IsAnswer (sym made.reply) (built_answers c built s k t)) room made.steps_are made.reply
+pub ends_made : (ch : Charter) (s s' : State) (h h' : List Step) (k t : ℕ) (c : Call) (r : Reply) → Stands ch s h
+    → IsTrue (is_built c) → HasRoom ch s c → Adds k t c r s s' h h' → Ends ch s k t c (turned_by r) h h'
+ends_made ch s s' h h' k t c r st built room made =
+    ends_by ch s h h' k t c r (subst IsAnswer (sym made.reply) (answer_of ch s h st c built k t)) room made.steps_are made.reply
 
 -- there was no room
 pub ends_full : (ch : Charter) (s : State) (h : List Step) (k t : ℕ) (c : Call) → has_room ch s c ≡ false
@@ -175,7 +181,7 @@ answered ch u s s1 h h1 h2 k handed c (T.Replied r) st built at made idle legal 
     adds ch h h2 own k handed (Some c) (T.Replied r) legal behind
     (own_behind k u c made.dues (dues_calls u s s1 h h1 made) (dues_own k u s s1 h h1 made))
     (subst (λ y. TurnSays ch y k handed (Some c) (T.Replied r) own) st.is (
-      no_ticket r (subst IsAnswer (sym is) (built_answers c built s1 k u)),
+      no_ticket r (subst IsAnswer (sym is) (answer_of ch s1 h1 (stands_due ch u s s1 h h1 st made) c built k u)),
       makes_of ch s k handed c own r built
           (subst (λ v. (ds : List Step) × DuesUntil s v ds × MakesAt ch s k v c ds own r) (sym at)
           (made.dues, all_made u s s1 h h1 made idle, (subst (λ y. HasRoom ch y c) made.state room, refl, reply))),

@@ -12,12 +12,10 @@ use Rattle.machine_model.specs.Due.{least_due}
 use Rattle.machine_model.specs.Step.{or_still}
 use Rattle.machine_model.specs.History.{after_step, state_from, is_by, is_due, acts_by, has_steps, latest, SomeDues, DuesUntil, IsLawful, calls_of}
 use Rattle.machine_model.proofs.Histories.{state_append, lawful_append}
-use Rattle.machine_model.proofs.IdLemmas.{ids_differ}
 use Rattle.machine_model.proofs.MomentLemmas.{moves}
-use Rattle.container_machine.specs.Kept.{IsKept}
-use Rattle.container_machine.specs.Memory.{Memory}
-use Rattle.container_machine.specs.Prepared.{IsStepped}
-use Rattle.container_machine.proofs.Orderly.{orderly}
+use Rattle.machine_model.specs.Consistency.{IsConsistent}
+use Rattle.container_machine.specs.Parts.{MachineParts}
+use Rattle.container_machine.specs.Dues.{IsStepped}
 use Rattle.session_model.proofs.DueLemmas.{some_clock}
 use Rattle.daemon_core.specs.Storing.{is_call, AddsDue, AddsDues, IsClear}
 
@@ -41,14 +39,14 @@ pub steps_left : (s : State) (u : ℕ) → acts_by s u ≡ true → s.step_count
 steps_left s u acts = let both = and_both (is_due s u) (has_steps s) acts in grind (arith, nat_tests, both.1)
 
 -- what was committed is the due step
-pub stepped : (o : Option Effect) (before after : Memory) → IsStepped o before after → after.state ≡ (or_still o before.state).state
+pub stepped : (o : Option Effect) (before after : MachineParts) → IsStepped o before after → after.memory.state ≡ (or_still o before.memory.state).state
 stepped None before after h = absurd h
 stepped (Some e) before after h = h.0
 
 -- it lies at the clock or later
-pub due_later : (s s' : State) → IsKept s → IsLawful s Step.Due → s' ≡ after_step s Step.Due → s.clock ≤ s'.clock
+pub due_later : (s s' : State) → IsConsistent s → IsLawful s Step.Due → s' ≡ after_step s Step.Due → s.clock ≤ s'.clock
 due_later s s' kept lawful is =
-    let later : s.clock ≤ (after_step s Step.Due).clock = (moves s Step.Due (orderly s ids_differ kept).limits.dues lawful).1 in
+    let later : s.clock ≤ (after_step s Step.Due).clock = (moves s Step.Due kept.limits.dues lawful).1 in
     let at : s'.clock ≡ (after_step s Step.Due).clock = ap (λ (y : State). y.clock) is in
     omega (arith, later, at)
 

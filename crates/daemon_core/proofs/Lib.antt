@@ -1,3 +1,4 @@
 pub mod BuiltLemmas
+pub mod CountLemmas
 pub mod DueLemmas
 pub mod DaemonLemmas

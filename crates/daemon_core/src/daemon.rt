@@ -21,7 +21,7 @@ pub struct Daemon {
     pub(crate) seed: [u8; 32],
     pub(crate) opening: u64,
     pub(crate) greatest: u64,
-    pub(crate) ghost state: { stored ≡ record stored { machine = record stored.machine { state = state_after (charter_of seed opening greatest) stored.steps.items } } } by { Coded-set stored-code stored _ },
+    pub(crate) ghost state: { stored ≡ record stored { machine = record stored.machine { memory = record stored.machine.memory { state = state_after (charter_of seed opening greatest) stored.steps.items } } } } by { Coded-set stored-code stored _ },
     pub(crate) ghost legal: { IsLegal (charter_of seed opening greatest) stored.steps.items } by { IsLegal-prop (charter_of seed opening greatest) stored.steps.items },
     pub(crate) ghost counted: { length stored.steps.items < 2 ^ 64 },
 }
@@ -57,7 +57,7 @@ impl Daemon {
     {
         Ok(Daemon {
             stored: Stored {
-                machine: Machine::new(alloc, seed, moment),
+                machine: Machine::new(alloc, seed, moment)?,
                 steps: Vec::new(alloc),
             },
             seed,
@@ -94,9 +94,9 @@ impl Daemon {
     fn make(&mut self, alloc: Global, conn: u32, moment: u64, call: &Call) -> Turned
         requires sound { IsSound call.now }
         requires built { IsTrue (is_built call.now) }
-        requires at { IsClear self.old.stored.machine.state moment }
+        requires at { IsClear self.old.stored.machine.memory.state moment }
         ensures charter { charter self.new ≡ charter self.old }
-        ensures ends { Ends (charter self.old) self.old.stored.machine.state conn moment call.now result self.old.stored.steps.items self.new.stored.steps.items }
+        ensures ends { Ends (charter self.old) self.old.stored.machine.memory.state conn moment call.now result self.old.stored.steps.items self.new.stored.steps.items }
     {
         if !has_room(&self.stored.machine, self.greatest, call) {
             return Turned::JournalFull;

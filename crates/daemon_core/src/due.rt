@@ -11,7 +11,7 @@ use std::alloc::Global;
 impl Stored {
     /// Whether a step is due at or before the moment, and can still be made.
     fn acts(&self, moment: u64) -> bool
-        ensures { result ≡ acts_by self.now.machine.state moment }
+        ensures { result ≡ acts_by self.now.machine.memory.state moment }
     {
         self.machine.is_due(moment) && has_steps(&self.machine)
     }
@@ -19,9 +19,9 @@ impl Stored {
     /// Makes the steps that are due at or before the moment, until there are none, no more can be
     /// made, or memory is refused.
     pub fn run_due(&mut self, alloc: Global, moment: u64) -> Result<(), NoMemory>
-        requires { moment ≤ latest self.old.machine.state }
-        ensures made { AddsDues moment self.old.machine.state self.new.machine.state self.old.steps.items self.new.steps.items }
-        ensures all { OnOk result (acts_by self.new.machine.state moment ≡ false) }
+        requires { moment ≤ latest self.old.machine.memory.state }
+        ensures made { AddsDues moment self.old.machine.memory.state self.new.machine.memory.state self.old.steps.items self.new.steps.items }
+        ensures all { OnOk result (acts_by self.new.machine.memory.state moment ≡ false) }
     {
         'due: while self.acts(moment) {
             self.step_due(alloc)?;

@@ -12,7 +12,7 @@ const MOST_STEPS: u64 = 1 << 56;
 
 /// Whether a step may still be made.
 pub fn has_steps(machine: &Machine) -> bool
-    ensures { result ≡ has_steps machine.now.state }
+    ensures { result ≡ has_steps machine.now.memory.state }
 {
     machine.steps() < MOST_STEPS
 }
@@ -30,7 +30,7 @@ fn places_of(call: &Call) -> u64
 
 /// Whether a journal of at most that many entries has room for the call.
 pub fn has_room(machine: &Machine, greatest: u64, call: &Call) -> bool
-    ensures { result ≡ has_room (charter_for greatest) machine.now.state call.now }
+    ensures { result ≡ has_room (charter_for greatest) machine.now.memory.state call.now }
 {
     match call {
         Call::Take { .. } | Call::Drop { .. } => true,

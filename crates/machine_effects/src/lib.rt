@@ -2,6 +2,7 @@
 #![tactic(auto)]
 
 mod containers;
+mod counts;
 mod death;
 mod effects;
 mod events;

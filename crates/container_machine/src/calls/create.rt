@@ -1,22 +1,34 @@
 // Create: the image first, then the name.
-ghost use Rattle.std.specs.Prelude.{◌≡◌, ◌++◌, [], codes, IfOk, IsTrue};
+ghost use Rattle.std.specs.Prelude.{◌≡◌, ◌≤◌, ◌++◌, [], codes, length, IfOk};
 ghost use Rattle.machine_model.specs.Calls.Create as spec;
-ghost use Rattle.call_bounds.specs.Built.{is_built_create};
-ghost use Rattle.container_machine.specs.Prepared.{Makes};
+ghost use Rattle.machine_model.specs.Consistency.{IsConsistent};
+ghost use Rattle.machine_model.specs.Names.{holder};
+ghost use Rattle.machine_effects.specs.Held.{container_in};
+ghost use Rattle.machine_effects.specs.NewVolumes.{CanAdd};
+ghost use Rattle.container_machine.specs.Making.{Makes};
 
 use crate::answers::refuse;
-use crate::events::plain_event;
 use crate::filters::is_image;
-use crate::held::Held;
-use crate::machine::Machine;
-use crate::names::chosen_name;
-use crate::prepared::{Change, Prepared};
+use crate::plan::Plan;
+use crate::prepared::Prepared;
 use crate::refusals::{name_conflict, no_such_image};
 use crate::texts::join;
 use engine_text::{
-    Action, Container, CreateSpec, Goal, Life, Log, NoMemory, Reply, Status, Text, Words,
+    Action, Container, CreateSpec, Event, Goal, Life, Log, NoMemory, Reply, Status, Text, Volume,
+    Words,
 };
+use machine_effects::{Held, Tables, add, plain_event, tell_volumes};
 use std::alloc::Global;
+
+/// The container stands, and the volumes of its mounts.
+pub fn perform(tables: &mut Tables, held: Held, volumes: Vec<Volume>)
+    requires { CanAdd (container_in held) volumes.items tables.old }
+    ensures state { tables.new.state ≡ (spec.add (container_in held) tables.old.state).state }
+    ensures died { [] ≡ (spec.add (container_in held) tables.old.state).died }
+    ensures room { tables.new.room ≡ tables.old.room }
+{
+    tables.add(held, volumes);
+}
 
 // Empty words stand for `hello`.
 fn words_or_hello(alloc: Global, words: &Words) -> Result<Words, NoMemory>
@@ -64,77 +76,74 @@ fn created_text(alloc: Global, id: &Text) -> Result<Text, NoMemory>
     join(alloc, "{\"Id\":\"", id.as_str(), "\",\"Warnings\":[]}")
 }
 
-impl Machine {
-    // With a name that is free.
-    #[tactic(auto, using(crate::proofs::CreateLemmas::added))]
-    fn prepare_new(
-        &self,
-        alloc: Global,
-        moment: u64,
-        name: Text,
-        asked: &CreateSpec,
-    ) -> Result<Prepared, NoMemory>
-        requires { asked.now.mounts ≡ [] }
-        ensures { IfOk result (λ p. Makes p moment self.now.state
-            (λ s. spec.created (spec.new_container name asked.now s) s)) }
-    {
-        let number = self.next_number();
-        let container = Container {
-            number,
-            id: self.next_id(alloc)?,
-            name,
-            life: new_life(alloc, asked, moment)?,
-        };
-        let event = plain_event(alloc, Action::Create, &container, moment)?;
-        let body = created_text(alloc, &container.id)?;
-        let reply = Reply::Answer { status: 201, body };
-        let held = Held {
-            container,
-            records: Vec::new(alloc),
-        };
-        let change = Change::Add { held, event };
-        Ok(Prepared {
-            moment,
-            reply,
-            change,
-        })
-    }
+// With a name that is free.
+fn prepare_new(
+    tables: &Tables,
+    alloc: Global,
+    moment: u64,
+    name: Text,
+    asked: &CreateSpec,
+) -> Result<Prepared, NoMemory>
+    ensures { IfOk result (λ p. Makes p moment tables.now.state
+        (λ s. spec.created (spec.new_container name asked.now s) s)) }
+{
+    let container = Container {
+        number: tables.next_number(),
+        id: tables.next_id(alloc)?,
+        name,
+        life: new_life(alloc, asked, moment)?,
+    };
+    let volumes = tables.missing_volumes(alloc, &container.life.mounts, moment)?;
+    let mut events = Vec::new(alloc);
+    tell_volumes(alloc, volumes.as_slice(), moment, &mut events)?;
+    let event = plain_event(alloc, Action::Create, &container, moment)?;
+    add(&mut events, event)?;
+    let body = created_text(alloc, &container.id)?;
+    let held = Held {
+        container,
+        records: Vec::new(alloc),
+    };
+    Ok(Prepared {
+        moment,
+        reply: Reply::Answer { status: 201, body },
+        events,
+        plan: Plan::Create { held, volumes },
+    })
+}
 
-    fn prepare_named(
-        &self,
-        alloc: Global,
-        moment: u64,
-        name: Text,
-        asked: &CreateSpec,
-    ) -> Result<Prepared, NoMemory>
-        requires { asked.now.mounts ≡ [] }
-        ensures { IfOk result (λ p. Makes p moment self.now.state (spec.by_name name asked.now)) }
-    {
-        match self.holder(name.as_str()) {
-            Some(other) => {
-                let text = name_conflict(alloc, name.as_str(), other.container.id.as_str())?;
-                refuse(alloc, moment, 409, &text)
-            }
-            None => self.prepare_new(alloc, moment, name, asked),
+// With a name that may be taken.
+fn prepare_named(
+    tables: &Tables,
+    alloc: Global,
+    moment: u64,
+    name: Text,
+    asked: &CreateSpec,
+) -> Result<Prepared, NoMemory>
+    ensures { IfOk result (λ p. Makes p moment tables.now.state (spec.by_name name asked.now)) }
+{
+    match tables.holder(name.as_str()) {
+        Some(other) => {
+            let text = name_conflict(alloc, name.as_str(), other.container.id.as_str())?;
+            refuse(alloc, moment, 409, &text)
         }
+        None => prepare_new(tables, alloc, moment, name, asked),
     }
+}
 
-    /// Makes a create ready.
-    #[tactic(auto, using(crate::proofs::CreateLemmas::no_mounts))]
-    pub fn prepare_create(
-        &self,
-        alloc: Global,
-        moment: u64,
-        asked: &CreateSpec,
-    ) -> Result<Prepared, NoMemory>
-        requires { IsTrue (is_built_create asked.now) }
-        ensures { IfOk result (λ p. Makes p moment self.now.state (spec.create_outcome asked.now)) }
-    {
-        if !is_image(&asked.image) {
-            let text = no_such_image(alloc, asked.image.as_str())?;
-            return refuse(alloc, moment, 404, &text);
-        }
-        let name = self.chosen_name(alloc, &asked.name)?;
-        self.prepare_named(alloc, moment, name, asked)
+/// Makes a create ready.
+pub fn prepare(
+    tables: &Tables,
+    alloc: Global,
+    moment: u64,
+    asked: &CreateSpec,
+) -> Result<Prepared, NoMemory>
+    requires { IsConsistent tables.now.state }
+    ensures { IfOk result (λ p. Makes p moment tables.now.state (spec.create_outcome asked.now)) }
+{
+    if !is_image(&asked.image) {
+        let text = no_such_image(alloc, asked.image.as_str())?;
+        return refuse(alloc, moment, 404, &text);
     }
+    let name = tables.chosen_name(alloc, &asked.name)?;
+    prepare_named(tables, alloc, moment, name, asked)
 }

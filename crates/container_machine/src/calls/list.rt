@@ -3,17 +3,16 @@ ghost use Rattle.std.specs.Prelude.{◌≡◌, [], ◌∷◌, ◌++◌, IfOk, On
 ghost use Rattle.std.specs.List.{list_any};
 ghost use Rattle.machine_model.specs.Views.{listed};
 ghost use Rattle.machine_model.specs.Calls.List as spec;
-ghost use Rattle.container_machine.specs.Held.{container_in, containers_in};
-ghost use Rattle.container_machine.specs.Limits.{is_reached};
-ghost use Rattle.container_machine.specs.Prepared.{Makes};
+ghost use Rattle.machine_effects.specs.Held.{container_in};
+ghost use Rattle.container_machine.specs.Calls.List.{is_reached};
+ghost use Rattle.container_machine.specs.Making.{Makes};
 
 use crate::answers::answer;
 use crate::filters::passes;
-use crate::held::Held;
-use crate::machine::Machine;
 use crate::prepared::Prepared;
 use api_json::list_body;
 use engine_text::{Filter, FilterKey, Listed, NoMemory, Status};
+use machine_effects::{Held, Tables};
 use std::alloc::Global;
 
 fn is_state(key: FilterKey) -> bool
@@ -52,10 +51,10 @@ fn is_up(status: Status) -> bool
     )
 }
 
-fn is_shown(held: &Held, all: bool, rows: &Filter) -> bool
-    ensures { result ≡ spec.is_shown all rows.now (container_in held.now) }
+fn is_shown(h: &Held, all: bool, rows: &Filter) -> bool
+    ensures { result ≡ spec.is_shown all rows.now (container_in h.now) }
 {
-    (all || is_up(held.container.life.status)) && passes(held, rows)
+    (all || is_up(h.container.life.status)) && passes(h, rows)
 }
 
 // Whether the limit lets no more in.
@@ -68,10 +67,10 @@ fn is_reached(limit: Option<u32>, count: usize) -> bool
     }
 }
 
-fn listed(alloc: Global, held: &Held) -> Result<Listed, NoMemory>
-    ensures { IfOk result (λ l. l ≡ listed (container_in held.now)) }
+fn listed(alloc: Global, h: &Held) -> Result<Listed, NoMemory>
+    ensures { IfOk result (λ l. l ≡ listed (container_in h.now)) }
 {
-    let container = &held.container;
+    let container = &h.container;
     let life = &container.life;
     Ok(Listed {
         number: container.number,
@@ -90,17 +89,17 @@ fn listed(alloc: Global, held: &Held) -> Result<Listed, NoMemory>
 fn add_shown(
     alloc: Global,
     items: &mut Vec<Listed>,
-    held: &Held,
+    h: &Held,
     all: bool,
     rows: &Filter,
 ) -> Result<(), NoMemory>
     ensures { OnOk result (items.new.items
-        ≡ items.old.items ++ map listed (filter (spec.is_shown all rows.now) (container_in held.now ∷ []))) }
+        ≡ items.old.items ++ map listed (filter (spec.is_shown all rows.now) (container_in h.now ∷ []))) }
 {
-    if !is_shown(held, all, rows) {
+    if !is_shown(h, all, rows) {
         return Ok(());
     }
-    let item = listed(alloc, held)?;
+    let item = listed(alloc, h)?;
     match items.push(item) {
         Ok(()) => Ok(()),
         Err(_) => Err(NoMemory),
@@ -110,39 +109,39 @@ fn add_shown(
 // Behind the last that the limit lets in, none is looked at.
 fn shown(
     alloc: Global,
-    held: &[Held],
+    tables: &Tables,
     all: bool,
     limit: Option<u32>,
     rows: &Filter,
 ) -> Result<Vec<Listed>, NoMemory>
     ensures { IfOk result (λ v. v.items ≡ map listed
-        (spec.limited limit (filter (spec.is_shown all rows.now) (reverse (containers_in held.now))))) }
+        (spec.limited limit (filter (spec.is_shown all rows.now) (reverse tables.now.state.containers)))) }
 {
     let mut items = Vec::new(alloc);
-    'held: for h in held.iter().rev() {
+    let mut left = tables.containers();
+    'older: while left > 0 {
         if is_reached(limit, items.len()) {
             return Ok(items);
         }
-        add_shown(alloc, &mut items, h, all, rows)?;
+        left -= 1;
+        add_shown(alloc, &mut items, tables.container_at(left), all, rows)?;
     }
     Ok(items)
 }
 
-impl Machine {
-    /// Makes a list ready.
-    pub fn prepare_list(
-        &self,
-        alloc: Global,
-        moment: u64,
-        all: bool,
-        limit: Option<u32>,
-        filter: &Filter,
-    ) -> Result<Prepared, NoMemory>
-        ensures { IfOk result (λ p. Makes p moment self.now.state (spec.list_outcome all limit filter.now)) }
-    {
-        let every = shows_all(all, limit, filter);
-        let items = shown(alloc, self.held(), every, limit, filter)?;
-        let body = list_body(alloc, items.as_slice())?;
-        Ok(answer(moment, 200, body))
-    }
+/// Makes a list ready.
+pub fn prepare(
+    tables: &Tables,
+    alloc: Global,
+    moment: u64,
+    all: bool,
+    limit: Option<u32>,
+    filter: &Filter,
+) -> Result<Prepared, NoMemory>
+    ensures { IfOk result (λ p. Makes p moment tables.now.state (spec.list_outcome all limit filter.now)) }
+{
+    let every = shows_all(all, limit, filter);
+    let items = shown(alloc, tables, every, limit, filter)?;
+    let body = list_body(alloc, items.as_slice())?;
+    Ok(answer(alloc, moment, 200, body))
 }

@@ -1,27 +1,34 @@
-// Start: by the container's state.
-ghost use Rattle.std.specs.Prelude.{◌≡◌, ◌+◌, IfOk, Some, true};
-ghost use Rattle.machine_model.specs.Outcome.{by_found, refused};
-ghost use Rattle.machine_model.specs.State.{container_numbered};
-ghost use Rattle.machine_model.specs.Calls.Start as spec;
-ghost use Rattle.proc_kernel.specs.Catalogue.{program_of};
-ghost use Rattle.engine_text.specs.declared.container.Found.{Found};
-ghost use Rattle.container_machine.specs.Held.{container_in};
-ghost use Rattle.container_machine.specs.Kept.{is_idle};
-ghost use Rattle.container_machine.specs.Prepared.{Makes};
+// Start: by the container's status.
+ghost use Rattle.std.specs.Prelude.{◌≡◌, ◌+◌, ◌<◌, ◌^◌, [], Some, IfOk};
 ghost use Rattle.api_json.specs.Values.{first_word};
+ghost use Rattle.proc_kernel.specs.Catalogue.{program_of};
+ghost use Rattle.machine_model.specs.Consistency.{IsConsistent};
+ghost use Rattle.machine_model.specs.State.{container_numbered};
+ghost use Rattle.machine_model.specs.Effects.Launch.{launch_by_call};
+ghost use Rattle.machine_model.specs.Calls.Start as spec;
+ghost use Rattle.machine_effects.specs.Held.{container_in};
+ghost use Rattle.container_machine.specs.Calls.Start.{CanStart};
+ghost use Rattle.container_machine.specs.Making.{Makes};
 
 use crate::answers::{answer, refuse};
-use crate::events::plain_event;
-use crate::held::Held;
-use crate::lives::room_after;
-use crate::machine::Machine;
-use crate::prepared::{Change, Prepared};
-use crate::refusals::{
-    being_removed, dead, many_found, no_such_container, start_of_paused, unknown_command,
-};
-use engine_text::{Action, Found, NoMemory, Reply, Script, Status, Text, Words};
+use crate::lookup::{Looked, look};
+use crate::plan::Plan;
+use crate::prepared::Prepared;
+use crate::refusals::{being_removed, dead, start_of_paused, unknown_command};
+use engine_text::{NoMemory, Reply, Script, Status, Text, Words};
+use machine_effects::{Held, Tables, tell_launch};
 use proc_kernel::program;
 use std::alloc::Global;
+
+/// The container is launched.
+pub fn perform(tables: &mut Tables, number: u64, script: Option<Script>)
+    requires { CanStart number script tables.old }
+    ensures state { tables.new.state ≡ (launch_by_call number tables.old.state).state }
+    ensures died { [] ≡ (launch_by_call number tables.old.state).died }
+    ensures room { tables.new.room ≡ tables.old.room }
+{
+    tables.launch_by_call(number, script);
+}
 
 fn first_word(words: &Words) -> &str
     ensures { result.now ≡ first_word words.now }
@@ -32,126 +39,91 @@ fn first_word(words: &Words) -> &str
     }
 }
 
-impl Machine {
-    // A container that has no process, and whose words name that program.
-    fn prepare_launch(
-        &self,
-        alloc: Global,
-        moment: u64,
-        held: &Held,
-        script: Script,
-    ) -> Result<Prepared, NoMemory>
-        requires stands { container_numbered held.now.container.number self.now.state ≡ Some (container_in held.now) }
-        requires idle { is_idle held.now.container.life.status ≡ true }
-        requires named { program_of held.now.container.life.words (held.now.container.life.starts + 1) ≡ Some script }
-        ensures { IfOk result (λ p. Makes p moment self.now.state (spec.run (container_in held.now))) }
-    {
-        self.kept();
-        let event = plain_event(alloc, Action::Start, &held.container, moment)?;
-        let body = Text::new(alloc);
-        let room = room_after(held.records.as_slice());
-        let reply = Reply::Answer { status: 204, body };
-        let change = Change::Launch {
-            number: held.container.number,
-            script,
-            stdin: held.container.life.open_stdin,
-            room,
-            event,
-        };
-        Ok(Prepared {
-            moment,
-            reply,
-            change,
-        })
-    }
+// Its words name that program.
+fn prepare_launch(
+    alloc: Global,
+    moment: u64,
+    tables: &Tables,
+    h: &Held,
+    script: Script,
+) -> Result<Prepared, NoMemory>
+    requires stands { container_numbered h.now.container.number tables.now.state ≡ Some (container_in h.now) }
+    requires named { program_of h.now.container.life.words (h.now.container.life.starts + 1) ≡ Some script }
+    ensures { IfOk result (λ p. Makes p moment tables.now.state (spec.run (container_in h.now))) }
+{
+    let number = h.container.number;
+    let script = Some(script);
+    let mut events = Vec::new(alloc);
+    tell_launch(alloc, &script, h, moment, &mut events)?;
+    let body = Text::new(alloc);
+    Ok(Prepared {
+        moment,
+        reply: Reply::Answer { status: 204, body },
+        events,
+        plan: Plan::Start { number, script },
+    })
+}
 
-    // A container that has no process.
-    fn prepare_run(&self, alloc: Global, moment: u64, held: &Held) -> Result<Prepared, NoMemory>
-        requires stands { container_numbered held.now.container.number self.now.state ≡ Some (container_in held.now) }
-        requires idle { is_idle held.now.container.life.status ≡ true }
-        ensures { IfOk result (λ p. Makes p moment self.now.state (spec.run (container_in held.now))) }
-    {
-        self.kept();
-        let life = &held.container.life;
-        match program(alloc, &life.words, life.starts + 1)? {
-            Some(script) => self.prepare_launch(alloc, moment, held, script),
-            None => {
-                let text = unknown_command(alloc, first_word(&life.words))?;
-                refuse(alloc, moment, 400, &text)
-            }
+// Of a container that has no process.
+fn prepare_run(alloc: Global, moment: u64, tables: &Tables, h: &Held) -> Result<Prepared, NoMemory>
+    requires stands { container_numbered h.now.container.number tables.now.state ≡ Some (container_in h.now) }
+    requires starts { h.now.container.life.starts < 2 ^ 63 }
+    ensures { IfOk result (λ p. Makes p moment tables.now.state (spec.run (container_in h.now))) }
+{
+    let life = &h.container.life;
+    match program(alloc, &life.words, life.starts + 1)? {
+        Some(script) => prepare_launch(alloc, moment, tables, h, script),
+        None => {
+            let text = unknown_command(alloc, first_word(&life.words))?;
+            refuse(alloc, moment, 400, &text)
         }
     }
+}
 
-    fn prepare_by_status(
-        &self,
-        alloc: Global,
-        moment: u64,
-        held: &Held,
-    ) -> Result<Prepared, NoMemory>
-        requires { container_numbered held.now.container.number self.now.state ≡ Some (container_in held.now) }
-        ensures { IfOk result (λ p. Makes p moment self.now.state
-            (spec.by_status held.now.container.life.status (container_in held.now))) }
-    {
-        let id = held.container.id.as_str();
-        match held.container.life.status {
-            Status::Created => self.prepare_run(alloc, moment, held),
-            Status::Exited => self.prepare_run(alloc, moment, held),
-            Status::Running => Ok(answer(moment, 304, Text::new(alloc))),
-            Status::Restarting => Ok(answer(moment, 304, Text::new(alloc))),
-            Status::Paused => {
-                let text = start_of_paused(alloc)?;
-                refuse(alloc, moment, 409, &text)
-            }
-            Status::Removing => {
-                let text = being_removed(alloc, id)?;
-                refuse(alloc, moment, 409, &text)
-            }
-            Status::Dead => {
-                let text = dead(alloc, id)?;
-                refuse(alloc, moment, 409, &text)
-            }
+fn prepare_by_status(
+    alloc: Global,
+    moment: u64,
+    tables: &Tables,
+    h: &Held,
+) -> Result<Prepared, NoMemory>
+    requires stands { container_numbered h.now.container.number tables.now.state ≡ Some (container_in h.now) }
+    requires starts { h.now.container.life.starts < 2 ^ 63 }
+    ensures { IfOk result (λ p. Makes p moment tables.now.state
+        (spec.by_status h.now.container.life.status (container_in h.now))) }
+{
+    let id = h.container.id.as_str();
+    match h.container.life.status {
+        Status::Created => prepare_run(alloc, moment, tables, h),
+        Status::Exited => prepare_run(alloc, moment, tables, h),
+        Status::Running => Ok(answer(alloc, moment, 304, Text::new(alloc))),
+        Status::Restarting => Ok(answer(alloc, moment, 304, Text::new(alloc))),
+        Status::Paused => {
+            let text = start_of_paused(alloc)?;
+            refuse(alloc, moment, 409, &text)
+        }
+        Status::Removing => {
+            let text = being_removed(alloc, id)?;
+            refuse(alloc, moment, 409, &text)
+        }
+        Status::Dead => {
+            let text = dead(alloc, id)?;
+            refuse(alloc, moment, 409, &text)
         }
     }
+}
 
-    fn prepare_found(
-        &self,
-        alloc: Global,
-        moment: u64,
-        number: u64,
-        target: &str,
-    ) -> Result<Prepared, NoMemory>
-        ensures { IfOk result (λ p. Makes p moment self.now.state
-            (by_found (Found.One number) target.now (λ c. spec.by_status c.life.status c))) }
-    {
-        self.kept();
-        match self.numbered(number) {
-            Some(held) => self.prepare_by_status(alloc, moment, held),
-            None => {
-                let text = no_such_container(alloc, target)?;
-                refuse(alloc, moment, 404, &text)
-            }
-        }
-    }
-
-    /// Makes a start ready.
-    pub fn prepare_start(
-        &self,
-        alloc: Global,
-        moment: u64,
-        target: &str,
-    ) -> Result<Prepared, NoMemory>
-        ensures { IfOk result (λ p. Makes p moment self.now.state (spec.start_outcome target.now)) }
-    {
-        match self.find(target) {
-            Found::One(number) => self.prepare_found(alloc, moment, number, target),
-            Found::None => {
-                let text = no_such_container(alloc, target)?;
-                refuse(alloc, moment, 404, &text)
-            }
-            Found::Many => {
-                let text = many_found(alloc, target)?;
-                refuse(alloc, moment, 400, &text)
-            }
-        }
+/// Makes a start ready.
+pub fn prepare(
+    tables: &Tables,
+    alloc: Global,
+    moment: u64,
+    target: &str,
+) -> Result<Prepared, NoMemory>
+    requires { IsConsistent tables.now.state }
+    ensures { IfOk result (λ p. Makes p moment tables.now.state (spec.start_outcome target.now)) }
+{
+    match look(tables, alloc, moment, target)? {
+        Looked::Stands(h) => prepare_by_status(alloc, moment, tables, h),
+        Looked::Refused(prepared) => Ok(prepared),
     }
 }

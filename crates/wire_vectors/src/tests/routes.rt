@@ -38,7 +38,7 @@ GET /nothing/%ff  404 message page not found
 POST /containers//start  404 message page not found
 POST /containers/%ff/start  400 message bad path
 GET /containers/a/start  404 message page not found
-POST /containers/a/pause  501 message not built
+POST /containers/a/restart  501 message not built
 DELETE /containers/create  501 message not built";
 
 const QUERIES: &str = "\

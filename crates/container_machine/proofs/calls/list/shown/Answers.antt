@@ -1,31 +1,29 @@
-use Rattle.std.proofs.Common.{◌≡◌, Bool, true, false, filter, reverse, ap, sym, ◌∙◌, length, arith}
+use Rattle.std.proofs.Common.{◌≡◌, suc, ◌-◌, Bool, true, false, List, filter, reverse, take, ap, sym, ◌∙◌, length, arith}
+use Rattle.std.proofs.lemmas.Bool.Decides.{nat_tests}
 use Rattle.machine_model.specs.Calls.List.{is_shown}
 use Rattle.engine_text.specs.declared.container.Container.{Container}
-use Rattle.container_machine.specs.Held.{container_in, containers_in}
-use Rattle.container_machine.specs.Limits.{is_reached}
-use Rattle.container_machine.proofs.ListedLemmas.{listed_in, one_further, lets_in, cut_off, all_in, none_left}
+use Rattle.machine_effects.specs.Held.{container_in}
+use Rattle.container_machine.specs.Calls.List.{is_reached}
+use Rattle.container_machine.proofs.ListedLemmas.{listed_in, one_further, lets_in, cut_off}
 use Rattle.container_machine.proofs.calls.list.shown.Goals as goal
-
-pub held-preserved : goal.held-preserved
-held-preserved c =
-    let p : Container → Bool = is_shown c.args.all c.args.rows.now in
-    let added = c.in_ok-add_shown.ensures in
-    let count : c.len.result ≡ length c.held.items.items = omega arith in
-    let below : is_reached c.args.limit (length c.held.items.items) ≡ false = ap (is_reached c.args.limit) (sym count) ∙ (sym c.is_reached.ensures ∙ c.if-is_reached.false) in (
-      (tt, tt),
-      lets_in c.args.limit p (container_in c.in-Some.h.now) c.held.items.items c.add_shown.new.items.items below added,
-      one_further p c.held.h-iterator.iter.rest.now c.next.new.self.iter.rest.now c.in-Some.h.now (listed_in p c.args.held.now) c.held.items.items c.add_shown.new.items.items c.in-Some.ensures.steps added c.held.invariant.2,
-    )
 
 pub returns-then-is_reached : goal.returns-then-is_reached
 returns-then-is_reached c =
     let p : Container → Bool = is_shown c.args.all c.args.rows.now in
-    let count : c.len.result ≡ length c.held.items.items = omega arith in
-    let full : is_reached c.args.limit (length c.held.items.items) ≡ true = ap (is_reached c.args.limit) (sym count) ∙ (sym c.is_reached.ensures ∙ c.if-is_reached.true) in
-    cut_off c.args.limit (filter p (reverse (containers_in c.args.held.now))) c.held.items.items (listed_in p c.held.h-iterator.iter.rest.now) full c.held.invariant.1 c.held.invariant.2
+    let count : c.len.result ≡ length c.older.items.items = omega (arith, c.len.ensures) in
+    let full : is_reached c.args.limit (length c.older.items.items) ≡ true = ap (is_reached c.args.limit) (sym count) ∙ (sym c.is_reached.ensures ∙ c.if-is_reached.true) in
+    cut_off c.args.limit (filter p (reverse c.args.tables.now.state.containers)) c.older.items.items (listed_in p (take c.older.left c.args.tables.now.state.containers)) full c.older.invariant.within c.older.invariant.whole
 
-pub returns : goal.returns
-returns c =
+pub older-preserved : goal.older-preserved
+older-preserved c =
     let p : Container → Bool = is_shown c.args.all c.args.rows.now in
-    all_in c.args.limit (filter p (reverse (containers_in c.args.held.now))) c.held.items.items c.held.invariant.1
-    (none_left p c.held.h-iterator.iter.rest.now (listed_in p c.args.held.now) c.held.items.items c.in-None.ensures.steps.0 c.held.invariant.2)
+    let cs : List Container = c.args.tables.now.state.containers in
+    let added = c.in_ok-add_shown.ensures in
+    let count : c.len.result ≡ length c.older.items.items = omega (arith, c.len.ensures) in
+    let below : is_reached c.args.limit (length c.older.items.items) ≡ false = ap (is_reached c.args.limit) (sym count) ∙ (sym c.is_reached.ensures ∙ c.if-is_reached.false) in
+    let is : c.older.left ≡ suc (c.older.left - 1) = grind (arith, nat_tests, c.older-test.true) in
+    record {
+      low = omega (arith, c.older.invariant.low);
+      within = lets_in c.args.limit p (container_in c.container_at.result.now) c.older.items.items c.add_shown.new.items.items below added;
+      whole = one_further p cs c.older.left (c.older.left - 1) (container_in c.container_at.result.now) (listed_in p cs) c.older.items.items c.add_shown.new.items.items is c.container_at.ensures added c.older.invariant.whole;
+    }

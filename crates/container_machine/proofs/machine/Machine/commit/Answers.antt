@@ -1,45 +1,42 @@
-use Rattle.std.proofs.Common.{◌+◌, refl, sym, subst}
-use Rattle.machine_model.specs.State.{State}
-use Rattle.container_machine.specs.Kept.{IsKept}
-use Rattle.container_machine.proofs.Committed.{done_nothing, done_added, done_launched, committed, starts_fit}
-use Rattle.container_machine.specs.declared.machine.Machine.TheInside.{Inside}
+use Rattle.std.proofs.Common.{◌≤◌, arith, refl, ap, sym, subst, ◌∙◌, ◌++◌, List}
+use Rattle.engine_text.specs.declared.event.Event.{Event}
+use Rattle.machine_effects.specs.Memory.{Memory, Room, standing}
+use Rattle.container_machine.specs.Plans.{Fits}
+use Rattle.machine_model.specs.Step.{at_moment, counted}
+use Rattle.container_machine.specs.Parts.{MachineParts}
+use Rattle.container_machine.proofs.CommitLemmas.{commit_parts, kept_parts, count_fits}
 use Rattle.container_machine.proofs.machine.Machine.commit.Goals as goal
 
-pub returns-in-Nothing-clause-state : goal.returns-in-Nothing-clause-state
-returns-in-Nothing-clause-state c = (done_nothing c.self.inside c.args.prepared c.args.self.now c.self.view_is c.in-Nothing.is).state
+pub invariant_of-self : goal.invariant_of-self
+invariant_of-self c = record {
+  state = kept_parts c.args.prepared c.args.self.now c.requires.0 c.perform-death.result c.as_slice.result.now c.stand_at.new.self.state c.perform-death.new.tables.state c.settle.new.self.state c.count.new.self.state
+      c.requires.1 (ap (λ (m : Memory). m.state) c.stand_at.ensures ∙ ap (λ (w : MachineParts). at_moment c.args.prepared.moment w.memory.state) c.self.view_is) c.perform-death.ensures.state c.perform-death.ensures.died c.settle.ensures.state c.as_slice.ensures.value c.count.ensures.state;
+  moments = subst (λ (r : Room). 65536 ≤ r.moments) (sym (c.count.ensures.room ∙ (c.settle.ensures.room ∙ (c.perform-death.ensures.room ∙ ap (λ (m : Memory). m.room) c.stand_at.ensures)))) c.self.invariant.moments;
+}
 
-pub returns-in-Nothing-clause-call : goal.returns-in-Nothing-clause-call
-returns-in-Nothing-clause-call c = λ k t a f. committed c.args.prepared c.args.self.now _ k t a (done_nothing c.self.inside c.args.prepared c.args.self.now c.self.view_is c.in-Nothing.is) f
+pub count-requires-clause-calls : goal.count-requires-clause-calls
+count-requires-clause-calls c = (count_fits c.as_slice.result.now 1 c.settle.new.self.state (kept_parts c.args.prepared c.args.self.now c.requires.0 c.perform-death.result c.as_slice.result.now c.stand_at.new.self.state c.perform-death.new.tables.state c.settle.new.self.state (counted c.as_slice.result.now 1 c.settle.new.self.state)
+    c.requires.1 (ap (λ (m : Memory). m.state) c.stand_at.ensures ∙ ap (λ (w : MachineParts). at_moment c.args.prepared.moment w.memory.state) c.self.view_is) c.perform-death.ensures.state c.perform-death.ensures.died c.settle.ensures.state c.as_slice.ensures.value refl)).0
 
-pub invariant_of-self-in-Add : goal.invariant_of-self-in-Add
-invariant_of-self-in-Add c =
-    let after : Inside = record c.self.inside { held = c.push_reserved.new.self; events = c.push_reserved-in-Add.new.self; next_number = c.self.inside.next_number + 1; call_count = c.self.inside.call_count + 1; step_count = c.self.inside.step_count + 1; clock = c.args.prepared.moment } in
-    subst (λ (s : State). IsKept s) (sym (done_added c.self.inside after c.args.prepared c.args.self.now c.in-Add.held c.in-Add.event c.self.view_is c.in-Add.is refl c.push_reserved.ensures.items c.push_reserved-in-Add.ensures.items).state) c.requires.kept
+pub count-requires-clause-events : goal.count-requires-clause-events
+count-requires-clause-events c = (count_fits c.as_slice.result.now 1 c.settle.new.self.state (kept_parts c.args.prepared c.args.self.now c.requires.0 c.perform-death.result c.as_slice.result.now c.stand_at.new.self.state c.perform-death.new.tables.state c.settle.new.self.state (counted c.as_slice.result.now 1 c.settle.new.self.state)
+    c.requires.1 (ap (λ (m : Memory). m.state) c.stand_at.ensures ∙ ap (λ (w : MachineParts). at_moment c.args.prepared.moment w.memory.state) c.self.view_is) c.perform-death.ensures.state c.perform-death.ensures.died c.settle.ensures.state c.as_slice.ensures.value refl)).1
 
-pub returns-in-Add-clause-state : goal.returns-in-Add-clause-state
-returns-in-Add-clause-state c =
-    let after : Inside = record c.self.inside { held = c.push_reserved.new.self; events = c.push_reserved-in-Add.new.self; next_number = c.self.inside.next_number + 1; call_count = c.self.inside.call_count + 1; step_count = c.self.inside.step_count + 1; clock = c.args.prepared.moment } in
-    (done_added c.self.inside after c.args.prepared c.args.self.now c.in-Add.held c.in-Add.event c.self.view_is c.in-Add.is refl c.push_reserved.ensures.items c.push_reserved-in-Add.ensures.items).state
+pub returns : goal.returns
+returns c = λ asked for. record {
+  reply = for.reply;
+  state = commit_parts c.args.prepared c.args.self.now asked c.perform-death.result c.as_slice.result.now c.stand_at.new.self.state c.perform-death.new.tables.state c.settle.new.self.state c.count.new.self.state
+      for (ap (λ (m : Memory). m.state) c.stand_at.ensures ∙ ap (λ (w : MachineParts). at_moment c.args.prepared.moment w.memory.state) c.self.view_is) c.perform-death.ensures.state c.perform-death.ensures.died c.settle.ensures.state c.as_slice.ensures.value c.count.ensures.state;
+  events = c.append_reserved.ensures ∙ (ap (λ (w : MachineParts). w.events ++ c.args.prepared.events.items) c.self.view_is ∙ ap (λ (l : List Event). c.args.self.now.events ++ l) for.events);
+}
 
-pub returns-in-Add-clause-call : goal.returns-in-Add-clause-call
-returns-in-Add-clause-call c =
-    let after : Inside = record c.self.inside { held = c.push_reserved.new.self; events = c.push_reserved-in-Add.new.self; next_number = c.self.inside.next_number + 1; call_count = c.self.inside.call_count + 1; step_count = c.self.inside.step_count + 1; clock = c.args.prepared.moment } in
-    λ k t a f. committed c.args.prepared c.args.self.now _ k t a (done_added c.self.inside after c.args.prepared c.args.self.now c.in-Add.held c.in-Add.event c.self.view_is c.in-Add.is refl c.push_reserved.ensures.items c.push_reserved-in-Add.ensures.items) f
+pub perform-death-requires : goal.perform-death-requires
+perform-death-requires c =
+    subst (λ (m : Memory). Fits c.args.prepared.plan m)
+    (sym (c.stand_at.ensures ∙ (ap (λ t. standing t c.self.inside.tables) c.requires.1.moment ∙ ap (λ (w : MachineParts). standing c.requires.0.moment w.memory) c.self.view_is)))
+    c.requires.1.fits
 
-pub launch-requires : goal.launch-requires
-launch-requires c = starts_fit c.self.inside c.self.invariant
-
-pub invariant_of-self-in-Launch : goal.invariant_of-self-in-Launch
-invariant_of-self-in-Launch c =
-    let after : Inside = record c.self.inside { held = c.launch.new.held; kernel = c.spawn.new.self; events = c.push_reserved-in-Launch.new.self; next_pid = c.self.inside.next_pid + 1; call_count = c.self.inside.call_count + 1; step_count = c.self.inside.step_count + 1; clock = c.args.prepared.moment } in
-    subst (λ (s : State). IsKept s) (sym (done_launched c.self.inside after c.args.prepared c.args.self.now c.in-Launch.number c.in-Launch.script c.in-Launch.stdin c.in-Launch.room c.in-Launch.event c.self.view_is c.in-Launch.is refl c.launch.ensures c.spawn.ensures.processes c.push_reserved-in-Launch.ensures.items).state) c.requires.kept
-
-pub returns-in-Launch-clause-state : goal.returns-in-Launch-clause-state
-returns-in-Launch-clause-state c =
-    let after : Inside = record c.self.inside { held = c.launch.new.held; kernel = c.spawn.new.self; events = c.push_reserved-in-Launch.new.self; next_pid = c.self.inside.next_pid + 1; call_count = c.self.inside.call_count + 1; step_count = c.self.inside.step_count + 1; clock = c.args.prepared.moment } in
-    (done_launched c.self.inside after c.args.prepared c.args.self.now c.in-Launch.number c.in-Launch.script c.in-Launch.stdin c.in-Launch.room c.in-Launch.event c.self.view_is c.in-Launch.is refl c.launch.ensures c.spawn.ensures.processes c.push_reserved-in-Launch.ensures.items).state
-
-pub returns-in-Launch-clause-call : goal.returns-in-Launch-clause-call
-returns-in-Launch-clause-call c =
-    let after : Inside = record c.self.inside { held = c.launch.new.held; kernel = c.spawn.new.self; events = c.push_reserved-in-Launch.new.self; next_pid = c.self.inside.next_pid + 1; call_count = c.self.inside.call_count + 1; step_count = c.self.inside.step_count + 1; clock = c.args.prepared.moment } in
-    λ k t a f. committed c.args.prepared c.args.self.now _ k t a (done_launched c.self.inside after c.args.prepared c.args.self.now c.in-Launch.number c.in-Launch.script c.in-Launch.stdin c.in-Launch.room c.in-Launch.event c.self.view_is c.in-Launch.is refl c.launch.ensures c.spawn.ensures.processes c.push_reserved-in-Launch.ensures.items) f
+pub count-requires-clause-moments : goal.count-requires-clause-moments
+count-requires-clause-moments c =
+    let room : 65536 ≤ c.settle.new.self.room.moments = subst (λ (r : Room). 65536 ≤ r.moments) (sym (c.settle.ensures.room ∙ (c.perform-death.ensures.room ∙ ap (λ (m : Memory). m.room) c.stand_at.ensures))) c.self.invariant.moments in
+    omega (arith, room)

@@ -1,81 +1,43 @@
-use Rattle.std.proofs.Common.{◌≡◌, ◌+◌, Some, refl, sym, ◌∙◌, subst}
-use Rattle.engine_text.specs.declared.script.Effect.TheVariants.{Lives, Wrote, Ended}
-use Rattle.machine_model.specs.EventTexts.{die_event}
-use Rattle.machine_model.specs.Step.{due_step}
-use Rattle.container_machine.specs.Inside.{memory_of}
-use Rattle.container_machine.specs.Memory.{Memory}
-use Rattle.container_machine.specs.Prepared.{IsStepped}
-use Rattle.container_machine.proofs.DueCommitted.{Setting, setting, due_stands, end_told, due_lives, due_wrote, due_ended, stepped_is, stepped_kept}
-use Rattle.container_machine.specs.declared.machine.Machine.TheInside.{Inside}
+use Rattle.std.proofs.Common.{◌≤◌, arith, refl, ap, sym, subst, ◌∙◌, ◌++◌, List}
+use Rattle.engine_text.specs.declared.event.Event.{Event}
+use Rattle.machine_effects.specs.Memory.{Memory, Room, standing}
+use Rattle.container_machine.specs.DuePlans.{FitsDue}
+use Rattle.machine_model.specs.Step.{at_moment, counted}
+use Rattle.container_machine.specs.Parts.{MachineParts}
+use Rattle.machine_model.specs.Step.{finished, step_of}
+use Rattle.container_machine.specs.Dues.{due_at}
+use Rattle.container_machine.proofs.CommitLemmas.{due_parts, kept_due_parts, count_fits, stepped_as}
 use Rattle.container_machine.proofs.machine.Machine.commit_due.Goals as goal
-use Rattle.container_machine.proofs.machine.Machine.commit_due.Goals.{in-Some-1, in-None-1, in-Some-2, in-None-2}
 
-pub run_due-effect-requires-clause-due : goal.run_due-effect-requires-clause-due
-run_due-effect-requires-clause-due c = due_stands c.self.inside c.args.prepared (setting c.self.inside c.args.prepared c.args.self.now c.self.view_is c.self.invariant c.requires)
+pub invariant_of-self : goal.invariant_of-self
+invariant_of-self c = record {
+  state = kept_due_parts c.args.prepared c.args.self.now c.perform-death.result c.as_slice.result.now c.stand_at.new.self.state c.perform-death.new.tables.state c.settle.new.self.state c.count.new.self.state
+      c.requires (ap (λ (m : Memory). m.state) c.stand_at.ensures ∙ ap (λ (w : MachineParts). at_moment c.args.prepared.moment w.memory.state) c.self.view_is) c.perform-death.ensures.state c.perform-death.ensures.died c.settle.ensures.state c.as_slice.ensures.value c.count.ensures.state;
+  moments = subst (λ (r : Room). 65536 ≤ r.moments) (sym (c.count.ensures.room ∙ (c.settle.ensures.room ∙ (c.perform-death.ensures.room ∙ ap (λ (m : Memory). m.room) c.stand_at.ensures)))) c.self.invariant.moments;
+}
 
-pub invariant_of-self-in-Lives-2 : goal.invariant_of-self-in-Lives-2
-invariant_of-self-in-Lives-2 c =
-    let s : Setting c.self.inside c.args.prepared = setting c.self.inside c.args.prepared c.args.self.now c.self.view_is c.self.invariant c.requires in
-    let is = sym c.run_due-effect.ensures.effect ∙ c.in-Lives.is in
-    let after : Inside = record c.self.inside { kernel = c.run_due-effect.new.self; step_count = c.self.inside.step_count + 1; clock = c.args.prepared.due.moment } in
-    let done = due_lives c.self.inside after c.args.prepared.due s.work refl c.run_due-effect.ensures.processes refl in
-    stepped_kept c.self.inside after c.args.prepared.due s.kept s.next s.work Lives is done
+pub count-requires-clause-calls : goal.count-requires-clause-calls
+count-requires-clause-calls c = (count_fits c.as_slice.result.now 0 c.settle.new.self.state (kept_due_parts c.args.prepared c.args.self.now c.perform-death.result c.as_slice.result.now c.stand_at.new.self.state c.perform-death.new.tables.state c.settle.new.self.state (counted c.as_slice.result.now 0 c.settle.new.self.state)
+    c.requires (ap (λ (m : Memory). m.state) c.stand_at.ensures ∙ ap (λ (w : MachineParts). at_moment c.args.prepared.moment w.memory.state) c.self.view_is) c.perform-death.ensures.state c.perform-death.ensures.died c.settle.ensures.state c.as_slice.ensures.value refl)).0
 
-pub invariant_of-self-in-Wrote-2 : goal.invariant_of-self-in-Wrote-2
-invariant_of-self-in-Wrote-2 c =
-    let s : Setting c.self.inside c.args.prepared = setting c.self.inside c.args.prepared c.args.self.now c.self.view_is c.self.invariant c.requires in
-    let is = sym c.run_due-effect.ensures.effect ∙ c.in-Wrote.is in
-    let after : Inside = record c.self.inside { held = c.record.new.held; kernel = c.run_due-effect.new.self; step_count = c.self.inside.step_count + 1; clock = c.args.prepared.due.moment } in
-    let done = due_wrote c.self.inside after c.args.prepared.due s.work c.in-Wrote.stream c.in-Wrote.payload refl c.record.ensures c.run_due-effect.ensures.processes refl in
-    stepped_kept c.self.inside after c.args.prepared.due s.kept s.next s.work (Wrote c.in-Wrote.stream c.in-Wrote.payload) is done
+pub count-requires-clause-events : goal.count-requires-clause-events
+count-requires-clause-events c = (count_fits c.as_slice.result.now 0 c.settle.new.self.state (kept_due_parts c.args.prepared c.args.self.now c.perform-death.result c.as_slice.result.now c.stand_at.new.self.state c.perform-death.new.tables.state c.settle.new.self.state (counted c.as_slice.result.now 0 c.settle.new.self.state)
+    c.requires (ap (λ (m : Memory). m.state) c.stand_at.ensures ∙ ap (λ (w : MachineParts). at_moment c.args.prepared.moment w.memory.state) c.self.view_is) c.perform-death.ensures.state c.perform-death.ensures.died c.settle.ensures.state c.as_slice.ensures.value refl)).1
 
-pub invariant_of-self-in-Some : goal.invariant_of-self-in-Some
-invariant_of-self-in-Some c =
-    let s : Setting c.self.inside c.args.prepared = setting c.self.inside c.args.prepared c.args.self.now c.self.view_is c.self.invariant c.requires in
-    let is = sym c.run_due-effect.ensures.effect ∙ c.in-Ended.is in
-    let after : Inside = record c.self.inside { held = c.end.new.held; kernel = c.remove.new.self; events = c.push_reserved.new.self; step_count = c.self.inside.step_count + 1; clock = c.args.prepared.due.moment } in
-    let told : Some c.in-Some.event ≡ Some (die_event c.in-Ended.code s.work.container c.args.prepared.due.moment) = end_told c.self.inside c.args.prepared s c.in-Ended.code (Some c.in-Some.event) is c.in-Some.is in
-    let event : c.in-Some.event ≡ die_event c.in-Ended.code s.work.container c.args.prepared.due.moment = cc in
-    let done = due_ended c.self.inside after c.args.prepared.due s.work c.in-Ended.code c.in-Some.event _ refl c.end.ensures c.remove.ensures.processes c.run_due-effect.ensures.processes c.push_reserved.ensures.items event in
-    stepped_kept c.self.inside after c.args.prepared.due s.kept s.next s.work (Ended c.in-Ended.code) is done
+pub returns : goal.returns
+returns c =
+    stepped_as c.args.self.now _ (finished 0 (due_at c.requires.due c.args.self.now.memory.state)) (ap (λ o. step_of o c.args.self.now.memory.state) c.requires.least)
+    (due_parts c.args.prepared c.args.self.now c.perform-death.result c.as_slice.result.now c.stand_at.new.self.state c.perform-death.new.tables.state c.settle.new.self.state c.count.new.self.state
+    c.requires (ap (λ (m : Memory). m.state) c.stand_at.ensures ∙ ap (λ (w : MachineParts). at_moment c.args.prepared.moment w.memory.state) c.self.view_is) c.perform-death.ensures.state c.perform-death.ensures.died c.settle.ensures.state c.as_slice.ensures.value c.count.ensures.state)
+    (c.append_reserved.ensures ∙ (ap (λ (w : MachineParts). w.events ++ c.args.prepared.events.items) c.self.view_is ∙ ap (λ (l : List Event). c.args.self.now.events ++ l) c.requires.events))
 
-pub unreachable-requires : goal.unreachable-requires
-unreachable-requires c =
-    let s : Setting c.self.inside c.args.prepared = setting c.self.inside c.args.prepared c.args.self.now c.self.view_is c.self.invariant c.requires in
-    let is = sym c.run_due-effect.ensures.effect ∙ c.in-Ended.is in
-    let told = end_told c.self.inside c.args.prepared s c.in-Ended.code _ is c.in-None.is in
-    cc
+pub perform-death-requires : goal.perform-death-requires
+perform-death-requires c =
+    subst (λ (m : Memory). FitsDue c.args.prepared.plan m)
+    (sym (c.stand_at.ensures ∙ (ap (λ t. standing t c.self.inside.tables) c.requires.moment ∙ ap (λ (w : MachineParts). standing c.requires.due.moment w.memory) c.self.view_is)))
+    c.requires.fits
 
-pub returns-in-Lives-clause-step : goal.returns-in-Lives-clause-step
-returns-in-Lives-clause-step c =
-    let s : Setting c.self.inside c.args.prepared = setting c.self.inside c.args.prepared c.args.self.now c.self.view_is c.self.invariant c.requires in
-    let is = sym c.run_due-effect.ensures.effect ∙ c.in-Lives.is in
-    let after : Inside = record c.self.inside { kernel = c.run_due-effect.new.self; step_count = c.self.inside.step_count + 1; clock = c.args.prepared.due.moment } in
-    let done = due_lives c.self.inside after c.args.prepared.due s.work refl c.run_due-effect.ensures.processes refl in
-    let base : IsStepped (due_step c.args.self.now.state) c.args.self.now (memory_of after) = stepped_is c.self.inside c.args.prepared.due c.args.self.now (memory_of after) s.kept s.least s.work Lives c.self.view_is is done in
-    elim c.match-end.branch [
-      | in-Some-1 w ↦ subst (λ (x : Memory). IsStepped (due_step c.args.self.now.state) c.args.self.now x) (sym w.self-is) base
-      | in-None-1 w ↦ subst (λ (x : Memory). IsStepped (due_step c.args.self.now.state) c.args.self.now x) (sym w.self-is) base
-    ]
-
-pub returns-in-Wrote-clause-step : goal.returns-in-Wrote-clause-step
-returns-in-Wrote-clause-step c =
-    let s : Setting c.self.inside c.args.prepared = setting c.self.inside c.args.prepared c.args.self.now c.self.view_is c.self.invariant c.requires in
-    let is = sym c.run_due-effect.ensures.effect ∙ c.in-Wrote.is in
-    let after : Inside = record c.self.inside { held = c.record.new.held; kernel = c.run_due-effect.new.self; step_count = c.self.inside.step_count + 1; clock = c.args.prepared.due.moment } in
-    let done = due_wrote c.self.inside after c.args.prepared.due s.work c.in-Wrote.stream c.in-Wrote.payload refl c.record.ensures c.run_due-effect.ensures.processes refl in
-    let base : IsStepped (due_step c.args.self.now.state) c.args.self.now (memory_of after) = stepped_is c.self.inside c.args.prepared.due c.args.self.now (memory_of after) s.kept s.least s.work (Wrote c.in-Wrote.stream c.in-Wrote.payload) c.self.view_is is done in
-    elim c.match-end-2.branch [
-      | in-Some-2 w ↦ subst (λ (x : Memory). IsStepped (due_step c.args.self.now.state) c.args.self.now x) (sym w.self-is) base
-      | in-None-2 w ↦ subst (λ (x : Memory). IsStepped (due_step c.args.self.now.state) c.args.self.now x) (sym w.self-is) base
-    ]
-
-pub returns-in-Some-clause-step : goal.returns-in-Some-clause-step
-returns-in-Some-clause-step c =
-    let s : Setting c.self.inside c.args.prepared = setting c.self.inside c.args.prepared c.args.self.now c.self.view_is c.self.invariant c.requires in
-    let is = sym c.run_due-effect.ensures.effect ∙ c.in-Ended.is in
-    let after : Inside = record c.self.inside { held = c.end.new.held; kernel = c.remove.new.self; events = c.push_reserved.new.self; step_count = c.self.inside.step_count + 1; clock = c.args.prepared.due.moment } in
-    let told : Some c.in-Some.event ≡ Some (die_event c.in-Ended.code s.work.container c.args.prepared.due.moment) = end_told c.self.inside c.args.prepared s c.in-Ended.code (Some c.in-Some.event) is c.in-Some.is in
-    let event : c.in-Some.event ≡ die_event c.in-Ended.code s.work.container c.args.prepared.due.moment = cc in
-    let done = due_ended c.self.inside after c.args.prepared.due s.work c.in-Ended.code c.in-Some.event _ refl c.end.ensures c.remove.ensures.processes c.run_due-effect.ensures.processes c.push_reserved.ensures.items event in
-    stepped_is c.self.inside c.args.prepared.due c.args.self.now (memory_of after) s.kept s.least s.work (Ended c.in-Ended.code) c.self.view_is is done
+pub count-requires-clause-moments : goal.count-requires-clause-moments
+count-requires-clause-moments c =
+    let room : 65536 ≤ c.settle.new.self.room.moments = subst (λ (r : Room). 65536 ≤ r.moments) (sym (c.settle.ensures.room ∙ (c.perform-death.ensures.room ∙ ap (λ (m : Memory). m.room) c.stand_at.ensures))) c.self.invariant.moments in
+    omega (arith, room)

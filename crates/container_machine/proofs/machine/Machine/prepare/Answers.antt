@@ -1,18 +1,18 @@
-use Rattle.std.proofs.Common.{◌≡◌, subst, sym}
+use Rattle.std.proofs.Common.{◌≡◌, ◌+◌, ◌≤◌, subst, sym, arith, length}
 use Rattle.machine_model.specs.State.{State}
 use Rattle.machine_model.specs.Call.{outcome_of}
 use Rattle.machine_model.specs.History.{IsLawful}
 use Rattle.engine_text.specs.declared.step.Step.{Step}
-use Rattle.container_machine.specs.Kept.{IsKept}
-use Rattle.container_machine.specs.Prepared.{Makes}
-use Rattle.container_machine.proofs.Ready.{ready}
+use Rattle.container_machine.specs.Making.{Makes}
+use Rattle.machine_model.specs.Consistency.{IsConsistent}
+use Rattle.container_machine.proofs.ReadyLemmas.{ready}
 use Rattle.container_machine.proofs.machine.Machine.prepare.Goals as goal
 
 pub returns-clause-ready : goal.returns-clause-ready
 returns-clause-ready c =
-    let e : c.args.self.now.state ≡ c.make_room.new.self.state = sym c.make_room.ensures.state in
-    ready c.in_ok-prepared.prepared c.make_room.new.self c.args.conn c.args.moment c.args.call.now c.in_ok-make_room.ensures.room
-    (subst (λ (s : State). IsKept s) e c.kept.ensures)
-    c.requires.built
+    let e : c.args.self.now.memory.state ≡ c.make_room.new.self.memory.state = sym c.make_room.ensures.state in
+    ready c.in_ok-prepared.prepared c.make_room.new.self c.args.conn c.args.moment c.args.call.now
+    (subst (λ (s : State). IsConsistent s) e c.kept.ensures.state)
     (subst (λ (s : State). IsLawful s (Step.Call c.args.conn c.args.moment c.args.call.now)) e c.requires.lawful)
     (subst (λ (s : State). Makes c.in_ok-prepared.prepared c.args.moment s (outcome_of c.args.call.now c.args.conn)) e (c.in_ok-prepared.ensures c.args.conn))
+    c.in_ok-make_room.ensures.room (omega (arith, c.in_ok-make_room.ensures.places))

@@ -7,5 +7,5 @@ due-preserved c =
     let first = c.args.self.now in
     let d = c.due.self in
     let r = c.step_due.new.self in
-    one_more c.args.moment first.machine.state d.machine.state r.machine.state first.steps.items d.steps.items r.steps.items
+    one_more c.args.moment first.machine.memory.state d.machine.memory.state r.machine.memory.state first.steps.items d.steps.items r.steps.items
     c.requires c.due.invariant (sym c.acts.ensures ∙ c.due-test.true) c.in_ok-step_due.ensures.made

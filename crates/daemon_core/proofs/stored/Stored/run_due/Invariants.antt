@@ -3,7 +3,7 @@ use Rattle.daemon_core.specs.Storing.{AddsDues}
 use Rattle.daemon_core.proofs.stored.Stored.run_due.Given as goal
 
 abbrev pub invariant-due : goal.invariant-due
-invariant-due l = AddsDues l.moment l.fn.self.machine.state l.self.machine.state l.fn.self.steps.items l.self.steps.items
+invariant-due l = AddsDues l.moment l.fn.self.machine.memory.state l.self.machine.memory.state l.fn.self.steps.items l.self.steps.items
 
 abbrev pub decreases-due : goal.decreases-due
-decreases-due l = 2 ^ 56 - l.self.machine.state.step_count
+decreases-due l = 2 ^ 56 - l.self.machine.memory.state.step_count

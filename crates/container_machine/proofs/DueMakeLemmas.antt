@@ -1,0 +1,182 @@
+-- A due step that is made ready is what the least due action does, and may be committed.
+use Rattle.std.proofs.Common.{◌≡◌, IsTrue, ℕ, ◌+◌, ◌==◌, true, ◌<◌, ◌≤◌, ◌^◌, List, [], ◌++◌, Option, Some, None, refl, ap, sym, ◌∙◌, subst, arith, length, find}
+use Rattle.std.specs.List.{AllByRecursion}
+use Rattle.engine_text.specs.Id.{id_of}
+use Rattle.engine_text.specs.Scripts.{Program}
+use Rattle.engine_text.specs.declared.container.Container.{Container}
+use Rattle.engine_text.specs.declared.event.Event.{Event}
+use Rattle.engine_text.specs.declared.owner.Owner.{Owner}
+use Rattle.engine_text.specs.declared.step.DueAction.{DueAction}
+use Rattle.engine_text.specs.declared.step.Step.{Step}
+use Rattle.proc_kernel.specs.Catalogue.{program_of}
+use Rattle.proc_kernel.specs.Foretelling.{code_at}
+use Rattle.proc_kernel.specs.Processes.{run_due, signal}
+use Rattle.proc_kernel.specs.Tables.{Entry, process_of, due_at as op_due_at}
+use Rattle.machine_model.specs.State.{State, container_numbered}
+use Rattle.machine_model.specs.Chain.{Effect, with_found}
+use Rattle.machine_model.specs.Consistency.{HasOwner, IsConsistent, is_there}
+use Rattle.machine_model.specs.Due.{by_rank, least_due}
+use Rattle.machine_model.specs.Effects.Meet.{step_process}
+use Rattle.machine_model.specs.History.{IsLawful, is_by, latest}
+use Rattle.machine_model.specs.Step.{at_moment, finished, or_still, step_of}
+use Rattle.machine_model.proofs.Laws.{IsMomentOf, kept_due, timely_due}
+use Rattle.machine_model.proofs.ObeyLemmas.{found_all}
+use Rattle.machine_effects.specs.Deadlines.{CanRestart, HasId}
+use Rattle.machine_effects.specs.Fit.{CanSettle}
+use Rattle.machine_effects.specs.Foretold.{told_launch}
+use Rattle.machine_effects.specs.Memory.{HasRoom, Memory, standing}
+use Rattle.machine_effects.specs.Ops.{CanEnd, HasEndRoomOf, HasOpRoom, HasRecordRoom, owner_at}
+use Rattle.machine_effects.specs.ToldCalls.{told_op}
+use Rattle.machine_effects.specs.ToldKill.{told_kill}
+use Rattle.machine_effects.specs.declared.kit.Kit.{Kit}
+use Rattle.machine_effects.proofs.CallToldLemmas.{OwnerStands, op_told, removal_deadline_told, restart_timer_told}
+use Rattle.machine_effects.proofs.KillToldLemmas.{stop_deadline_told}
+use Rattle.machine_effects.proofs.SettleLemmas.{has_number}
+use Rattle.container_machine.specs.DuePlans.{due_plan_effect, BringsDue, FitsDue, HasDueRoom, ServesOwner}
+use Rattle.container_machine.specs.Dues.{due_at, IsForDue, MakesDue}
+use Rattle.container_machine.specs.Parts.{MachineParts}
+use Rattle.container_machine.specs.Plans.{Serves}
+use Rattle.container_machine.specs.declared.due.DuePlan.{DuePlan}
+use Rattle.container_machine.specs.declared.due.PreparedDue.{PreparedDue}
+use Rattle.container_machine.proofs.DueFoundLemmas.{OpStands, due_stands}
+use Rattle.container_machine.proofs.MakeLemmas.{stand_once}
+use Rattle.container_machine.proofs.ReadyLemmas.{few, settles, timely}
+
+-- an action's effect, by its rank
+of_rank : (d : DueAction) (r : ℕ) (s : State) → d.rank ≡ r → due_at d s ≡ by_rank r d.number (at_moment d.moment s)
+of_rank d r s e = ap (λ k. by_rank k d.number (at_moment d.moment s)) e
+
+one_then : (empty out told : List Event) → empty ≡ [] → out ≡ empty ++ told → out ≡ told
+one_then empty out told e h = h ∙ ap (λ l. l ++ told) e
+
+-- ---- an op
+
+there_is : (o : Option Container) → is_there o ≡ true → (c : Container) × (o ≡ Some c)
+there_is None e = absurd (cc)
+there_is (Some c) e = (c, refl)
+
+stands_with : (o : Owner) (kit : Kit) (t : ℕ) (s : State) → HasOwner s o → ServesOwner o kit s → OwnerStands o kit.script (at_moment t s)
+stands_with (Owner.Container n) kit t s there serves = let c = there_is (container_numbered n s) there in (c.0, c.1, serves.named c.0 c.1)
+stands_with (Owner.Exec n) kit t s there serves = tt
+
+pub makes_op : (p : PreparedDue) (d : DueAction) (s : State) (o : Owner) (kit : Kit) (code : Option ℕ) (empty : List Event) → IsConsistent s → least_due s ≡ Some d → d.rank ≡ 0
+    → o ≡ owner_at d.number s → ServesOwner o kit s → ((t : ℕ) → code ≡ code_at (run_due t) (process_of o s.processes))
+    → p.moment ≡ d.moment → p.plan ≡ DuePlan.Op o kit → empty ≡ [] → p.events.items ≡ empty ++ told_op o code kit.script (at_moment d.moment s) → MakesDue p d s
+makes_op p d s o kit code empty k least rank is serves code_is moment plan none events =
+    let op : OpStands s d = (due_stands s d k least).0 rank in
+    let z : State = at_moment d.moment s in
+    let same : op.entry.owner ≡ o = op.is ∙ sym is in
+    let there : HasOwner s o = subst (HasOwner s) (sym is) op.owner in
+    let effect : step_process run_due o z ≡ due_at d s =
+    ap (λ w. step_process run_due w z) (sym same) ∙ (sym (ap (λ q. with_found q (λ (e : Entry). step_process run_due e.owner) z) op.found) ∙ sym (of_rank d 0 s rank)) in
+    let told : (due_at d s).events ≡ told_op o code kit.script z =
+    ap (λ (e : Effect). e.events) (of_rank d 0 s rank)
+    ∙ (op_told d.number op.entry z kit.script code op.found (subst (λ w. OwnerStands w kit.script z) (sym same) (stands_with o kit d.moment s there serves)) (code_is d.moment ∙ ap (λ w. code_at (run_due d.moment) (process_of w s.processes)) (sym same))
+    ∙ ap (λ w. told_op w code kit.script z) same) in
+    record {
+      moment = moment;
+      effect = ap (λ q. due_plan_effect q z) plan ∙ effect;
+      events = one_then empty p.events.items (told_op o code kit.script z) none events ∙ sym told;
+      brings = subst (λ q. BringsDue q d.moment s) (sym plan) (ap (λ w. op_due_at (process_of w s.processes)) is ∙ op.due, serves);
+    }
+
+-- ---- deadlines and timers
+
+-- SIGKILL is met
+pub makes_stop_deadline : (p : PreparedDue) (d : DueAction) (s : State) (c : Container) (kit : Kit) (code : Option ℕ) (empty : List Event) → IsConsistent s → d.rank ≡ 1
+    → container_numbered d.number s ≡ Some c → Serves d.number kit s → ((t : ℕ) → code ≡ code_at (signal 9 true t) (process_of (Owner.Container d.number) s.processes))
+    → p.moment ≡ d.moment → p.plan ≡ DuePlan.StopDeadline d.number kit → empty ≡ [] → p.events.items ≡ empty ++ told_kill 9 code c kit.script (at_moment d.moment s) → MakesDue p d s
+makes_stop_deadline p d s c kit code empty k rank found serves is moment plan none events =
+    let z : State = at_moment d.moment s in
+    let once = stand_once s k in
+    record {
+      moment = moment;
+      effect = ap (λ q. due_plan_effect q z) plan ∙ sym (of_rank d 1 s rank);
+      events = one_then empty p.events.items (told_kill 9 code c kit.script z) none events
+          ∙ (sym (stop_deadline_told d.number z c kit.script code found (serves.named c found) (record { execs = once.execs; processes = once.processes }) (is d.moment))
+          ∙ sym (ap (λ (e : Effect). e.events) (of_rank d 1 s rank)));
+      brings = subst (λ q. BringsDue q d.moment s) (sym plan) serves;
+    }
+
+-- nothing is told of a removal deadline
+pub makes_removal_deadline : (p : PreparedDue) (d : DueAction) (s : State) → d.rank ≡ 2 → p.moment ≡ d.moment → p.plan ≡ DuePlan.RemovalDeadline d.number → p.events.items ≡ [] → MakesDue p d s
+makes_removal_deadline p d s rank moment plan events =
+    let z : State = at_moment d.moment s in
+    record {
+      moment = moment;
+      effect = ap (λ q. due_plan_effect q z) plan ∙ sym (of_rank d 2 s rank);
+      events = events ∙ (sym (removal_deadline_told d.number z) ∙ sym (ap (λ (e : Effect). e.events) (of_rank d 2 s rank)));
+      brings = subst (λ q. BringsDue q d.moment s) (sym plan) tt;
+    }
+
+same_program : (c d : Container) → Some c ≡ Some d → program_of c.life.words (c.life.starts + 1) ≡ program_of d.life.words (d.life.starts + 1)
+same_program c d e = let is : c ≡ d = cc in ap (λ (x : Container). program_of x.life.words (x.life.starts + 1)) is
+
+-- a launch
+pub makes_restart_timer : (p : PreparedDue) (d : DueAction) (s : State) (c : Container) (script : Option Program) (empty : List Event) → d.rank ≡ 3
+    → container_numbered d.number s ≡ Some c → script ≡ program_of c.life.words (c.life.starts + 1)
+    → p.moment ≡ d.moment → p.plan ≡ DuePlan.RestartTimer d.number script → empty ≡ [] → p.events.items ≡ empty ++ told_launch script c d.moment → MakesDue p d s
+makes_restart_timer p d s c script empty rank found named moment plan none events =
+    let z : State = at_moment d.moment s in
+    record {
+      moment = moment;
+      effect = ap (λ q. due_plan_effect q z) plan ∙ sym (of_rank d 3 s rank);
+      events = one_then empty p.events.items (told_launch script c d.moment) none events
+          ∙ (ap (λ o. told_launch o c d.moment) named ∙ (sym (restart_timer_told d.number z c found) ∙ sym (ap (λ (e : Effect). e.events) (of_rank d 3 s rank))));
+      brings = subst (λ q. BringsDue q d.moment s) (sym plan) (λ e at. named ∙ same_program c e (sym found ∙ at));
+    }
+
+-- ---- what is made ready may be committed
+
+id_of_number : (s : State) (n : ℕ) → IsConsistent s → HasId n s
+id_of_number s n k c found =
+    found_all (λ (x : Container). x.id ≡ id_of s.seed x.number) (λ (x : Container). x.number == n) c s.containers found k.names.container_ids ∙ ap (id_of s.seed) (has_number n s c found)
+
+restarts_of_number : (s : State) (n : ℕ) → IsConsistent s → CanRestart n s
+restarts_of_number s n k c found =
+    let low : c.life.restarts ≤ s.step_count = found_all (λ (x : Container). x.life.restarts ≤ s.step_count) (λ (x : Container). x.number == n) c s.containers found k.counts.restarts in
+    omega (arith, low, k.counts.steps)
+
+end_fits : (o : Owner) (kit : Kit) (t : ℕ) (m : Memory) → ServesOwner o kit m.state → IsConsistent m.state → IsMomentOf m.state t → HasEndRoomOf o m → 1 < m.spare → CanEnd o kit (standing t m)
+end_fits (Owner.Container n) kit t m serves k at room spare =
+    let most : 0 < m.spare = omega (arith, spare) in
+    (settles n kit t m serves k at.until (record { execs = room.execs; timers = room.timers; removed = room.removed; kept = room.kept; spare = most }), most)
+end_fits (Owner.Exec n) kit t m serves k at room spare = tt
+
+record_fits : (o : Owner) (t : ℕ) (m : Memory) → HasRecordRoom o m → HasRecordRoom o (standing t m)
+record_fits (Owner.Container n) t m room = room
+record_fits (Owner.Exec n) t m room = room
+
+pub fits_due : (plan : DuePlan) (t : ℕ) (m : Memory) → BringsDue plan t m.state → IsConsistent m.state → IsMomentOf m.state t → HasDueRoom plan m → FitsDue plan (standing t m)
+fits_due (DuePlan.Op owner kit) t m brings k at room = record {
+  due = brings.0;
+  clock = at.until;
+  length = room.length;
+  kept = record_fits owner t m room.kept;
+  end = end_fits owner kit t m brings.1 k at room.end room.spare;
+  spare = room.spare;
+}
+fits_due (DuePlan.StopDeadline n kit) t m brings k at room = record { timely = timely t m.state at; fit = settles n kit t m brings k at.until room; spare = room.spare }
+fits_due (DuePlan.RemovalDeadline n) t m brings k at room = id_of_number m.state n k
+fits_due (DuePlan.RestartTimer n script) t m brings k at room = (
+  record { few = few m.state k; pid = omega (arith, k.numbers.next_pid, k.counts.steps); named = brings },
+  restarts_of_number m.state n k,
+  room.spare,
+)
+
+-- something is due before a lawful due step
+pub is_something : (s : State) → IsLawful s Step.Due → least_due s ≡ None → ⊥
+is_something s lawful e = let none : IsTrue (is_by None (latest s)) = subst (λ o. IsTrue (is_by o (latest s))) e lawful.1 in absurd (cc)
+
+pub ready_due : (p : PreparedDue) (w : MachineParts) (d : DueAction) → IsConsistent w.memory.state → IsLawful w.memory.state Step.Due → least_due w.memory.state ≡ Some d
+    → MakesDue p d w.memory.state → HasDueRoom p.plan w.memory → length w.events + length p.events.items ≤ w.places → IsForDue p w
+ready_due p w d k lawful least makes room places = record {
+  due = d;
+  least = least;
+  moment = makes.moment;
+  effect = makes.effect;
+  events = makes.events;
+  fits = fits_due p.plan d.moment w.memory makes.brings k (timely_due w.memory.state d k lawful least) room;
+  kept = subst (λ (s : State). IsConsistent s) (ap (λ o. (or_still (step_of o w.memory.state) w.memory.state).state) least) (kept_due w.memory.state k lawful);
+  places = places;
+}

@@ -1,0 +1,78 @@
+-- A call that is made ready may be committed.
+use Rattle.std.proofs.Common.{◌≡◌, ℕ, ◌+◌, ◌<◌, ◌≤◌, ◌^◌, List, [], ◌∷◌, refl, ap, sym, ◌∙◌, subst, arith, length}
+use Rattle.std.specs.List.{AllByRecursion}
+use Rattle.engine_text.specs.declared.call.Call.{Call}
+use Rattle.engine_text.specs.declared.container.Container.{Container}
+use Rattle.engine_text.specs.declared.step.Step.{Step}
+use Rattle.machine_model.proofs.Laws.{IsMomentOf, kept_call, timely_call}
+use Rattle.machine_model.specs.State.{State}
+use Rattle.machine_model.specs.Call.{outcome_of}
+use Rattle.machine_model.specs.Consistency.{IsConsistent}
+use Rattle.machine_model.specs.History.{IsLawful, greatest_moment}
+use Rattle.machine_model.specs.Step.{at_moment, call_outcome}
+use Rattle.machine_effects.specs.Fit.{AreFew, AreTimely, CanSettle}
+use Rattle.machine_effects.specs.Memory.{Memory, HasRoom, standing}
+use Rattle.machine_effects.specs.declared.kit.Kit.{Kit}
+use Rattle.machine_effects.proofs.ListLemmas.{All-imp}
+use Rattle.container_machine.specs.Making.{Makes}
+use Rattle.container_machine.specs.Parts.{MachineParts}
+use Rattle.container_machine.specs.Plans.{plan_effect, Brings, Fits, HasRoomFor, Serves}
+use Rattle.container_machine.specs.Prepared.{Asked, asked_by, IsFor}
+use Rattle.container_machine.specs.declared.plan.Plan.{Plan}
+use Rattle.container_machine.specs.declared.prepared.Prepared.{Prepared}
+
+pub few : (s : State) → IsConsistent s → AreFew s.containers
+few s k =
+    let most : s.step_count ≤ 2 ^ 57 = omega (arith, k.counts.steps) in
+    All-imp (λ (c : Container). c.life.starts ≤ s.step_count) (λ (c : Container). c.life.starts < 2 ^ 63) (λ c h. omega (arith, h, most)) s.containers k.counts.starts
+
+-- at a call's moment the processes' times are near
+pub timely : (t : ℕ) (s : State) → IsMomentOf s t → AreTimely (at_moment t s)
+timely t s h = record { clock = h.until; processes = h.times }
+
+-- the container's main process may end
+pub settles : (n : ℕ) (kit : Kit) (t : ℕ) (m : Memory) → Serves n kit m.state → IsConsistent m.state → t ≤ greatest_moment → HasRoom m → CanSettle n kit m.room (at_moment t m.state)
+settles n kit t m serves k until room = record {
+  clock = until;
+  launch = record { few = few m.state k; pid = omega (arith, k.numbers.next_pid, k.counts.steps); named = serves.named };
+  remove = record { removed = room.removed; kept = room.kept; numbers = serves.numbers; empty = serves.empty; logs = serves.logs };
+  execs = room.execs;
+  timers = room.timers;
+}
+
+fits : (plan : Plan) (t : ℕ) (m : Memory) → Brings plan t m.state → IsConsistent m.state → IsMomentOf m.state t → HasRoomFor plan m → Fits plan (standing t m)
+fits Plan.Nothing t m brings k at room = tt
+fits (Plan.Create held volumes) t m brings k at room = record {
+  room = record { place = room.place; volumes = room.volumes; uses = room.uses };
+  volumes = brings;
+  number = omega (arith, k.numbers.next_number, k.counts.steps);
+}
+fits (Plan.Kill n sent last kit) t m brings k at room = record {
+  signal = brings.1;
+  timely = timely t m.state at;
+  fit = settles n kit t m brings.0 k at.until room;
+  spare = room.spare;
+}
+fits (Plan.KillRestarting n sent) t m brings k at room = tt
+fits (Plan.Pause n) t m brings k at room = room.execs
+fits (Plan.Start n script) t m brings k at room = record {
+  launch = record { few = few m.state k; pid = omega (arith, k.numbers.next_pid, k.counts.steps); named = brings };
+  spare = room.spare;
+}
+fits (Plan.Unpause n kit) t m brings k at room = record {
+  timely = timely t m.state at;
+  fit = settles n kit t m brings k at.until room;
+  spare = room.spare;
+}
+
+pub ready : (p : Prepared) (w : MachineParts) (connection moment : ℕ) (c : Call) → IsConsistent w.memory.state → IsLawful w.memory.state (Step.Call connection moment c)
+    → Makes p moment w.memory.state (outcome_of c connection) → HasRoomFor p.plan w.memory → length w.events + length p.events.items ≤ w.places → IsFor p w (asked_by connection moment c)
+ready p w connection moment c k lawful makes room places = record {
+  moment = makes.moment;
+  effect = makes.effect;
+  events = makes.events;
+  reply = makes.reply;
+  fits = fits p.plan moment w.memory makes.brings k (timely_call w.memory.state connection moment c k lawful) room;
+  kept = kept_call w.memory.state connection moment c k lawful;
+  places = places;
+}

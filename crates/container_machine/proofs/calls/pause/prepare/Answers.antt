@@ -1,0 +1,15 @@
+use Rattle.std.proofs.Common.{subst, ◌≡◌, Some}
+use Rattle.engine_text.specs.declared.container.Container.{Container}
+use Rattle.machine_model.specs.Outcome.{Outcome}
+use Rattle.machine_model.specs.State.{State}
+use Rattle.machine_model.specs.Calls.Pause.{by_status}
+use Rattle.machine_effects.specs.Held.{container_in}
+use Rattle.container_machine.specs.Making.{IsLooked}
+use Rattle.container_machine.specs.declared.lookup.Looked.{Looked}
+use Rattle.container_machine.proofs.MakeLemmas.{few_found}
+use Rattle.container_machine.proofs.calls.pause.prepare.Goals as goal
+
+pub returns-in-Refused : goal.returns-in-Refused
+returns-in-Refused c =
+    let l : IsLooked (Looked.Refused c.in-Refused.prepared) c.args.moment c.args.target.now c.args.tables.now.state = subst (λ (l : Looked). IsLooked l c.args.moment c.args.target.now c.args.tables.now.state) c.in-Refused.is c.in_ok-h.ensures in
+    l (λ (d : Container). by_status d.life.status d)

@@ -1,0 +1,12 @@
+use Rattle.std.proofs.Common.{refl, arith}
+use Rattle.machine_effects.specs.Held.{container_in}
+use Rattle.container_machine.proofs.DueFoundLemmas.{container_stands}
+use Rattle.container_machine.proofs.DueMakeLemmas.{makes_stop_deadline}
+use Rattle.container_machine.proofs.due.prepare_stop_deadline.Goals as goal
+
+pub standing-h-requires : goal.standing-h-requires
+standing-h-requires c = container_stands c.args.tables.now.state c.args.due c.requires.kept c.requires.least (λ zero. let one = c.requires.rank in omega (arith, one, zero))
+
+pub returns : goal.returns
+returns c = makes_stop_deadline _ c.args.due c.args.tables.now.state (container_in c.standing-h.result.now) c.in_ok-kit.kit c.signal_code-code.result c.new-events.result.items
+    c.requires.kept c.requires.rank c.standing-h.ensures c.in_ok-kit.ensures c.signal_code-code.ensures refl refl c.new-events.ensures.items c.in_ok-tell_deadline.ensures

@@ -1,0 +1,65 @@
+-- own: what a prepared call does once its container is found and its status is known, and what that needs.
+use Rattle.std.specs.Prelude.{◌≡◌, ℕ, ◌+◌, ◌<◌, ◌≤◌, [], ⊤, length, vec_capacity}
+use Rattle.engine_text.specs.declared.signal.Signal.{Signal}
+use Rattle.machine_model.specs.State.{State}
+use Rattle.machine_model.specs.Chain.{Effect, still}
+use Rattle.machine_model.specs.Calls.Create.{add}
+use Rattle.machine_model.specs.Calls.Pause.{pause}
+use Rattle.machine_effects.specs.Fit.{IsScriptOf, exec_numbers, outputs_of}
+use Rattle.machine_effects.specs.Held.{container_in}
+use Rattle.machine_effects.specs.Memory.{Memory, HasRoom}
+use Rattle.machine_effects.specs.NewVolumes.{CanAdd, HasAddRoom, missing_volumes}
+use Rattle.machine_effects.specs.declared.kit.Kit.{Kit}
+use Rattle.machine_model.specs.Effects.Launch.{launch_by_call}
+use Rattle.machine_model.specs.Effects.Meet.{thaw_container}
+use Rattle.container_machine.specs.Calls.Start.{CanStart}
+use Rattle.container_machine.specs.Calls.Kill.{kill_effect, kill_restarting_effect, CanKill}
+use Rattle.container_machine.specs.Calls.Unpause.{CanThaw}
+use Rattle.container_machine.specs.declared.plan.Plan.{Plan}
+
+-- What the plan does.
+abbrev pub plan_effect : Plan → State → Effect
+plan_effect Plan.Nothing = still
+plan_effect (Plan.Create held volumes) = add (container_in held)
+plan_effect (Plan.Kill n sent last kit) = kill_effect n sent last
+plan_effect (Plan.KillRestarting n sent) = kill_restarting_effect n sent
+plan_effect (Plan.Pause n) = pause n
+plan_effect (Plan.Start n script) = launch_by_call n
+plan_effect (Plan.Unpause n kit) = thaw_container n
+
+-- The tables stand as it needs them.
+abbrev pub Fits : Plan → Memory → Type 0
+Fits Plan.Nothing m = ⊤
+Fits (Plan.Create held volumes) m = CanAdd (container_in held) volumes.items m
+Fits (Plan.Kill n sent last kit) m = CanKill n sent kit m
+Fits (Plan.KillRestarting n sent) m = ⊤
+Fits (Plan.Pause n) m = length m.state.execs ≤ m.room.scratch
+Fits (Plan.Start n script) m = CanStart n script m
+Fits (Plan.Unpause n kit) m = CanThaw n kit m
+
+-- There is room for it.
+abbrev pub HasRoomFor : Plan → Memory → Type 0
+HasRoomFor Plan.Nothing m = ⊤
+HasRoomFor (Plan.Create held volumes) m = HasAddRoom (length held.container.life.mounts) m
+HasRoomFor (Plan.Kill n sent last kit) m = HasRoom m
+HasRoomFor (Plan.KillRestarting n sent) m = ⊤
+HasRoomFor (Plan.Pause n) m = HasRoom m
+HasRoomFor (Plan.Start n script) m = HasRoom m
+HasRoomFor (Plan.Unpause n kit) m = HasRoom m
+
+-- The memory that it brings is what the end of the container's main process may want.
+pub record Serves (n : ℕ) (kit : Kit) (s : State) : Type 0 where
+  pub named : IsScriptOf n kit.script s
+  pub numbers : kit.execs ≡ exec_numbers n s
+  pub empty : kit.logs.items ≡ []
+  pub logs : length (outputs_of n s) + 1 ≤ vec_capacity kit.logs
+
+-- What the plan brings fits the state at that moment.
+abbrev pub Brings : Plan → ℕ → State → Type 0
+Brings Plan.Nothing t s = ⊤
+Brings (Plan.Create held volumes) t s = volumes.items ≡ missing_volumes t held.container.life.mounts s.volumes
+Brings (Plan.Kill n sent last kit) t s = Serves n kit s × (sent.number < 32)
+Brings (Plan.KillRestarting n sent) t s = ⊤
+Brings (Plan.Pause n) t s = ⊤
+Brings (Plan.Start n script) t s = IsScriptOf n script s
+Brings (Plan.Unpause n kit) t s = Serves n kit s

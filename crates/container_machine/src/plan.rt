@@ -1,0 +1,74 @@
+// What a prepared call does, once its container is found and its status is known.
+ghost use Rattle.std.specs.Prelude.{◌≡◌};
+ghost use Rattle.container_machine.specs.Plans.{plan_effect, Fits};
+ghost use Rattle.machine_effects.specs.Settled.{deaths};
+
+use super::calls;
+use engine_text::{Script, Signal, Volume};
+use machine_effects::{Death, Held, Kit, Tables};
+
+/// What a prepared call does.
+#[derive(Drop)]
+pub enum Plan {
+    Nothing,
+    Create {
+        held: Held,
+        volumes: Vec<Volume>,
+    },
+    Kill {
+        number: u64,
+        sent: Signal,
+        last: bool,
+        kit: Kit,
+    },
+    KillRestarting {
+        number: u64,
+        sent: Signal,
+    },
+    Pause {
+        number: u64,
+    },
+    Start {
+        number: u64,
+        script: Option<Script>,
+    },
+    Unpause {
+        number: u64,
+        kit: Kit,
+    },
+}
+
+/// Makes it. It takes no memory.
+pub fn perform(tables: &mut Tables, plan: Plan) -> Option<Death>
+    requires { Fits plan tables.old }
+    ensures state { tables.new.state ≡ (plan_effect plan tables.old.state).state }
+    ensures died { deaths result ≡ (plan_effect plan tables.old.state).died }
+    ensures room { tables.new.room ≡ tables.old.room }
+{
+    match plan {
+        Plan::Nothing => None,
+        Plan::Create { held, volumes } => {
+            calls::create::perform(tables, held, volumes);
+            None
+        }
+        Plan::Kill {
+            number,
+            sent,
+            last,
+            kit,
+        } => calls::kill::perform(tables, number, sent, last, kit),
+        Plan::KillRestarting { number, sent } => {
+            calls::kill::perform_restarting(tables, number, sent);
+            None
+        }
+        Plan::Pause { number } => {
+            calls::pause::perform(tables, number);
+            None
+        }
+        Plan::Start { number, script } => {
+            calls::start::perform(tables, number, script);
+            None
+        }
+        Plan::Unpause { number, kit } => calls::unpause::perform(tables, number, kit),
+    }
+}

@@ -1,8 +1,0 @@
-// The calls, one by one.
-pub mod create;
-pub mod inspect;
-pub mod kill;
-pub mod list;
-pub mod pause;
-pub mod start;
-pub mod unpause;
