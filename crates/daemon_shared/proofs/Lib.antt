@@ -1,0 +1,6 @@
+pub mod TurnLemmas
+pub mod ServeLemmas
+pub mod WorstLemmas
+pub mod RunLemmas
+pub mod EndLemmas
+pub mod SessionLemmas

@@ -1,0 +1,4 @@
+pub mod Sharing
+pub mod Worsts
+pub mod Running
+pub mod Inside

@@ -1,0 +1,69 @@
+-- What a pass on a shared daemon stands for, and what one turn of it makes (own: one daemon, several passes).
+use Rattle.std.specs.Prelude.{ℕ, ◌≡◌, ◌++◌, ◌∷◌, [], false, List, map, Option, Some, None}
+use Rattle.std.specs.List.{filter}
+use Rattle.engine_text.specs.declared.call.Call.{Call}
+use Rattle.engine_text.specs.declared.step.Step.{Step}
+use Rattle.machine_model.specs.History.{Charter, state_after, calls_of}
+use Rattle.session_model.specs.declared.turned.Turned.{Turned}
+use Rattle.session_model.specs.Pass.{PassView, Only, is_call}
+use Rattle.session_model.specs.Turning.{MayAsk, TurnSays}
+use Rattle.call_bounds.specs.Built.{AreBuilt}
+use Rattle.daemon_core.specs.Storing.{charter_of, IsStored}
+use Rattle.daemon_core.specs.declared.daemon.Daemon.{Daemon}
+use Rattle.atomic_table.specs.Seated.{TableId}
+use Rattle.turnstile.specs.declared.view.View.{View}
+use Rattle.daemon_shared.specs.declared.one_daemon.Opening.{Opening}
+
+-- whose call a step is; a due step is nobody's
+abbrev pub author_of : Step → Option ℕ
+author_of Step.Due = None
+author_of (Step.Call k t c) = Some k
+
+-- what no turn of a daemon changes
+abbrev pub opening_in : Daemon → Opening
+opening_in d = record { seed = d.seed; moment = d.opening; greatest = d.greatest }
+
+abbrev pub charter_by : Opening → Charter
+charter_by o = charter_of o.seed o.moment o.greatest
+
+abbrev pub charter_in : Option Opening → Charter
+charter_in None = charter_of [] 0 0
+charter_in (Some o) = charter_by o
+
+-- a history that a daemon with this opening keeps
+abbrev pub IsKept : Opening → List Step → Type 0
+IsKept o h = IsStored (charter_by o) h
+
+-- which turnstile it is, as numbers
+abbrev pub home_of : TableId → List ℕ
+home_of t = t.words ∷ t.slots ∷ t.views_name ∷ t.atom ∷ t.block ∷ t.offset ∷ t.slot_names
+
+-- a number with its calls in a history, whichever stood beside it
+abbrev pub with_calls : List Step → ℕ × List Step → ℕ × List Step
+with_calls h c = (c.0, calls_of c.0 h)
+
+-- a pass has just the calls of its number, and of each joined one, in what it has seen
+abbrev pub shared_pass : TableId → View Step Opening → PassView
+shared_pass t v = record {
+  seen = v.seen;
+  own_calls = calls_of v.number v.seen;
+  joined_calls = map (with_calls v.seen) v.joined_calls;
+  number = Only v.number;
+  pair = v.pair;
+  looks = v.looks;
+  charter = charter_in v.charter;
+  alone = false;
+  home = home_of t;
+}
+
+-- a call that connection k may make in the history h
+abbrev pub MayMeet : Opening → ℕ → List Step → Option Call → Type 0
+MayMeet o k h c = MayAsk (charter_by o) k h c × AreBuilt c
+
+-- a turn in the history h made its own steps, and gave this answer
+pub record Makes (o : Opening) (k handed : ℕ) (c : Option Call) (a : Turned) (h h' : List Step) : Type 0 where
+  pub own : List Step
+  pub is : h' ≡ h ++ own
+  -- all calls among them are its own
+  pub only : filter is_call own ≡ calls_of k own
+  pub says : TurnSays (charter_by o) (state_after (charter_by o) h) k handed c a own

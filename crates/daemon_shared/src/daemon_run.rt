@@ -1,0 +1,75 @@
+// The shared daemon: one thread for each connection of a door.
+ghost use Rattle.std.specs.Prelude.{◌≡◌, ◌≤◌, IfSome, IfNone};
+ghost use Rattle.machine_model.specs.History.{greatest_moment};
+ghost use Rattle.daemon_core.specs.Storing.{charter_of};
+ghost use Rattle.session_model.specs.declared.ending.Worst as Worst;
+ghost use Rattle.std.specs.Thread.{IsSend};
+ghost use Rattle.daemon_shared.specs.Inside.{told_by, CanServe, Served};
+ghost use Rattle.daemon_shared.specs.Running.{most_of, RunsDaemon};
+
+use crate::gate::Held;
+use crate::hall::{Begun, Ended};
+use crate::one_daemon::{OneDaemon, open};
+use crate::room::{Room, session};
+use crate::serving::serve_all;
+use crate::worsts::most_of;
+use daemon_core::Daemon;
+use engine_ports::Door;
+use session_model::Worst;
+use std::alloc::Global;
+use std::sync::Wait;
+use std::thread::Threads;
+use turnstile::Pass;
+
+/// Serves the connections of a bound door, each in a thread of its own, by one new daemon that is
+/// opened at `moment`, in milliseconds, at most the greatest one, with `greatest` entries of the
+/// journal at most. It takes in `limit` connections at most; by `steps`, a moment and a step in
+/// milliseconds, each has a clock of its own. The daemon comes back once all sessions have ended.
+pub fn run_daemon<R: Threads + Wait + Sync, D: Door>(
+    rt: &R,
+    alloc: Global,
+    seed: [u8; 32],
+    moment: u64,
+    greatest: u64,
+    limit: Option<u32>,
+    steps: Option<(u64, u64)>,
+    door: &mut D,
+) -> (Worst, Option<Daemon>)
+    requires { moment ≤ greatest_moment }
+    ensures none { IfNone result.1
+        ((result.0 ≡ Worst.NoMemory) × (D.opens door.new ≡ D.opens door.old)) }
+    ensures some { IfSome result.1
+        (λ d. RunsDaemon (charter_of seed moment greatest) steps (most_of limit)
+        result.0 d (D.opens door.old) (D.opens door.new)) }
+{
+    match open(alloc, seed, moment, greatest) {
+        Err(_) => (Worst::NoMemory, None),
+        Ok((lock, root)) => {
+            let room = Room { rt, lock };
+            let serve = |begun: Begun<Pass<OneDaemon>, D::From, D::Into, D::Time>| -> Ended<
+                Pass<OneDaemon>,
+                D::Past,
+            >
+                requires send { IsSend D.From.row × IsSend D.Into.row × IsSend D.Time.row }
+                requires may { CanServe (λ p. p) room.lock.table.shared.table_id begun }
+                ensures { Served (λ p. p) (told_by D.From.gives D.Into.takes D.Time.times) D.Past.tells
+                    steps begun result }
+            { session(&room, alloc, steps, begun) };
+            let held = Held { door };
+            let (worst, root, Held { door: back }) = serve_all(
+                rt,
+                alloc,
+                &room,
+                &serve,
+                root,
+                held,
+                steps,
+                most_of(limit),
+            );
+            let _ = back;
+            let Room { rt: _, lock } = room;
+            let OneDaemon { daemon } = lock.close(rt, root);
+            (worst, Some(daemon))
+        }
+    }
+}

@@ -1,0 +1,17 @@
+//! The shared daemon: one daemon value behind a turnstile, and a session of each connection that comes,
+//! in a thread of its own.
+#![tactic(auto)]
+
+mod daemon_run;
+mod gate;
+mod hall;
+mod one_daemon;
+mod room;
+mod running;
+mod serving;
+mod shared;
+mod worsts;
+
+pub use daemon_run::run_daemon;
+pub use one_daemon::{OneDaemon, Opening, open};
+pub use shared::{Shared, TurnJob};

@@ -1,0 +1,66 @@
+// A daemon that tells its history.
+ghost use Rattle.std.specs.Prelude.{◌≡◌, ◌≤◌, [], IfOk};
+ghost use Rattle.machine_model.specs.History.{greatest_moment};
+ghost use Rattle.turnstile.specs.Turns.{IsPass};
+ghost use Rattle.turnstile.specs.Views.{root};
+
+use daemon_core::Daemon;
+use engine_text::{NoMemory, Step};
+use std::alloc::Global;
+use turnstile::{Chronicle, Pass, Turnstile};
+
+/// What no turn of a daemon changes: the seed of ids, the moment of the opening in milliseconds, and
+/// the greatest number of calls.
+pub struct Opening {
+    pub seed: [u8; 32],
+    pub moment: u64,
+    pub greatest: u64,
+}
+
+/// A daemon behind a turnstile.
+#[derive(Drop)]
+pub struct OneDaemon {
+    pub daemon: Daemon,
+}
+
+impl Chronicle for OneDaemon {
+    ghost use Rattle.daemon_core.specs.Passing.{whole_pass};
+    ghost use Rattle.daemon_shared.specs.Sharing.{author_of, opening_in, IsKept};
+
+    type Step = Step;
+
+    type Charter = Opening;
+
+    ghost author = { author_of };
+
+    ghost legal = { IsKept };
+
+    ghost history = { λ d. (whole_pass d.daemon).seen };
+
+    ghost charter = { λ d. opening_in d.daemon };
+
+    fn steps(&self) -> u64 {
+        self.daemon.steps()
+    }
+
+    ghost short = { λ o h kept. kept.1 };
+}
+
+/// A daemon without history behind a turnstile, and the root pass to it. The moment is at most the
+/// greatest one.
+pub fn open(
+    alloc: Global,
+    seed: [u8; 32],
+    moment: u64,
+    greatest: u64,
+) -> Result<(Turnstile<OneDaemon>, Pass<OneDaemon>), NoMemory>
+    requires { moment ≤ greatest_moment }
+    ensures { IfOk result (λ r. IsPass r.0.table.shared.table_id r.1
+        × (r.1.me.0 ≡ root [] (record { seed = seed; moment = moment; greatest = greatest }))) }
+{
+    let daemon = Daemon::new(alloc, seed, moment, greatest)?;
+    match Turnstile::new(alloc, OneDaemon { daemon }) {
+        Ok(opened) => Ok(opened),
+        Err(_) => Err(NoMemory),
+    }
+}
