@@ -1,0 +1,46 @@
+// The program `engined`.
+ghost use Rattle.std.specs.Prelude.{◌≡◌};
+ghost use Rattle.engine_ports.specs.Door.{outside};
+ghost use Rattle.engine_program.specs.Listening.{RunsProgram};
+
+use crate::listening::{address_of, listen, status_by};
+use engine_line::{Work, read_line};
+use engine_ports::{Clock, Door, Sink, Source};
+use engine_text::Text;
+use session_model::Worst;
+use std::alloc::Global;
+use std::sync::Wait;
+use std::thread::Threads;
+
+/// Runs `engined` with the words after the program's name, and answers its status. A line that
+/// doesn't listen is read once more by the call that runs it: that is a few words, at the start.
+pub fn run_engined<R: Threads + Wait + Sync, S: Source, K: Sink, C: Clock, D: Door>(
+    rt: &R,
+    alloc: Global,
+    words: &[Text],
+    source: &mut S,
+    sink: &mut K,
+    clock: &mut C,
+    door: &mut D,
+) -> u8
+    ensures { RunsProgram words.now result
+        (outside (S.gives source.old) (K.takes sink.old) (C.times clock.old))
+        (outside (S.gives source.new) (K.takes sink.new) (C.times clock.new))
+        (D.opens door.old) (D.opens door.new) }
+{
+    let Ok(line) = read_line(alloc, words) else {
+        return status_by(Worst::NoMemory);
+    };
+    match line {
+        None => engine_serve::run_engined(rt, alloc, words, source, sink, clock, door),
+        Some(line) => match line.work {
+            Work::Listen(port) => match address_of(alloc, port) {
+                Ok(addr) => listen(rt, alloc, line, &addr, clock, door),
+                Err(_) => status_by(Worst::NoMemory),
+            },
+            Work::Stdio | Work::Drill(_) => {
+                engine_serve::run_engined(rt, alloc, words, source, sink, clock, door)
+            }
+        },
+    }
+}
