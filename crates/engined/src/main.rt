@@ -1,9 +1,9 @@
-//! The daemon `engined`: real standard input and output and the system's clock, handed to the one top
-//! call.
+//! The daemon `engined`: real standard input and output, the system's clock and a door over TCP,
+//! handed to the one top call.
 #![tactic(auto)]
 
-use engine_ports::{NoDoor, ReadSource, SystemClock, WriteSink};
-use engine_serve::run_engined;
+use engine_ports::{ReadSource, SystemClock, TcpDoor, WriteSink};
+use engine_program::run_engined;
 use engine_text::Text;
 use std::env;
 use std::io::{self, ErrorKind};
@@ -35,6 +35,7 @@ fn main(rt: HostRuntime) -> ExitCode {
     let mut source = ReadSource::new(rt.stdin());
     let mut sink = WriteSink::new(io::writer(&rt));
     let mut clock = SystemClock::new(&rt);
+    let mut door = TcpDoor::new(&rt, rt.alloc());
     let status = run_engined(
         &rt,
         rt.alloc(),
@@ -42,7 +43,7 @@ fn main(rt: HostRuntime) -> ExitCode {
         &mut source,
         &mut sink,
         &mut clock,
-        &mut NoDoor,
+        &mut door,
     );
     ExitCode::from(status)
 }
