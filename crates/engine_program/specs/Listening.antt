@@ -41,8 +41,9 @@ pub record ServesDoor (line : Line) (status : ℕ) (t t' : ClockView) (d d' : Do
   pub opens : OpensAt line.clock opening t t'
   pub worst : Worst
   pub status_is : status ≡ status_by worst
-  pub runs : ((worst ≡ NoMemory) × (d' ≡ d)) ⊎ ((daemon : Daemon)
-      × RunsDaemon (charter_by line opening) (steps_of line.clock) (most_of line.connections) worst daemon d d')
+  pub runs : ((worst ≡ NoMemory) × (d' ≡ d))
+      ⊎ ((daemon : Daemon) × RunsDaemon (charter_by line opening) (steps_of line.clock)
+      (most_of line.connections) worst daemon d d')
 
 -- the door couldn't be bound: its faults rose, nobody is taken in, and the clock isn't asked
 pub record FailsToBind (status : ℕ) (t t' : ClockView) (d d' : DoorView) : Type 0 where

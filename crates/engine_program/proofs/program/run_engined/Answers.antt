@@ -5,4 +5,5 @@ use Rattle.engine_program.proofs.program.run_engined.Goals as goal
 -- START of a line is a moment
 pub listen-requires-after_bounds : goal.listen-requires-after_bounds
 listen-requires-after_bounds g c κs within =
-    λ stepping clock. start_within c.args.words.now c.in-Some.line stepping (sym c.in-Ok.ensures ∙ c.in-Some.is) clock
+    λ stepping clock. start_within c.args.words.now c.in-Some.line stepping
+    (sym c.in-Ok.ensures ∙ c.in-Some.is) clock
