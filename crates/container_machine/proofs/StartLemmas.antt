@@ -26,34 +26,9 @@ use Rattle.container_machine.specs.Plans.{plan_effect, Brings}
 use Rattle.container_machine.specs.declared.plan.Plan.{Plan}
 use Rattle.container_machine.specs.declared.prepared.Prepared.{Prepared}
 
--- an answer that changes nothing is the outcome that answers so
-pub made_answer : (p : Prepared) (t : ℕ) (s : State) (f : State → Outcome) (status : ℕ) (body : List ℕ) → IsAnswer t status body p → ((z : State) → f z ≡ answers status body z) → Makes p t s f
-made_answer p t s f status body a h =
-    let z : State = at_moment t s in
-    record {
-      moment = a.moment;
-      effect = ap (λ q. plan_effect q z) a.plan ∙ sym (ap (λ (o : Outcome). o.effect) (h z));
-      events = a.events ∙ sym (ap (λ (o : Outcome). o.effect.events) (h z));
-      reply = a.reply ∙ sym (ap (λ (o : Outcome). o.reply) (h z));
-      brings = subst (λ q. Brings q t s) (sym a.plan) tt;
-    }
-
-none_is : (o : Option Program) → is_program o ≡ false → o ≡ None
-none_is None e = refl
-none_is (Some p) e = absurd (cc)
-
 some_is : (o : Option Program) → is_program o ≡ true → (p : Program) × (o ≡ Some p)
 some_is None e = absurd (cc)
 some_is (Some p) e = (p, refl)
-
-pub refused_run : (c : Container) → program_of c.life.words (c.life.starts + 1) ≡ None → (z : State) → run c z ≡ answers 400 (message_text (unknown_command (first_word c.life.words))) z
-refused_run c e z =
-    ap (λ o. if_program o c.life.words (done (launch_by_call c.number)) z) (none_is (program_of c.life.words 1) (program_alike c.life.words 1 (c.life.starts + 1) ∙ ap is_program e))
-
-pub refused_made : (r : Result Prepared NoMemory) (t : ℕ) (s : State) (c : Container) (text : List ℕ) → text ≡ unknown_command (first_word c.life.words) → program_of c.life.words (c.life.starts + 1) ≡ None
-    → IfOk r (λ p. IsAnswer t 400 (message_text text) p) → IfOk r (λ p. Makes p t s (run c))
-refused_made (Ok p) t s c text is none a = made_answer p t s (run c) 400 (message_text text) a (λ z. refused_run c none z ∙ ap (λ x. answers 400 (message_text x) z) (sym is))
-refused_made (Err e) t s c text is none a = tt
 
 launched_run : (c : Container) (program : Program) → program_of c.life.words (c.life.starts + 1) ≡ Some program → (z : State) → run c z ≡ done (launch_by_call c.number) z
 launched_run c program e z =

@@ -1,0 +1,138 @@
+#!/usr/bin/env python3
+"""The docker command line against a daemon: what a person types, and what must come of it.
+
+DOCKER_HOST names the daemon. A step is what is typed, the status that it ends with, and a pattern that
+its output or its message matches as a whole.
+"""
+import re
+import shlex
+import subprocess
+import time
+
+from steps import NOT_BUILT, Steps
+
+steps = Steps("docker")
+ID = "[0-9a-f]{64}"
+
+
+def typed(line, seconds=20):
+    """Runs a command of docker, and returns its status, what it wrote, and its message."""
+    words = ["docker", *shlex.split(line)]
+    try:
+        ran = subprocess.run(words, capture_output=True, text=True, timeout=seconds, stdin=subprocess.DEVNULL, check=False)
+        return ran.returncode, ran.stdout, ran.stderr
+    except subprocess.TimeoutExpired:
+        return None, "", f"no end within {seconds} seconds"
+
+
+def step(line, pattern="", status=0, seconds=20):
+    ended, out, message = typed(line, seconds)
+    said = out + message
+    if NOT_BUILT in message:
+        return steps.tell(line, absent=True)
+    if ended == status and re.fullmatch(pattern, said.strip(), re.DOTALL):
+        return steps.tell(line)
+    return steps.tell(line, f"status {ended}, not {status}: {said.strip()!r} isn't {pattern!r}")
+
+
+def state(name, wanted, seconds=3):
+    """A step of waiting until the container is in that state."""
+    end = time.monotonic() + seconds
+    while True:
+        _, out, _ = typed(f"inspect --format '{{{{.State.Status}}}} {{{{.State.ExitCode}}}}' {name}")
+        if re.fullmatch(wanted, out.strip()) or time.monotonic() > end:
+            return steps.tell(f"{name} is {wanted}", None if re.fullmatch(wanted, out.strip()) else f"it is {out.strip()}")
+        time.sleep(0.05)
+
+
+TOOLS = "engine/tools"
+
+# what the daemon is
+step("version --format '{{.Server.Version}} {{.Server.APIVersion}}'", "1.0.0 1.43")
+
+# a container from its creation to its end
+step(f"create --name web {TOOLS} echo hi", ID)
+step(f"create --name web {TOOLS} echo hi", '.*Conflict. The container name "/web" is already in use.*', 1)
+step("create other/image", ".*", 1)
+step("start web", "web")
+state("web", "exited 0")
+step("ps --format '{{.Names}}'", "")
+step("ps --all --format '{{.Names}} {{.Image}} {{.State}}'", "web engine/tools:latest exited")
+step("ps --all --filter status=exited --filter name=we --format '{{.Names}}'", "web")
+step("ps --all --filter status=running --format '{{.Names}}'", "")
+step("inspect --format '{{.Name}} {{.State.Status}} {{.State.ExitCode}}' web", "/web exited 0")
+step("inspect nobody", ".*[Nn]o such object: nobody.*", 1)
+step("start nobody", ".*No such container: nobody.*", 1)
+
+# its log
+step("logs web", "hi")
+step("logs --tail 0 web", "")
+step("logs --timestamps web", r"\d{4}-\d\d-\d\dT\d\d:\d\d:\d\d\.\d{9}Z hi")
+step("logs --follow web", "hi")
+step("logs --since 2000-01-01T00:00:00Z web", "hi")
+step("logs --until 2000-01-01T00:00:00Z web", "")
+
+# signals, stops and waits
+step(f"create --name deaf --label tier=back {TOOLS} deaf", ID)
+step("start deaf", "deaf")
+state("deaf", "running 0")
+step("pause deaf", "deaf")
+state("deaf", "paused 0")
+step("unpause deaf", "deaf")
+step("kill --signal TERM deaf", "deaf")
+state("deaf", "running 0")
+step("stop --time 1 deaf", "deaf")
+state("deaf", "exited 137")
+step("start deaf", "deaf")
+step("kill deaf", "deaf")
+state("deaf", "exited 137")
+step("kill deaf", ".*is not running.*", 1)
+step("wait deaf", "137")
+step("restart --time 0 deaf", "deaf")
+state("deaf", "running 0")
+step("ps --filter label=tier=back --format '{{.Names}}'", "deaf")
+
+# names and removal
+step("rename deaf quiet", "")
+step("ps --all --format '{{.Names}}'", "quiet\nweb")
+step("rename quiet web", ".*already in use.*", 1)
+step("rm quiet", ".*", 1)
+step("rm --force quiet", "quiet")
+step("rm web", "web")
+step("ps --all --quiet", "")
+
+# restart policies
+step(f"create --name flaky --restart on-failure:2 {TOOLS} exit 3", ID)
+step("start flaky", "flaky")
+state("flaky", "exited 3")
+step("inspect --format '{{.RestartCount}}' flaky", "2")
+step("rm flaky", "flaky")
+
+# volumes
+step("volume create data", "data")
+step("volume ls --quiet", "data")
+step("volume inspect --format '{{.Name}} {{.Driver}}' data", "data local")
+step(f"create --name keeper --volume data:/srv {TOOLS} deaf", ID)
+step("volume rm data", ".*in use.*", 1)
+step("rm keeper", "keeper")
+step("volume rm data", "data")
+step("volume rm data", ".*[Nn]o such volume.*", 1)
+
+# more processes, attached runs
+step(f"create --name host {TOOLS} deaf", ID)
+step("start host", "host")
+step("exec host echo inside", "inside")
+step("exec host exit 4", "", 4)
+step("exec --detach host echo inside", "")
+step("rm --force host", "host")
+step(f"run --name once {TOOLS} echo hi", "hi")
+step(f"run {TOOLS} exit 7", "", 7)
+step("start --attach once", "hi")
+step(f"run --detach --name behind {TOOLS} deaf", ID)
+step("rm --force behind", "behind")
+step(f"run --rm {TOOLS} echo hi", ".*", 125)
+
+# events
+step("events --since 2000-01-01T00:00:00Z --until 2000-01-01T00:00:01Z", "")
+step("events --since 2000-01-01T00:00:00Z --until 0s --filter container=once --filter event=die --format '{{.Action}}'", "die.*")
+steps.end()
