@@ -8,3 +8,4 @@ pub mod IndexLemmas
 pub mod PrefixLemmas
 pub mod KeptLemmas
 pub mod TimerLemmas
+pub mod LifeLemmas

@@ -4,21 +4,32 @@ use Rattle.std.specs.List.{AllByRecursion}
 use Rattle.std.specs.Ordering.{nat_cmp, is_lt, ordering_then}
 use Rattle.std.specs.declared.cmp.Ordering.TheVariants.{Less, Greater}
 use Rattle.engine_text.specs.Texts.{same_bytes, begins_with}
-use Rattle.container_table.specs.Order.{in_order, AreApart}
+use Rattle.container_table.specs.Logs.{container_in, room_in}
+use Rattle.container_table.specs.Order.{in_order, IsInOrder, AreApart}
 use Rattle.container_table.specs.Search.{HoldsOf, Parts}
 use Rattle.container_table.specs.Starts.{front}
 use Rattle.std.specs.declared.cmp.Ordering.{Ordering}
 use Rattle.std.specs.declared.boxed.Box.{Box}
 use Rattle.std.specs.Cmp.Lexicographic.{slice_cmp}
 use Rattle.engine_text.specs.declared.container.Container.{Container}
+use Rattle.container_table.specs.declared.boxes.Boxes.{Boxes}
+use Rattle.container_table.specs.declared.held.Held.{Held}
 use Rattle.container_table.specs.declared.entries.Key.{Key}
 use Rattle.container_table.specs.declared.entries.Key.TheVariants.{Id, Name}
 use Rattle.container_table.specs.declared.entries.Entry.{Entry}
 use Rattle.container_table.specs.Tables.{numbered}
 
--- The containers in these boxes.
-abbrev pub contents : {Z : Type 0} → List (Box Container Z) → List Container
-contents boxes = map (λ b. b.value) boxes
+-- The containers in these boxes, with their logs.
+abbrev pub contents : {Z : Type 0} → List (Box Held Z) → List Container
+contents boxes = map (λ b. container_in b.value) boxes
+
+-- How many more records each of their logs has room for.
+abbrev pub rooms_of : {Z : Type 0} → List (Box Held Z) → List ℕ
+rooms_of boxes = map (λ b. room_in b.value) boxes
+
+-- The numbers of these containers.
+abbrev pub numbers_of : List Container → List ℕ
+numbers_of cs = map (λ c. c.number) cs
 
 -- The text by which an index is sorted.
 abbrev pub key_text : Key → Container → List ℕ
@@ -46,6 +57,11 @@ found_text key (Some c) = key_text key c
 abbrev pub entry_order : Key → List Container → List ℕ → Entry → Ordering
 entry_order key cs text e =
     ordering_then (slice_cmp nat_cmp e.start (front 8 text)) (slice_cmp nat_cmp (found_text key (numbered e.number cs)) text)
+
+-- Numbers rise, and stand beside the boxes.
+pub record IsBoxed (b : Boxes) : Type 0 where
+  pub order : IsInOrder is_numbered_before (contents b.list.items)
+  pub numbers : b.numbers.items ≡ numbers_of (contents b.list.items)
 
 -- The containers in the order of an index.
 abbrev pub sorted_by : Key → List Container → List Container

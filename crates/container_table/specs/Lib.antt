@@ -1,6 +1,7 @@
 pub mod Lists
 pub mod Reference
 pub mod Timers
+pub mod Logs
 pub mod Tables
 pub mod Order
 pub mod Search

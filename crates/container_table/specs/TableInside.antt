@@ -6,6 +6,7 @@ use Rattle.container_table.specs.declared.table.Table.TheInside.{Inside}
 abbrev pub holdings_of : Inside → Holdings
 holdings_of a = record {
   containers = a.containers.containers;
+  logs = a.containers.logs;
   timers = a.timers.timers;
   places = a.containers.places;
   timer_places = a.timers.places;

@@ -8,16 +8,18 @@ use Rattle.engine_text.specs.declared.container.Life.{Life}
 use Rattle.container_table.specs.Lists.{update_first, remove_first}
 use Rattle.engine_text.specs.declared.step.DueAction.{DueAction}
 
--- Containers in order of number, timers by rank and number, and for how many of each there is memory.
+-- Containers in order of number, and how many more records each one's log has room for; timers by rank and number; and for how many of
+-- each there is memory.
 pub record Holdings : Type 0 where
   pub containers : List Container
+  pub logs : List ℕ
   pub timers : List DueAction
   pub places : ℕ
   pub timer_places : ℕ
 
 -- The table in which nothing is.
 abbrev pub no_holdings : Holdings
-no_holdings = record { containers = []; timers = []; places = 0; timer_places = 0 }
+no_holdings = record { containers = []; logs = []; timers = []; places = 0; timer_places = 0 }
 
 -- The container of that number.
 abbrev pub numbered : ℕ → List Container → Option Container
@@ -47,13 +49,14 @@ without n cs = remove_first (λ c. c.number == n) cs
 abbrev pub renamed : ℕ → List ℕ → List Container → List Container
 renamed n name cs = update_first (λ c. c.number == n) (λ c. record c { name = name }) cs
 
--- The container of that number has another life.
+-- The container of that number has another life, and its own log.
 abbrev pub relived : ℕ → Life → List Container → List Container
-relived n life cs = update_first (λ c. c.number == n) (λ c. record c { life = life }) cs
+relived n life cs = update_first (λ c. c.number == n) (λ c. record c { life = record life { log = c.life.log } }) cs
 
 -- What a table holds of containers alone, and of timers alone.
 pub record Kept : Type 0 where
   pub containers : List Container
+  pub logs : List ℕ
   pub places : ℕ
 
 pub record Timed : Type 0 where

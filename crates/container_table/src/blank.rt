@@ -1,18 +1,25 @@
 // What stands in a place where no container is.
-use engine_text::{Container, Goal, Life, Log, Mounts, Pairs, Policy, Signal, Status, Text, Words};
+use super::held::Held;
+use engine_text::{
+    Container, Goal, Life, Log, Mounts, OpenLog, Pairs, Policy, Signal, Status, Text, Words,
+};
 use std::alloc::Global;
 
 /// A container without anything; it takes no memory.
-pub fn blank(alloc: Global) -> Container {
-    Container {
-        number: 0,
-        id: Text::new(alloc),
-        name: Text::new(alloc),
-        life: blank_life(alloc),
+pub fn blank(alloc: Global) -> Held {
+    Held {
+        container: Container {
+            number: 0,
+            id: Text::new(alloc),
+            name: Text::new(alloc),
+            life: blank_life(alloc),
+        },
+        log: OpenLog::new(alloc),
     }
 }
 
-fn blank_life(alloc: Global) -> Life {
+/// A life without anything; it takes no memory.
+pub fn blank_life(alloc: Global) -> Life {
     Life {
         words: Words::new(alloc),
         labels: Pairs::new(alloc),

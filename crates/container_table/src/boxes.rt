@@ -1,16 +1,39 @@
 // Boxes of containers: those that are held, in order of number, and spare ones.
-ghost use Rattle.std.specs.Prelude.{◌≡◌, ℕ, ◌+◌, ◌<◌, ◌≤◌, [], ◌∷◌, ◌++◌, Some, Ok, OnOk, option_map, vec_len, vec_capacity};
-ghost use Rattle.container_table.specs.Order.{IsInOrder};
+ghost use Rattle.std.specs.Prelude.{◌≡◌, ℕ, ◌+◌, ◌<◌, ◌≤◌, [], ◌∷◌, ◌++◌, Some, Ok, OnOk, OnErr, vec_len, vec_capacity};
 ghost use Rattle.container_table.specs.Tables.{numbered, without, renamed, relived};
-ghost use Rattle.container_table.specs.Held.{contents, is_numbered_before, IsPlaced};
+ghost use Rattle.container_table.specs.Logs.{container_in, room_in, recorded, rooms_used, rooms_without, AreNoLess, FitsLog, IsLifeOf};
+ghost use Rattle.container_table.specs.Held.{contents, numbers_of, rooms_of, IsBoxed, IsPlaced};
 
 use super::blank::blank;
-use engine_text::{Container, Life, NoMemory, Text};
+use super::held::Held;
+use engine_text::{Life, LogRecord, NoMemory, Text};
 use std::alloc::Global;
 use std::mem;
 
+/// Containers in their boxes, in order of number, and their numbers alone, which a search reads.
+#[derive(Drop)]
+pub struct Boxes {
+    pub list: Vec<Box<Held>>,
+    pub numbers: Vec<u64>,
+}
+
+/// Makes room for so many boxes more.
+pub fn reserve(boxes: &mut Boxes, wanted: usize) -> Result<(), NoMemory>
+    ensures list { boxes.new.list.items ≡ boxes.old.list.items }
+    ensures numbers { boxes.new.numbers.items ≡ boxes.old.numbers.items }
+    ensures capacity { vec_capacity boxes.old.list ≤ vec_capacity boxes.new.list }
+    ensures numbers_capacity { vec_capacity boxes.old.numbers ≤ vec_capacity boxes.new.numbers }
+    ensures ok { OnOk result (vec_len boxes.new.list + wanted ≤ vec_capacity boxes.new.list) }
+    ensures numbers_ok { OnOk result
+        (vec_len boxes.new.numbers + wanted ≤ vec_capacity boxes.new.numbers) }
+{
+    boxes.list.reserve(wanted)?;
+    boxes.numbers.reserve(wanted)?;
+    Ok(())
+}
+
 /// Makes empty boxes, up to so many.
-pub fn fill(spare: &mut Vec<Box<Container>>, alloc: Global, wanted: usize) -> Result<(), NoMemory>
+pub fn fill(spare: &mut Vec<Box<Held>>, alloc: Global, wanted: usize) -> Result<(), NoMemory>
     requires room { wanted ≤ vec_capacity spare.old }
     requires low { vec_len spare.old ≤ wanted }
     ensures low { vec_len spare.old ≤ vec_len spare.new }
@@ -28,70 +51,125 @@ pub fn fill(spare: &mut Vec<Box<Container>>, alloc: Global, wanted: usize) -> Re
 }
 
 /// Puts a container into a spare box, behind the others.
-pub fn put(list: &mut Vec<Box<Container>>, spare: &mut Vec<Box<Container>>, container: Container)
+pub fn put(boxes: &mut Boxes, spare: &mut Vec<Box<Held>>, held: Held)
     requires spare { 0 < vec_len spare.old }
-    requires room { vec_len list.old < vec_capacity list.old }
-    ensures contents { contents list.new.items ≡ contents list.old.items ++ container ∷ [] }
-    ensures len { vec_len list.new ≡ vec_len list.old + 1 }
+    requires room { vec_len boxes.old.list < vec_capacity boxes.old.list }
+    requires numbers_room { vec_len boxes.old.numbers < vec_capacity boxes.old.numbers }
+    requires numbers { boxes.old.numbers.items ≡ numbers_of (contents boxes.old.list.items) }
+    ensures contents { contents boxes.new.list.items
+        ≡ contents boxes.old.list.items ++ container_in held ∷ [] }
+    ensures rooms { rooms_of boxes.new.list.items
+        ≡ rooms_of boxes.old.list.items ++ room_in held ∷ [] }
+    ensures numbers { boxes.new.numbers.items ≡ numbers_of (contents boxes.new.list.items) }
+    ensures len { vec_len boxes.new.list ≡ vec_len boxes.old.list + 1 }
+    ensures numbers_len { vec_len boxes.new.numbers ≡ vec_len boxes.old.numbers + 1 }
     ensures spare { vec_len spare.new + 1 ≡ vec_len spare.old }
-    ensures capacity { vec_capacity list.new ≡ vec_capacity list.old }
+    ensures capacity { vec_capacity boxes.new.list ≡ vec_capacity boxes.old.list }
+    ensures numbers_capacity { vec_capacity boxes.new.numbers ≡ vec_capacity boxes.old.numbers }
     ensures spare_capacity { vec_capacity spare.new ≡ vec_capacity spare.old }
 {
     if let Some(mut place) = spare.pop() {
-        *place = container;
-        list.push_reserved(place);
+        let number = held.container.number;
+        *place = held;
+        boxes.list.push_reserved(place);
+        boxes.numbers.push_reserved(number);
     }
 }
 
 /// Takes the container of that number, which stands at i, out of its box, which is spare then.
-pub fn take(
-    list: &mut Vec<Box<Container>>,
-    spare: &mut Vec<Box<Container>>,
-    i: usize,
-    number: u64,
-) -> Container
-    requires order { IsInOrder is_numbered_before (contents list.old.items) }
-    requires bound { i < vec_len list.old }
-    requires place { IsPlaced (contents list.old.items) number (Ok i) }
+pub fn take(boxes: &mut Boxes, spare: &mut Vec<Box<Held>>, i: usize, number: u64) -> Held
+    requires boxed { IsBoxed boxes.old }
+    requires len { vec_len boxes.old.numbers ≡ vec_len boxes.old.list }
+    requires bound { i < vec_len boxes.old.list }
+    requires place { IsPlaced (contents boxes.old.list.items) number (Ok i) }
     requires room { vec_len spare.old < vec_capacity spare.old }
-    ensures value { numbered number (contents list.old.items) ≡ Some result }
-    ensures contents { contents list.new.items ≡ without number (contents list.old.items) }
-    ensures len { vec_len list.new + 1 ≡ vec_len list.old }
+    ensures value { numbered number (contents boxes.old.list.items) ≡ Some (container_in result) }
+    ensures contents { contents boxes.new.list.items
+        ≡ without number (contents boxes.old.list.items) }
+    ensures rooms { rooms_of boxes.new.list.items
+        ≡ rooms_without number (contents boxes.old.list.items) (rooms_of boxes.old.list.items) }
+    ensures numbers { boxes.new.numbers.items ≡ numbers_of (contents boxes.new.list.items) }
+    ensures len { vec_len boxes.new.list + 1 ≡ vec_len boxes.old.list }
+    ensures numbers_len { vec_len boxes.new.numbers + 1 ≡ vec_len boxes.old.numbers }
     ensures spare { vec_len spare.new ≡ vec_len spare.old + 1 }
-    ensures capacity { vec_capacity list.new ≡ vec_capacity list.old }
+    ensures capacity { vec_capacity boxes.new.list ≡ vec_capacity boxes.old.list }
+    ensures numbers_capacity { vec_capacity boxes.new.numbers ≡ vec_capacity boxes.old.numbers }
     ensures spare_capacity { vec_capacity spare.new ≡ vec_capacity spare.old }
 {
-    let empty = blank(*list.allocator());
-    let mut place = list.remove(i);
+    let empty = blank(*boxes.list.allocator());
+    let mut place = boxes.list.remove(i);
+    let _ = boxes.numbers.remove(i);
     let gone = mem::replace(&mut *place, empty);
     spare.push_reserved(place);
     gone
 }
 
 /// Gives the container of that number, which stands at i, another name.
-pub fn rename(list: &mut Vec<Box<Container>>, i: usize, number: u64, name: Text)
-    requires order { IsInOrder is_numbered_before (contents list.old.items) }
-    requires bound { i < vec_len list.old }
-    requires place { IsPlaced (contents list.old.items) number (Ok i) }
-    ensures contents { contents list.new.items ≡ renamed number name (contents list.old.items) }
-    ensures len { vec_len list.new ≡ vec_len list.old }
-    ensures capacity { vec_capacity list.new ≡ vec_capacity list.old }
+pub fn rename(boxes: &mut Boxes, i: usize, number: u64, name: Text)
+    requires boxed { IsBoxed boxes.old }
+    requires bound { i < vec_len boxes.old.list }
+    requires place { IsPlaced (contents boxes.old.list.items) number (Ok i) }
+    ensures contents { contents boxes.new.list.items
+        ≡ renamed number name (contents boxes.old.list.items) }
+    ensures rooms { rooms_of boxes.new.list.items ≡ rooms_of boxes.old.list.items }
+    ensures numbers { boxes.new.numbers ≡ boxes.old.numbers }
+    ensures len { vec_len boxes.new.list ≡ vec_len boxes.old.list }
+    ensures capacity { vec_capacity boxes.new.list ≡ vec_capacity boxes.old.list }
 {
-    let held = &mut list[i];
-    held.name = name;
+    let held = &mut boxes.list[i];
+    held.container.name = name;
 }
 
-/// Swaps the life of the container of that number, which stands at i, for another.
-pub fn swap_life(list: &mut Vec<Box<Container>>, i: usize, number: u64, life: &mut Life)
-    requires order { IsInOrder is_numbered_before (contents list.old.items) }
-    requires bound { i < vec_len list.old }
-    requires place { IsPlaced (contents list.old.items) number (Ok i) }
-    ensures life { option_map (λ c. c.life) (numbered number (contents list.old.items))
-        ≡ Some life.new }
-    ensures contents { contents list.new.items ≡ relived number life.old (contents list.old.items) }
-    ensures len { vec_len list.new ≡ vec_len list.old }
-    ensures capacity { vec_capacity list.new ≡ vec_capacity list.old }
+/// Swaps the life of the container of that number, which stands at i, for another; its log stays.
+pub fn swap_life(boxes: &mut Boxes, i: usize, number: u64, life: &mut Life)
+    requires boxed { IsBoxed boxes.old }
+    requires bound { i < vec_len boxes.old.list }
+    requires place { IsPlaced (contents boxes.old.list.items) number (Ok i) }
+    ensures life { IsLifeOf life.new (numbered number (contents boxes.old.list.items)) }
+    ensures contents { contents boxes.new.list.items
+        ≡ relived number life.old (contents boxes.old.list.items) }
+    ensures rooms { rooms_of boxes.new.list.items ≡ rooms_of boxes.old.list.items }
+    ensures numbers { boxes.new.numbers ≡ boxes.old.numbers }
+    ensures len { vec_len boxes.new.list ≡ vec_len boxes.old.list }
+    ensures capacity { vec_capacity boxes.new.list ≡ vec_capacity boxes.old.list }
 {
-    let held = &mut list[i];
-    mem::swap(&mut held.life, life);
+    let held = &mut boxes.list[i];
+    mem::swap(&mut held.container.life, life);
+}
+
+/// Makes room for one record more in the log of the container of that number, which stands at i.
+pub fn reserve_record(boxes: &mut Boxes, i: usize, number: u64) -> Result<(), NoMemory>
+    requires boxed { IsBoxed boxes.old }
+    requires bound { i < vec_len boxes.old.list }
+    requires place { IsPlaced (contents boxes.old.list.items) number (Ok i) }
+    ensures contents { contents boxes.new.list.items ≡ contents boxes.old.list.items }
+    ensures ok { OnOk result
+        (FitsLog number (contents boxes.new.list.items) (rooms_of boxes.new.list.items)) }
+    ensures rooms { AreNoLess (rooms_of boxes.old.list.items) (rooms_of boxes.new.list.items) }
+    ensures err { OnErr result (rooms_of boxes.new.list.items ≡ rooms_of boxes.old.list.items) }
+    ensures numbers { boxes.new.numbers ≡ boxes.old.numbers }
+    ensures len { vec_len boxes.new.list ≡ vec_len boxes.old.list }
+    ensures capacity { vec_capacity boxes.new.list ≡ vec_capacity boxes.old.list }
+{
+    let alloc = *boxes.list.allocator();
+    let held = &mut boxes.list[i];
+    held.log.reserve(alloc, 1)
+}
+
+/// Adds a record to the log of the container of that number, which stands at i.
+pub fn push_record(boxes: &mut Boxes, i: usize, number: u64, item: LogRecord)
+    requires boxed { IsBoxed boxes.old }
+    requires bound { i < vec_len boxes.old.list }
+    requires place { IsPlaced (contents boxes.old.list.items) number (Ok i) }
+    requires room { FitsLog number (contents boxes.old.list.items) (rooms_of boxes.old.list.items) }
+    ensures contents { contents boxes.new.list.items
+        ≡ recorded number item (contents boxes.old.list.items) }
+    ensures rooms { rooms_of boxes.new.list.items
+        ≡ rooms_used number (contents boxes.old.list.items) (rooms_of boxes.old.list.items) }
+    ensures numbers { boxes.new.numbers ≡ boxes.old.numbers }
+    ensures len { vec_len boxes.new.list ≡ vec_len boxes.old.list }
+    ensures capacity { vec_capacity boxes.new.list ≡ vec_capacity boxes.old.list }
+{
+    let held = &mut boxes.list[i];
+    held.log.push_reserved(item);
 }

@@ -5,10 +5,12 @@ mod blank;
 mod boxes;
 mod containers;
 mod entries;
+mod held;
 mod lookups;
 mod table;
 #[cfg(test)]
 mod tests;
 mod timers;
 
+pub use held::Held;
 pub use table::Table;

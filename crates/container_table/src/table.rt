@@ -1,13 +1,15 @@
 // Containers and their timers, whole and indexed.
-ghost use Rattle.std.specs.Prelude.{◌≡◌, ℕ, ◌+◌, ◌<◌, ◌≤◌, [], ◌∷◌, ◌++◌, Some, None, IsSome, IsTrue, OnOk, nat_lt, length, slice_get, option_copied, option_map};
+ghost use Rattle.std.specs.Prelude.{◌≡◌, ℕ, ◌+◌, ◌<◌, ◌≤◌, [], ◌∷◌, ◌++◌, Some, None, IsTrue, OnOk, OnErr, nat_lt, length, slice_get, option_copied, option_map};
 ghost use Rattle.std.specs.List.{AllByRecursion};
 ghost use Rattle.container_table.specs.Reference.{container_by};
 ghost use Rattle.container_table.specs.Timers.{timer_in, cleared, with_timer, least};
+ghost use Rattle.container_table.specs.Logs.{container_in, room_in, recorded, rooms_used, rooms_without, AreNoLess, FitsLog, IsLifeOf};
 ghost use Rattle.container_table.specs.Tables.{no_holdings, numbered, with_id, named, is_free, without, renamed, relived};
 
 use super::containers::Containers;
+use super::held::Held;
 use super::timers::Timers;
-use engine_text::{Container, DueAction, Found, Life, NoMemory, Text};
+use engine_text::{DueAction, Found, Life, LogRecord, NoMemory, Text};
 use std::alloc::Global;
 use std::marker::Model;
 
@@ -42,6 +44,7 @@ impl Table {
     /// Makes room for n containers and n timers more.
     pub fn reserve(&mut self, alloc: Global, n: usize) -> Result<(), NoMemory>
         ensures containers { self.new.containers ≡ self.old.containers }
+        ensures logs { self.new.logs ≡ self.old.logs }
         ensures timers { self.new.timers ≡ self.old.timers }
         ensures places { self.old.places ≤ self.new.places }
         ensures timer_places { self.old.timer_places ≤ self.new.timer_places }
@@ -55,6 +58,7 @@ impl Table {
     /// Makes room for n containers more.
     pub fn reserve_containers(&mut self, alloc: Global, n: usize) -> Result<(), NoMemory>
         ensures containers { self.new.containers ≡ self.old.containers }
+        ensures logs { self.new.logs ≡ self.old.logs }
         ensures timers { self.new.timers ≡ self.old.timers }
         ensures places { self.old.places ≤ self.new.places }
         ensures timer_places { self.new.timer_places ≡ self.old.timer_places }
@@ -66,6 +70,7 @@ impl Table {
     /// Makes room for n timers more.
     pub fn reserve_timers(&mut self, n: usize) -> Result<(), NoMemory>
         ensures containers { self.new.containers ≡ self.old.containers }
+        ensures logs { self.new.logs ≡ self.old.logs }
         ensures timers { self.new.timers ≡ self.old.timers }
         ensures places { self.new.places ≡ self.old.places }
         ensures timer_places { self.old.timer_places ≤ self.new.timer_places }
@@ -82,15 +87,17 @@ impl Table {
     }
 
     /// The container of that number.
-    pub fn find_number(&self, number: u64) -> Option<&Container>
-        ensures { option_copied result ≡ numbered number self.now.containers }
+    pub fn find_number(&self, number: u64) -> Option<&Held>
+        ensures { option_map container_in (option_copied result)
+            ≡ numbered number self.now.containers }
     {
         self.containers.find_number(number)
     }
 
     /// The container of that name.
-    pub fn find_name(&self, name: &str) -> Option<&Container>
-        ensures { option_copied result ≡ named name.now self.now.containers }
+    pub fn find_name(&self, name: &str) -> Option<&Held>
+        ensures { option_map container_in (option_copied result)
+            ≡ named name.now self.now.containers }
     {
         self.containers.find_name(name)
     }
@@ -103,9 +110,9 @@ impl Table {
     }
 
     /// The container at that place, in order of creation.
-    pub fn at(&self, place: usize) -> &Container
+    pub fn at(&self, place: usize) -> &Held
         requires { place < length self.now.containers }
-        ensures { slice_get self.now.containers place ≡ Some result.now }
+        ensures { slice_get self.now.containers place ≡ Some (container_in result.now) }
     {
         self.containers.at(place)
     }
@@ -131,44 +138,75 @@ impl Table {
     }
 
     /// Adds a container, of which number, id and name are new; it takes no memory.
-    pub fn insert(&mut self, container: Container)
-        requires above { AllByRecursion (λ c. c.number < container.number) self.old.containers }
-        requires id { with_id container.id self.old.containers ≡ None }
-        requires name { named container.name self.old.containers ≡ None }
+    pub fn insert(&mut self, held: Held)
+        requires above { AllByRecursion (λ c. c.number < held.container.number)
+            self.old.containers }
+        requires id { with_id held.container.id self.old.containers ≡ None }
+        requires name { named held.container.name self.old.containers ≡ None }
         requires room { length self.old.containers < self.old.places }
         ensures { self.new
-            ≡ record self.old { containers = self.old.containers ++ container ∷ [] } }
+            ≡ record self.old {
+              containers = self.old.containers ++ container_in held ∷ [];
+              logs = self.old.logs ++ room_in held ∷ [];
+            } }
     {
-        self.containers.insert(container)
+        self.containers.insert(held)
     }
 
     /// Gives a container a name, which no container has; it takes no memory.
     pub fn rename(&mut self, number: u64, name: Text)
-        requires stands { IsSome (numbered number self.old.containers) }
-        requires name { named name self.old.containers ≡ None }
+        requires { named name self.old.containers ≡ None }
         ensures { self.new
             ≡ record self.old { containers = renamed number name self.old.containers } }
     {
         self.containers.rename(number, name)
     }
 
-    /// Gives a container another life, and hands out the one that it had; it takes no memory.
+    /// A life without anything, to be swapped for another; it takes no memory.
+    pub fn blank_life(&self) -> Life {
+        self.containers.blank_life()
+    }
+
+    /// Gives a container another life, and hands out the one that it had; its log stays. It takes no
+    /// memory.
     pub fn swap_life(&mut self, number: u64, life: &mut Life)
-        requires { IsSome (numbered number self.old.containers) }
-        ensures life { option_map (λ c. c.life) (numbered number self.old.containers)
-            ≡ Some life.new }
+        ensures life { IsLifeOf life.new (numbered number self.old.containers) }
         ensures rest { self.new
             ≡ record self.old { containers = relived number life.old self.old.containers } }
     {
         self.containers.swap_life(number, life)
     }
 
+    /// Makes room for one record more in a container's log; room that is there stays.
+    pub fn reserve_record(&mut self, number: u64) -> Result<(), NoMemory>
+        ensures rest { self.new ≡ record self.old { logs = self.new.logs } }
+        ensures ok { OnOk result (FitsLog number self.new.containers self.new.logs) }
+        ensures logs { AreNoLess self.old.logs self.new.logs }
+        ensures err { OnErr result (self.new ≡ self.old) }
+    {
+        self.containers.reserve_record(number)
+    }
+
+    /// Adds a record to a container's log; it takes no memory.
+    pub fn push_record(&mut self, number: u64, item: LogRecord)
+        requires { FitsLog number self.old.containers self.old.logs }
+        ensures { self.new
+            ≡ record self.old {
+              containers = recorded number item self.old.containers;
+              logs = rooms_used number self.old.containers self.old.logs;
+            } }
+    {
+        self.containers.push_record(number, item)
+    }
+
     /// Takes a container out; it takes no memory, and its place stays for another.
-    pub fn remove(&mut self, number: u64) -> Container
-        requires { IsSome (numbered number self.old.containers) }
-        ensures value { numbered number self.old.containers ≡ Some result }
+    pub fn remove(&mut self, number: u64) -> Option<Held>
+        ensures value { option_map container_in result ≡ numbered number self.old.containers }
         ensures rest { self.new
-            ≡ record self.old { containers = without number self.old.containers } }
+            ≡ record self.old {
+              containers = without number self.old.containers;
+              logs = rooms_without number self.old.containers self.old.logs;
+            } }
     {
         self.containers.remove(number)
     }
