@@ -7,6 +7,7 @@ use Rattle.std.specs.List.Sorted.{IsBinarySearchResult, IsSearchInRange}
 use Rattle.std.specs.Ordering.{nat_cmp, ordering_then, ordering_index}
 use Rattle.std.specs.Cmp.{IsStrictWeakOrder}
 use Rattle.std.proofs.lemmas.Cmp.{nat_cmp_total, nat_list_cmp_total}
+use Rattle.std.proofs.lemmas.List.{length-map}
 use Rattle.std.proofs.lemmas.List.Sorted.{ranks_by, IsStrictWeakOrder-by_number}
 use Rattle.std.proofs.lemmas.Bool.Decides.{nat_tests}
 use Rattle.std.proofs.lemmas.Option.{slice_get_within, get_or_from_slice_get}
@@ -21,9 +22,11 @@ use Rattle.container_table.specs.Starts.{front}
 use Rattle.container_table.specs.Tables.{numbered, is_above}
 use Rattle.container_table.specs.declared.entries.Key.{Key}
 use Rattle.container_table.specs.declared.entries.Entry.{Entry}
-use Rattle.container_table.specs.Held.{contents, key_text, entry_of, entry_order, found_text, is_numbered_before, is_sorted_before, sorted_by, IsIndex, IsLocated, IsPlaced}
+use Rattle.container_table.specs.Logs.{container_in}
+use Rattle.container_table.specs.declared.held.Held.{Held}
+use Rattle.container_table.specs.Held.{contents, numbers_of, key_text, entry_of, entry_order, found_text, is_numbered_before, is_sorted_before, sorted_by, IsIndex, IsLocated, IsPlaced}
 use Rattle.container_table.proofs.PlacedLemmas.{AreAlone, all_imp, all_in_order, ordered}
-use Rattle.container_table.proofs.SearchLemmas.{Rises, rises_made, found_place, holds_back, parts_back, holds_on, parts_on, find_none, all_of_parts}
+use Rattle.container_table.proofs.SearchLemmas.{Rises, rises_made, found_place, holds_back, parts_back, find_none, all_of_parts}
 use Rattle.container_table.proofs.TextLemmas.{order, level, below, above, whole_order, is_lt-Less, places_rise, same_if_equal}
 
 -- ---- the two orders
@@ -57,18 +60,18 @@ all_numbered (c ∷ cs) h = (rw (own_number c) refl, go cs h.0 (all_numbered cs 
     go [] e f = tt
     go (d ∷ ds) e f = (rw (lower_number c d e.0) f.0, go ds e.1 f.1)
 
-pub find_value : {Z : Type 0} (p : Container → Bool) (bs : List (Box Container Z)) (i : ℕ) (d : Box Container Z) → AreAlone p (contents bs) → HoldsOf (λ c. p c ≡ true) (contents bs) i
-    → find p (contents bs) ≡ Some (get_or bs i d).value
+pub find_value : {Z : Type 0} (p : Container → Bool) (bs : List (Box Held Z)) (i : ℕ) (d : Box Held Z) → AreAlone p (contents bs) → HoldsOf (λ c. p c ≡ true) (contents bs) i
+    → find p (contents bs) ≡ Some (container_in (get_or bs i d).value)
 find_value p [] i d a h = absurd h
 find_value p (b ∷ bs) zero d a h = rw h refl
-find_value {Z} p (b ∷ bs) (suc i) d a h = go (p b.value) refl (find_value p bs i d a.1 h)
+find_value {Z} p (b ∷ bs) (suc i) d a h = go (p (container_in b.value)) refl (find_value p bs i d a.1 h)
   where
     none_passes : (l : List Container) (i : ℕ) → AllByRecursion (λ y. p y ≡ false) l → HoldsOf (λ y. p y ≡ true) l i → ⊥
     none_passes [] i e f = f
     none_passes (y ∷ ys) zero e f = let is : false ≡ true = sym e.0 ∙ f in absurd (cc)
     none_passes (y ∷ ys) (suc i) e f = none_passes ys i e.1 f
 
-    go : (t : Bool) → p b.value ≡ t → find p (contents bs) ≡ Some (get_or bs i d).value → (if t then Some b.value else find p (contents bs)) ≡ Some (get_or bs i d).value
+    go : (t : Bool) → p (container_in b.value) ≡ t → find p (contents bs) ≡ Some (container_in (get_or bs i d).value) → (if t then Some (container_in b.value) else find p (contents bs)) ≡ Some (container_in (get_or bs i d).value)
     go true e more = absurd (none_passes (contents bs) i (a.0 e) h)
     go false e more = more
 
@@ -80,36 +83,36 @@ no_passing p (y ∷ ys) (suc i) e f = no_passing p ys i e.1 f
 same_number : (a n : ℕ) → (a == n) ≡ true → a ≡ n
 same_number a n e = grind (arith, nat_tests, e)
 
-pub number_at : {Z : Type 0} (n : ℕ) (bs : List (Box Container Z)) (i : ℕ) (d : Box Container Z) → HoldsOf (λ c. (c.number == n) ≡ true) (contents bs) i → (get_or bs i d).value.number ≡ n
+pub number_at : {Z : Type 0} (n : ℕ) (bs : List (Box Held Z)) (i : ℕ) (d : Box Held Z) → HoldsOf (λ c. (c.number == n) ≡ true) (contents bs) i → (get_or bs i d).value.container.number ≡ n
 number_at n [] i d h = absurd h
-number_at n (b ∷ bs) zero d h = same_number b.value.number n h
+number_at n (b ∷ bs) zero d h = same_number b.value.container.number n h
 number_at n (b ∷ bs) (suc i) d h = number_at n bs i d h
 
-pub contents_removed : {Z : Type 0} (p : Container → Bool) (bs : List (Box Container Z)) (i : ℕ) → AreAlone p (contents bs) → HoldsOf (λ c. p c ≡ true) (contents bs) i
+pub contents_removed : {Z : Type 0} (p : Container → Bool) (bs : List (Box Held Z)) (i : ℕ) → AreAlone p (contents bs) → HoldsOf (λ c. p c ≡ true) (contents bs) i
     → contents (remove bs i) ≡ remove_first p (contents bs)
 contents_removed p [] i a h = absurd h
 contents_removed p (b ∷ bs) zero a h = rw h refl
-contents_removed {Z} p (b ∷ bs) (suc i) a h = go (p b.value) refl (contents_removed p bs i a.1 h)
+contents_removed {Z} p (b ∷ bs) (suc i) a h = go (p (container_in b.value)) refl (contents_removed p bs i a.1 h)
   where
-    go : (t : Bool) → p b.value ≡ t → contents (remove bs i) ≡ remove_first p (contents bs)
-        → b.value ∷ contents (remove bs i) ≡ (if t then contents bs else b.value ∷ remove_first p (contents bs))
+    go : (t : Bool) → p (container_in b.value) ≡ t → contents (remove bs i) ≡ remove_first p (contents bs)
+        → container_in b.value ∷ contents (remove bs i) ≡ (if t then contents bs else container_in b.value ∷ remove_first p (contents bs))
     go true e more = absurd (no_passing p (contents bs) i (a.0 e) h)
-    go false e more = ap (λ l. b.value ∷ l) more
+    go false e more = ap (λ l. container_in b.value ∷ l) more
 
-pub contents_changed : {Z : Type 0} (p : Container → Bool) (f : Container → Container) (bs : List (Box Container Z)) (i : ℕ) (d : Box Container Z) (w : Box Container Z) → AreAlone p (contents bs)
-    → HoldsOf (λ c. p c ≡ true) (contents bs) i → w.value ≡ f (get_or bs i d).value → contents (set bs i w) ≡ update_first p f (contents bs)
+pub contents_changed : {Z : Type 0} (p : Container → Bool) (f : Container → Container) (bs : List (Box Held Z)) (i : ℕ) (d : Box Held Z) (w : Box Held Z) → AreAlone p (contents bs)
+    → HoldsOf (λ c. p c ≡ true) (contents bs) i → container_in w.value ≡ f (container_in (get_or bs i d).value) → contents (set bs i w) ≡ update_first p f (contents bs)
 contents_changed p f [] i d w a h e = absurd h
 contents_changed p f (b ∷ bs) zero d w a h e = rw h (ap (λ c. c ∷ contents bs) e)
-contents_changed {Z} p f (b ∷ bs) (suc i) d w a h e = go (p b.value) refl (contents_changed p f bs i d w a.1 h e)
+contents_changed {Z} p f (b ∷ bs) (suc i) d w a h e = go (p (container_in b.value)) refl (contents_changed p f bs i d w a.1 h e)
   where
-    go : (t : Bool) → p b.value ≡ t → contents (set bs i w) ≡ update_first p f (contents bs)
-        → b.value ∷ contents (set bs i w) ≡ (if t then f b.value ∷ contents bs else b.value ∷ update_first p f (contents bs))
+    go : (t : Bool) → p (container_in b.value) ≡ t → contents (set bs i w) ≡ update_first p f (contents bs)
+        → container_in b.value ∷ contents (set bs i w) ≡ (if t then f (container_in b.value) ∷ contents bs else container_in b.value ∷ update_first p f (contents bs))
     go true g more = absurd (no_passing p (contents bs) i (a.0 g) h)
-    go false g more = ap (λ l. b.value ∷ l) more
+    go false g more = ap (λ l. container_in b.value ∷ l) more
 
-pub contents_more : {Z : Type 0} (bs : List (Box Container Z)) (b : Box Container Z) → contents (bs ++ b ∷ []) ≡ contents bs ++ b.value ∷ []
+pub contents_more : {Z : Type 0} (bs : List (Box Held Z)) (b : Box Held Z) → contents (bs ++ b ∷ []) ≡ contents bs ++ container_in b.value ∷ []
 contents_more [] b = refl
-contents_more (x ∷ xs) b = ap (λ l. x.value ∷ l) (contents_more xs b)
+contents_more (x ∷ xs) b = ap (λ l. container_in x.value ∷ l) (contents_more xs b)
 
 at_number : (a n : ℕ) → nat_cmp a n ≡ Equal → (a == n) ≡ true
 at_number a n e = let is : a ≡ n = level a n e in grind (arith, nat_tests)
@@ -117,21 +120,34 @@ at_number a n e = let is : a ≡ n = level a n e in grind (arith, nat_tests)
 is_less : (a b : ℕ) → nat_lt a b ≡ true → nat_cmp a b ≡ Less
 is_less a b e = rw e refl
 
-rises_numbers : {Z : Type 0} (n : ℕ) (bs : List (Box Container Z)) → IsInOrder is_numbered_before (contents bs) → Rises (λ b. ordering_index (nat_cmp b.value.number n)) bs
-rises_numbers n [] h = tt
-rises_numbers {Z} n (b ∷ bs) h = (go bs h.0, rises_numbers n bs h.1)
-  where
-    go : (l : List (Box Container Z)) → AllByRecursion (λ d. is_numbered_before b.value d ≡ true) (contents l) → AllByRecursion (λ e. ordering_index (nat_cmp b.value.number n) ≤ ordering_index (nat_cmp e.value.number n)) l
-    go [] e = tt
-    go (x ∷ xs) e = (places_rise nat_cmp nat_cmp_total b.value.number x.value.number n (is_less b.value.number x.value.number e.0), go xs e.1)
+all_same : (P : Container → Type 0) → ((c : Container) → P c) → (cs : List Container) → AllByRecursion P cs
+all_same P f [] = tt
+all_same P f (c ∷ cs) = (f c, all_same P f cs)
 
-pub placed_by_number : {Z : Type 0} (n : ℕ) (bs : List (Box Container Z)) (r : Result ℕ ℕ) → IsInOrder is_numbered_before (contents bs) → IsSearchInRange r (length bs)
-    → IsBinarySearchResult (λ b. nat_cmp b.value.number n) bs r → IsPlaced (contents bs) n r
-placed_by_number {Z} n bs r h bound found = go r (found_place (λ b. nat_cmp b.value.number n) bs r (rises_numbers n bs h) bound found)
-  where
-    go : (r : Result ℕ ℕ) → MatchResult r (HoldsOf (λ b. nat_cmp b.value.number n ≡ Equal) bs) (Parts (λ b. nat_cmp b.value.number n ≡ Less) (λ b. nat_cmp b.value.number n ≡ Greater) bs) → IsPlaced (contents bs) n r
-    go (Ok i) m = holds_on (λ (b : Box Container Z). b.value) (λ b. nat_cmp b.value.number n ≡ Equal) (λ c. (c.number == n) ≡ true) bs i (λ b e. at_number b.value.number n e) m
-    go (Err i) m = parts_on (λ (b : Box Container Z). b.value) (λ b. nat_cmp b.value.number n ≡ Less) (λ b. nat_cmp b.value.number n ≡ Greater) (λ c. nat_cmp c.number n ≡ Less) (λ c. nat_cmp c.number n ≡ Greater) bs i (λ b e. e) (λ b e. e) m
+rises_numbers : (n : ℕ) (cs : List Container) → IsInOrder is_numbered_before cs → Rises (λ m. ordering_index (nat_cmp m n)) (numbers_of cs)
+rises_numbers n cs h =
+    rises_made (λ (c : Container). c.number) (λ m. ordering_index (nat_cmp m n)) (λ c. ordering_index (nat_cmp c.number n)) is_numbered_before cs h
+    (all_same (λ c. ordering_index (nat_cmp c.number n) ≡ ordering_index (nat_cmp c.number n)) (λ c. refl) cs)
+    (λ c d e. places_rise nat_cmp nat_cmp_total c.number d.number n (is_less c.number d.number e))
+
+placed_in : (n : ℕ) (cs : List Container) (r : Result ℕ ℕ) → MatchResult r (HoldsOf (λ m. nat_cmp m n ≡ Equal) (numbers_of cs)) (Parts (λ m. nat_cmp m n ≡ Less) (λ m. nat_cmp m n ≡ Greater) (numbers_of cs)) → IsPlaced cs n r
+placed_in n cs (Ok i) m =
+    holds_back (λ (c : Container). c.number) (λ m. nat_cmp m n ≡ Equal) (λ c. (c.number == n) ≡ true) cs i
+    (all_same (λ c. nat_cmp c.number n ≡ Equal → (c.number == n) ≡ true) (λ c e. at_number c.number n e) cs) m
+placed_in n cs (Err i) m =
+    parts_back (λ (c : Container). c.number) (λ m. nat_cmp m n ≡ Less) (λ m. nat_cmp m n ≡ Greater) (λ c. nat_cmp c.number n ≡ Less) (λ c. nat_cmp c.number n ≡ Greater) cs i
+    (all_same (λ c. nat_cmp c.number n ≡ Less → nat_cmp c.number n ≡ Less) (λ c e. e) cs) (all_same (λ c. nat_cmp c.number n ≡ Greater → nat_cmp c.number n ≡ Greater) (λ c e. e) cs) m
+
+-- what halving finds among the numbers
+pub placed_by_number : (n : ℕ) (cs : List Container) (numbers : List ℕ) (r : Result ℕ ℕ) → IsInOrder is_numbered_before cs → numbers ≡ numbers_of cs → IsSearchInRange r (length numbers)
+    → IsBinarySearchResult (λ m. nat_cmp m n) numbers r → IsPlaced cs n r
+placed_by_number n cs numbers r h e bound found =
+    placed_in n cs r
+    (found_place (λ m. nat_cmp m n) (numbers_of cs) r (rises_numbers n cs h) (subst (λ (ms : List ℕ). IsSearchInRange r (length ms)) e bound)
+    (subst (λ (ms : List ℕ). IsBinarySearchResult (λ m. nat_cmp m n) ms r) e found))
+
+pub length-numbers : {Z : Type 0} (bs : List (Box Held Z)) (numbers : List ℕ) → numbers ≡ numbers_of (contents bs) → length numbers ≡ length bs
+length-numbers bs numbers e = ap length e ∙ length-map (contents bs) (λ c. c.number) ∙ length-map bs (λ b. container_in b.value)
 
 not_less : (a n : ℕ) → nat_cmp a n ≡ Less → (a == n) ≡ false
 not_less a n e = let less : a < n = below a n e in grind (arith, nat_tests)
@@ -139,10 +155,12 @@ not_less a n e = let less : a < n = below a n e in grind (arith, nat_tests)
 not_greater : (a n : ℕ) → nat_cmp a n ≡ Greater → (a == n) ≡ false
 not_greater a n e = let less : n < a = above a n e in grind (arith, nat_tests)
 
+pub no_number : (n : ℕ) (cs : List Container) (i : ℕ) → Parts (λ c. nat_cmp c.number n ≡ Less) (λ c. nat_cmp c.number n ≡ Greater) cs i → AllByRecursion (λ c. (c.number == n) ≡ false) cs
+no_number n cs i h =
+    all_of_parts (λ c. nat_cmp c.number n ≡ Less) (λ c. nat_cmp c.number n ≡ Greater) (λ c. (c.number == n) ≡ false) cs i (λ c e. not_less c.number n e) (λ c e. not_greater c.number n e) h
+
 pub none_numbered : (n : ℕ) (cs : List Container) (i : ℕ) → Parts (λ c. nat_cmp c.number n ≡ Less) (λ c. nat_cmp c.number n ≡ Greater) cs i → numbered n cs ≡ None
-none_numbered n cs i h =
-    find_none (λ c. c.number == n) cs
-    (all_of_parts (λ c. nat_cmp c.number n ≡ Less) (λ c. nat_cmp c.number n ≡ Greater) (λ c. (c.number == n) ≡ false) cs i (λ c e. not_less c.number n e) (λ c e. not_greater c.number n e) h)
+none_numbered n cs i h = find_none (λ c. c.number == n) cs (no_number n cs i h)
 
 -- ---- indexes
 
@@ -206,22 +224,22 @@ below_more n c d ds e = go (nat_lt c.number n) (nat_lt d.number n) (is_above n d
     go true false t f = refl
     go false false t f = refl
 
-above_at : {Z : Type 0} (n : ℕ) (bs : List (Box Container Z)) (i : ℕ) (b : Box Container Z) → IsInOrder is_numbered_before (contents bs) → length bs ≡ suc i → is_above n (contents bs) ≡ nat_lt (get_or bs i b).value.number n
+above_at : {Z : Type 0} (n : ℕ) (bs : List (Box Held Z)) (i : ℕ) (b : Box Held Z) → IsInOrder is_numbered_before (contents bs) → length bs ≡ suc i → is_above n (contents bs) ≡ nat_lt (get_or bs i b).value.container.number n
 above_at n [] i b h e = absurd (omega (arith, e))
-above_at n (x ∷ []) zero b h e = and_true (nat_lt x.value.number n)
+above_at n (x ∷ []) zero b h e = and_true (nat_lt x.value.container.number n)
   where
     and_true : (t : Bool) → (t && true) ≡ t
     and_true true = refl
     and_true false = refl
 above_at n (x ∷ []) (suc i) b h e = absurd (omega (arith, e))
 above_at n (x ∷ y ∷ bs) zero b h e = absurd (omega (arith, e))
-above_at n (x ∷ y ∷ bs) (suc i) b h e = below_more n x.value y.value (contents bs) h.0.0 ∙ above_at n (y ∷ bs) i b h.1 (omega (arith, e))
+above_at n (x ∷ y ∷ bs) (suc i) b h e = below_more n (container_in x.value) (container_in y.value) (contents bs) h.0.0 ∙ above_at n (y ∷ bs) i b h.1 (omega (arith, e))
 
 -- Of containers in order of number the last tells it for all.
-pub above_last : {Z : Type 0} (n : ℕ) (bs : List (Box Container Z)) (b : Box Container Z) → IsInOrder is_numbered_before (contents bs) → Some b ≡ slice_get bs (length bs - 1) → is_above n (contents bs) ≡ nat_lt b.value.number n
+pub above_last : {Z : Type 0} (n : ℕ) (bs : List (Box Held Z)) (b : Box Held Z) → IsInOrder is_numbered_before (contents bs) → Some b ≡ slice_get bs (length bs - 1) → is_above n (contents bs) ≡ nat_lt b.value.container.number n
 above_last n bs b h e =
     let within : length bs - 1 < length bs = slice_get_within bs (length bs - 1) b (sym e) in
-    above_at n bs (length bs - 1) b h (omega (arith, within)) ∙ ap (λ x. nat_lt x.value.number n) (get_or_from_slice_get bs (length bs - 1) b b (sym e))
+    above_at n bs (length bs - 1) b h (omega (arith, within)) ∙ ap (λ x. nat_lt x.value.container.number n) (get_or_from_slice_get bs (length bs - 1) b b (sym e))
 
 pub all_above : (n : ℕ) (cs : List Container) → is_above n cs ≡ true → AllByRecursion (λ c. c.number < n) cs
 all_above n [] e = tt

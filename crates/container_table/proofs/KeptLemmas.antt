@@ -1,7 +1,6 @@
 -- What a change of the containers keeps of their order and their indexes.
 use Rattle.std.proofs.Common.{◌≡◌, ℕ, ◌<◌, Bool, true, false, if◌then◌else◌, List, [], ◌∷◌, ◌++◌, map, Some, None, find, refl, sym, ◌∙◌, subst, ap, arith}
-use Rattle.std.specs.Prelude.{◌==◌, IsSome, is_some}
-use Rattle.container_table.specs.Tables.{numbered}
+use Rattle.std.specs.Prelude.{◌==◌}
 use Rattle.std.specs.List.{AllByRecursion}
 use Rattle.std.proofs.lemmas.Bool.Decides.{nat_tests}
 use Rattle.engine_text.specs.declared.container.Container.{Container}
@@ -10,7 +9,8 @@ use Rattle.container_table.specs.Lists.{remove_first, update_first}
 use Rattle.container_table.specs.Order.{IsInOrder, are_apart, AreApart}
 use Rattle.container_table.specs.declared.entries.Key.{Key}
 use Rattle.container_table.specs.declared.entries.Entry.{Entry}
-use Rattle.container_table.specs.Held.{key_text, entry_of, is_numbered_before, is_sorted_before, sorted_by, IsIndex, IsFresh}
+use Rattle.container_table.specs.declared.boxes.Boxes.{Boxes}
+use Rattle.container_table.specs.Held.{contents, numbers_of, IsBoxed, key_text, entry_of, is_numbered_before, is_sorted_before, sorted_by, IsIndex, IsFresh}
 use Rattle.container_table.proofs.PlacedLemmas.{all_append, all_removed, in_order_changed}
 use Rattle.container_table.proofs.HeldLemmas.{text_order, numbers_alone}
 
@@ -80,7 +80,7 @@ module _ {A : Type 0} where
           go false more = (each_kept x xs h.0, more)
 
 module _ {A B : Type 0} (g : A → B) where
-  map_kept : (p : A → Bool) (f : A → A) → ((x : A) → g (f x) ≡ g x) → (xs : List A) → map g (update_first p f xs) ≡ map g xs
+  pub map_kept : (p : A → Bool) (f : A → A) → ((x : A) → g (f x) ≡ g x) → (xs : List A) → map g (update_first p f xs) ≡ map g xs
   map_kept p f same [] = refl
   map_kept p f same (x ∷ xs) = go (p x) (map_kept p f same xs)
     where
@@ -124,6 +124,12 @@ numbers_kept n f cs number order = in_order_kept is_numbered_before (λ c. c.num
 pub fresh_for : (key : Key) (text : List ℕ) (cs ds : List Container) → cs ≡ ds → find (λ c. same_bytes (key_text key c) text) ds ≡ None → IsFresh key text cs
 fresh_for key text cs ds e none = none_all (λ c. same_bytes (key_text key c) text) cs (ap (find (λ c. same_bytes (key_text key c) text)) e ∙ none)
 
--- one that stands isn't missed
-pub stands_somewhere : (n : ℕ) (cs ds : List Container) → cs ≡ ds → IsSome (numbered n ds) → numbered n cs ≡ None → ⊥
-stands_somewhere n cs ds e stands none = let is : is_some (numbered n cs) ≡ true = subst (λ (es : List Container). IsSome (numbered n es)) (sym e) stands in let un : is_some (numbered n cs) ≡ false = ap is_some none in let f : true ≡ false = sym is ∙ un in absurd (cc)
+-- numbers stay beside the boxes where none changes
+pub boxed_kept : (n : ℕ) (f : Container → Container) (old new : Boxes) → ((c : Container) → (f c).number ≡ c.number) → IsBoxed old → new.numbers ≡ old.numbers
+    → contents new.list.items ≡ update_first (λ c. c.number == n) f (contents old.list.items) → IsBoxed new
+boxed_kept n f old new number boxed same e = record {
+  order = subst (λ (cs : List Container). IsInOrder is_numbered_before cs) (sym e) (numbers_kept n f (contents old.list.items) number boxed.order);
+  numbers =
+      ap (λ v. v.items) same ∙ boxed.numbers ∙ sym (map_kept (λ (c : Container). c.number) (λ c. c.number == n) f number (contents old.list.items))
+      ∙ ap numbers_of (sym e);
+}

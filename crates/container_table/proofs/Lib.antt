@@ -4,6 +4,7 @@ pub mod PlacedLemmas
 pub mod SearchLemmas
 pub mod TextLemmas
 pub mod HeldLemmas
+pub mod BoxLemmas
 pub mod IndexLemmas
 pub mod PrefixLemmas
 pub mod KeptLemmas

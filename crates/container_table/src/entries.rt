@@ -75,7 +75,7 @@ pub fn is_above(held: &Boxes, number: u64) -> bool
     ensures value { result ≡ is_above number (contents held.now.list.items) }
     ensures all { IsTrue result → AllByRecursion (λ c. c.number < number) (contents held.now.list.items) }
 {
-    match held.list.last() {
+    match held.list.as_slice().last() {
         None => true,
         Some(last) => last.container.number < number,
     }

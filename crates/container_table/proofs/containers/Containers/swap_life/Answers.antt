@@ -1,25 +1,31 @@
-use Rattle.std.proofs.Common.{List, ◌∙◌, ap, sym, subst, arith, refl}
+use Rattle.std.proofs.Common.{◌≡◌, ◌<◌, ℕ, Bool, false, List, [], ◌∷◌, ◌++◌, Option, None, ◌∙◌, ap, sym, subst, arith, refl, find, vec_len}
+use Rattle.std.specs.Prelude.{◌==◌, vec_capacity}
+use Rattle.std.specs.List.{AllByRecursion}
 use Rattle.engine_text.specs.declared.container.Container.{Container}
 use Rattle.container_table.specs.Order.{IsInOrder}
-use Rattle.container_table.specs.Held.{contents, is_numbered_before, IsIndex}
+use Rattle.container_table.specs.Tables.{Kept, numbered, renamed}
+use Rattle.container_table.specs.Logs.{container_in, IsLifeOf}
+use Rattle.container_table.specs.Held.{contents, is_numbered_before, IsIndex, IsFresh}
 use Rattle.container_table.specs.declared.entries.Key.TheVariants.{Id, Name}
-use Rattle.container_table.proofs.HeldLemmas.{none_numbered}
-use Rattle.container_table.proofs.KeptLemmas.{numbers_kept, index_kept, stands_somewhere}
+use Rattle.container_table.proofs.SearchLemmas.{find_none}
+use Rattle.container_table.proofs.BoxLemmas.{unnumbered, fits_none, no_less_itself, update_none, remove_none, rooms_all, rooms_unused}
+use Rattle.container_table.proofs.KeptLemmas.{fresh_for, numbers_more, index_kept, boxed_kept, in_order_less}
 use Rattle.container_table.proofs.containers.Containers.swap_life.Goals as goal
 
 pub invariant_of-self : goal.invariant_of-self
 invariant_of-self c =
-    let f : Container → Container = λ d. record d { life = c.args.life.now } in
+    let f : Container → Container = λ d. record d { life = record c.args.life.now { log = d.life.log } } in
     record {
-      numbers = subst (λ (cs : List Container). IsInOrder is_numbered_before cs) (sym c.swap_life.ensures.contents)
-          (numbers_kept c.args.number f (contents c.self.inside.list.items) (λ d. refl) c.self.invariant.numbers);
+      boxed = boxed_kept c.args.number f c.self.inside.boxes c.swap_life.new.boxes (λ d. refl) c.self.invariant.boxed c.swap_life.ensures.numbers c.swap_life.ensures.contents;
       ids = subst (λ (cs : List Container). IsIndex Id cs c.self.inside.ids.items) (sym c.swap_life.ensures.contents)
-          (index_kept Id c.args.number f (contents c.self.inside.list.items) c.self.inside.ids.items (λ d. refl) (λ d. refl) c.self.invariant.numbers c.self.invariant.ids);
+          (index_kept Id c.args.number f (contents c.self.inside.boxes.list.items) c.self.inside.ids.items (λ d. refl) (λ d. refl) c.self.invariant.boxed.order c.self.invariant.ids);
       names = subst (λ (cs : List Container). IsIndex Name cs c.self.inside.names.items) (sym c.swap_life.ensures.contents)
-          (index_kept Name c.args.number f (contents c.self.inside.list.items) c.self.inside.names.items (λ d. refl) (λ d. refl) c.self.invariant.numbers c.self.invariant.names);
+          (index_kept Name c.args.number f (contents c.self.inside.boxes.list.items) c.self.inside.names.items (λ d. refl) (λ d. refl) c.self.invariant.boxed.order c.self.invariant.names);
+      numbers_len = ap vec_len c.swap_life.ensures.numbers ∙ c.self.invariant.numbers_len ∙ sym c.swap_life.ensures.len;
       ids_len = omega arith;
       names_len = omega arith;
       list_room = omega arith;
+      numbers_room = omega (arith, ap vec_capacity c.swap_life.ensures.numbers);
       spare_room = omega arith;
       ids_room = omega arith;
       names_room = omega arith;
@@ -27,10 +33,8 @@ invariant_of-self c =
 
 pub returns-in_default-clause-life : goal.returns-in_default-clause-life
 returns-in_default-clause-life c =
-    absurd (stands_somewhere c.args.number (contents c.as_slice.result.now) c.args.self.now.containers (ap contents c.as_slice.ensures.value ∙ ap (λ k. k.containers) c.self.view_is) c.requires
-    (none_numbered c.args.number (contents c.as_slice.result.now) c.in_default.field-0 c.in_default.ensures.place))
+    subst (λ (o : Option Container). IsLifeOf c.args.life.now o) (sym (find_none (λ d. d.number == c.args.number) c.args.self.now.containers (unnumbered c.args.number (contents c.self.inside.boxes.list.items) c.args.self.now.containers c.in_default.field-0 (ap (λ (k : Kept). k.containers) c.self.view_is) c.in_default.ensures.place))) tt
 
 pub returns-in_default-clause-containers : goal.returns-in_default-clause-containers
 returns-in_default-clause-containers c =
-    absurd (stands_somewhere c.args.number (contents c.as_slice.result.now) c.args.self.now.containers (ap contents c.as_slice.ensures.value ∙ ap (λ k. k.containers) c.self.view_is) c.requires
-    (none_numbered c.args.number (contents c.as_slice.result.now) c.in_default.field-0 c.in_default.ensures.place))
+    sym (update_none (λ d. d.number == c.args.number) (λ d. record d { life = record c.args.life.now { log = d.life.log } }) c.args.self.now.containers (unnumbered c.args.number (contents c.self.inside.boxes.list.items) c.args.self.now.containers c.in_default.field-0 (ap (λ (k : Kept). k.containers) c.self.view_is) c.in_default.ensures.place))
