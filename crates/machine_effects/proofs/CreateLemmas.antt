@@ -1,9 +1,10 @@
 -- The volumes that a create makes, told before it.
-use Rattle.std.proofs.Common.{◌≡◌, ℕ, ◌+◌, ◌<◌, ◌≤◌, ◌||◌, Bool, true, false, List, [], ◌∷◌, ◌++◌, Option, Some, None, Ordering, Less, Equal, Greater, refl, ap, sym, ◌∙◌, subst, arith, find, if◌then◌else◌, length, map, get_or, zero, suc, take, append-nil, append_assoc}
+use Rattle.std.proofs.Common.{◌≡◌, ◌≢◌, ℕ, ◌+◌, ◌<◌, ◌≤◌, ◌||◌, not, Bool, true, false, List, [], ◌∷◌, ◌++◌, Option, Some, None, Ordering, Less, Equal, Greater, refl, ap, sym, ◌∙◌, subst, arith, find, if◌then◌else◌, length, map, filter, append-nil}
 use Rattle.std.specs.Ordering.{nat_cmp, match_ordering}
 use Rattle.std.specs.Cmp.Lexicographic.{slice_cmp, bytes_decides}
 use Rattle.std.specs.List.{AllByRecursion, list_any, remove}
-use Rattle.std.specs.Prelude.{IsTrue, IsSome, slice_index_or}
+use Rattle.std.specs.Prelude.{slice_index_or}
+use Rattle.std.proofs.lemmas.List.{length-map}
 use Rattle.engine_text.specs.Texts.{same_bytes}
 use Rattle.engine_text.specs.declared.container.Container.{Container}
 use Rattle.engine_text.specs.declared.event.Action.TheVariants.{Create}
@@ -16,11 +17,15 @@ use Rattle.volume_table.specs.Volumes as table
 use Rattle.volume_table.specs.declared.answers.Made.{Made}
 use Rattle.machine_model.specs.Calls.Create.{add, make_missing, new_volume, placed, unless_it_stands, volume_named, with_new}
 use Rattle.machine_model.specs.Chain.{Effect, each}
-use Rattle.machine_model.specs.Consistency.{is_there}
+use Rattle.machine_model.specs.Consistency.{AreDistinct, is_there}
 use Rattle.machine_model.specs.EventTexts.{plain_event, volume_event}
 use Rattle.machine_model.specs.State.{State}
+use Rattle.machine_model.proofs.ListLemmas.{all_of_mapped}
 use Rattle.machine_model.proofs.VolumeLemmas.{made, mounts_stand, with_mounts}
-use Rattle.machine_effects.specs.NewVolumes.{is_known, missing_after, missing_volumes, one_more, told_volumes, with_volume, with_volumes}
+use Rattle.machine_effects.proofs.ListLemmas.{All-both, All-imp, All-map}
+use Rattle.machine_effects.proofs.OnceLemmas.{all_once, any_once, distinct_once, length_filter, length_once, once_filter, once_snoc, passed, push}
+use Rattle.machine_effects.proofs.RemoveLemmas.{filter_end, map_end}
+use Rattle.machine_effects.specs.NewVolumes.{AreMissing, missing_volumes, once, stands, told_volumes, with_volumes}
 
 -- ---- whether a volume stands
 
@@ -37,13 +42,6 @@ or_swap true false c = refl
 or_swap false true c = refl
 or_swap false false c = refl
 
-or_assoc : (a b c : Bool) → (a || (b || c)) ≡ ((a || b) || c)
-or_assoc true b c = refl
-or_assoc false b c = refl
-
-or_turn : (a b c : Bool) → (a || (b || c)) ≡ ((b || a) || c)
-or_turn a b c = or_swap a b c ∙ or_assoc b a c
-
 by_order : (p : Volume → Bool) (o : Ordering) (v w : Volume) (ws ps : List Volume) → is_there (find p ps) ≡ (p v || is_there (find p ws))
     → is_there (find p (match_ordering o (v ∷ w ∷ ws) (v ∷ w ∷ ws) (w ∷ ps))) ≡ (p v || is_there (find p (w ∷ ws)))
 by_order p Less v w ws ps e = or_there (p v) v (find p (w ∷ ws))
@@ -55,69 +53,71 @@ found_placed : (p : Volume → Bool) (v : Volume) (ws : List Volume) → is_ther
 found_placed p v [] = or_there (p v) v None
 found_placed p v (w ∷ ws) = by_order p (slice_cmp nat_cmp v.name w.name) v w ws (placed v ws) (found_placed p v ws)
 
-stood_alike : (b : Bool) (name : List ℕ) (v w : Volume) (vs : List Volume) → find (named v.name) vs ≡ Some w → same_bytes v.name name ≡ b → is_there (find (named name) vs) ≡ (b || is_there (find (named name) vs))
-stood_alike false name v w vs e same = refl
-stood_alike true name v w vs e same = subst (λ n. is_there (find (named n) vs) ≡ true) ((bytes_decides v.name name).0 same) (ap is_there e)
+-- ---- those that don't stand, each once
 
-found_with : (name : List ℕ) (o : Option Volume) (v : Volume) (vs : List Volume) → find (named v.name) vs ≡ o → is_there (find (named name) (with_volume o v vs)) ≡ (same_bytes v.name name || is_there (find (named name) vs))
-found_with name None v vs e = found_placed (named name) v vs
-found_with name (Some w) v vs e = stood_alike (same_bytes v.name name) name v w vs e refl
+abbrev made_of : ℕ → List ℕ → Volume
+made_of t name = new_volume name [] t
 
--- a volume stands once these are made, if it is one of them or stood
-known_made : (name : List ℕ) (made vs : List Volume) → is_there (find (named name) (with_volumes made vs)) ≡ is_known name made vs
-known_made name [] vs = refl
-known_made name (v ∷ made) vs =
-    let o : Option Volume = find (named v.name) vs in
-    known_made name made (with_volume o v vs)
-    ∙ (ap (λ b. list_any (named name) made || b) (found_with name o v vs refl) ∙ or_turn (list_any (named name) made) (same_bytes v.name name) (is_there (find (named name) vs)))
+abbrev is_new : List Volume → List ℕ → Bool
+is_new vs name = not (stands vs name)
 
--- one more behind those that are made
-with_more : (made : List Volume) (v : Volume) (vs : List Volume) → with_volumes (made ++ v ∷ []) vs ≡ with_volume (find (named v.name) (with_volumes made vs)) v (with_volumes made vs)
-with_more [] v vs = refl
-with_more (w ∷ made) v vs = with_more made v (with_volume (find (named w.name) vs) w vs)
+abbrev names_of : List Mount → List (List ℕ)
+names_of ms = map (λ m. m.volume) ms
+
+by_both : (a b : Bool) (k : List ℕ) (l : List (List ℕ)) → (if not (a || b) then k ∷ l else l) ≡ (if not b then (if not a then k ∷ l else l) else l)
+by_both true true k l = refl
+by_both true false k l = refl
+by_both false true k l = refl
+by_both false false k l = refl
+
+-- once a volume is in its place, the other names are new
+new_placed : (v : Volume) (vs : List Volume) (ks : List (List ℕ)) → filter (is_new (placed v vs)) ks ≡ filter (λ k. not (same_bytes v.name k)) (filter (is_new vs) ks)
+new_placed v vs [] = refl
+new_placed v vs (k ∷ ks) =
+    ap (λ b. if not b then k ∷ filter (is_new (placed v vs)) ks else filter (is_new (placed v vs)) ks) (found_placed (named k) v vs)
+    ∙ (by_both (same_bytes v.name k) (stands vs k) k (filter (is_new (placed v vs)) ks)
+    ∙ (ap (λ l. if not (stands vs k) then (if not (same_bytes v.name k) then k ∷ l else l) else l) (new_placed v vs ks)
+    ∙ sym (push (λ n. not (same_bytes v.name n)) (not (stands vs k)) k (filter (is_new vs) ks))))
+
+missing_known : (t : ℕ) (m : Mount) (ms : List Mount) (vs : List Volume) → stands vs m.volume ≡ true → missing_volumes t (m ∷ ms) vs ≡ missing_volumes t ms vs
+missing_known t m ms vs e = ap (λ b. map (made_of t) (once (if not b then m.volume ∷ filter (is_new vs) (names_of ms) else filter (is_new vs) (names_of ms)))) e
+
+missing_first : (t : ℕ) (m : Mount) (ms : List Mount) (vs : List Volume) → stands vs m.volume ≡ false
+    → missing_volumes t (m ∷ ms) vs ≡ made_of t m.volume ∷ missing_volumes t ms (placed (made_of t m.volume) vs)
+missing_first t m ms vs e =
+    let ks : List (List ℕ) = filter (is_new vs) (names_of ms) in
+    ap (λ b. map (made_of t) (once (if not b then m.volume ∷ ks else ks))) e
+    ∙ ap (λ l. made_of t m.volume ∷ map (made_of t) l)
+    (sym (once_filter (λ n. not (same_bytes m.volume n)) ks) ∙ ap once (sym (new_placed (made_of t m.volume) vs (names_of ms))))
 
 -- ---- what is made, and told
 
 abbrev pub with_made : List Volume → State → State
 with_made vs s = record s { volumes = with_volumes vs s.volumes }
 
-abbrev Tells : List Volume → List Mount → State → Type 0
-Tells first ms s = ((each make_missing ms (with_made first s)).state ≡ with_made (missing_after s.clock first ms s.volumes) s)
-    × (told_volumes first s.clock ++ (each make_missing ms (with_made first s)).events ≡ told_volumes (missing_after s.clock first ms s.volumes) s.clock)
+abbrev Tells : List Mount → State → Type 0
+Tells ms s = ((each make_missing ms s).state ≡ with_made (missing_volumes s.clock ms s.volumes) s)
+    × ((each make_missing ms s).events ≡ told_volumes (missing_volumes s.clock ms s.volumes) s.clock)
 
-abbrev made_by : Mount → State → Volume
-made_by m s = new_volume m.volume [] s.clock
-
-told_more : (vs : List Volume) (v : Volume) (t : ℕ) (more : List Event) → told_volumes vs t ++ (volume_event Create v.name t ∷ more) ≡ told_volumes (vs ++ v ∷ []) t ++ more
-told_more [] v t more = refl
-told_more (w ∷ vs) v t more = ap (λ l. volume_event Create w.name t ∷ l) (told_more vs v t more)
-
-one_mount : (b : Bool) (o : Option Volume) (first : List Volume) (m : Mount) (ms : List Mount) (s : State) → volume_named m.volume (with_made first s) ≡ o → is_there o ≡ b
-    → Tells (one_more b (made_by m s) first) ms s
-    → ((each make_missing (m ∷ ms) (with_made first s)).state ≡ with_made (missing_after s.clock (one_more b (made_by m s) first) ms s.volumes) s)
-    × (told_volumes first s.clock ++ (each make_missing (m ∷ ms) (with_made first s)).events ≡ told_volumes (missing_after s.clock (one_more b (made_by m s) first) ms s.volumes) s.clock)
-one_mount true None first m ms s e is rest = absurd (cc)
-one_mount false (Some v) first m ms s e is rest = absurd (cc)
-one_mount true (Some v) first m ms s e is rest =
-    let z : State = with_made first s in (
-      ap (λ q. (each make_missing ms (unless_it_stands q m.volume z).state).state) e ∙ rest.0,
-      ap (λ q. told_volumes first s.clock ++ ((unless_it_stands q m.volume z).events ++ (each make_missing ms (unless_it_stands q m.volume z).state).events)) e ∙ rest.1,
+one_mount : (o : Option Volume) (m : Mount) (ms : List Mount) (s : State) → volume_named m.volume s ≡ o → ((z : State) → Tells ms z) → Tells (m ∷ ms) s
+one_mount (Some v) m ms s e rest =
+    let known = missing_known s.clock m ms s.volumes (ap is_there e) in (
+      ap (λ q. (each make_missing ms (unless_it_stands q m.volume s).state).state) e ∙ ((rest s).0 ∙ ap (λ l. with_made l s) (sym known)),
+      ap (λ q. (unless_it_stands q m.volume s).events ++ (each make_missing ms (unless_it_stands q m.volume s).state).events) e
+          ∙ ((rest s).1 ∙ ap (λ l. told_volumes l s.clock) (sym known)),
     )
-one_mount false None first m ms s e is rest =
-    let z : State = with_made first s in
-    let v : Volume = made_by m s in
-    let same : record z { volumes = placed v z.volumes } ≡ with_made (first ++ v ∷ []) s = ap (λ l. record s { volumes = l }) (sym (with_more first v s.volumes ∙ ap (λ q. with_volume q v z.volumes) e)) in (
-      ap (λ q. (each make_missing ms (unless_it_stands q m.volume z).state).state) e ∙ (ap (λ y. (each make_missing ms y).state) same ∙ rest.0),
-      ap (λ q. told_volumes first s.clock ++ ((unless_it_stands q m.volume z).events ++ (each make_missing ms (unless_it_stands q m.volume z).state).events)) e
-          ∙ (ap (λ y. told_volumes first s.clock ++ (volume_event Create m.volume s.clock ∷ (each make_missing ms y).events)) same
-          ∙ (told_more first v s.clock (each make_missing ms (with_made (first ++ v ∷ []) s)).events ∙ rest.1)),
+one_mount None m ms s e rest =
+    let v : Volume = made_of s.clock m.volume in
+    let z : State = record s { volumes = placed v s.volumes } in
+    let first = missing_first s.clock m ms s.volumes (ap is_there e) in (
+      ap (λ q. (each make_missing ms (unless_it_stands q m.volume s).state).state) e ∙ ((rest z).0 ∙ ap (λ l. with_made l s) (sym first)),
+      ap (λ q. (unless_it_stands q m.volume s).events ++ (each make_missing ms (unless_it_stands q m.volume s).state).events) e
+          ∙ (ap (λ l. volume_event Create m.volume s.clock ∷ l) (rest z).1 ∙ ap (λ l. told_volumes l s.clock) (sym first)),
     )
 
-tells : (first : List Volume) (ms : List Mount) (s : State) → Tells first ms s
-tells first [] s = (refl, append-nil (told_volumes first s.clock))
-tells first (m ∷ ms) s =
-    let b : Bool = is_known m.volume first s.volumes in
-    one_mount b (volume_named m.volume (with_made first s)) first m ms s refl (known_made m.volume first s.volumes) (tells (one_more b (made_by m s) first) ms s)
+tells : (ms : List Mount) (s : State) → Tells ms s
+tells [] s = (refl, refl)
+tells (m ∷ ms) s = one_mount (volume_named m.volume s) m ms s refl (λ z. tells ms z)
 
 -- ---- a create
 
@@ -125,7 +125,7 @@ abbrev pub new_volumes : Container → State → List Volume
 new_volumes c s = missing_volumes s.clock c.life.mounts s.volumes
 
 pub added : (c : Container) (s : State) → (add c s).state ≡ with_new c (with_made (new_volumes c s) s)
-added c s = ap (with_new c) (tells [] c.life.mounts s).0
+added c s = ap (with_new c) (tells c.life.mounts s).0
 
 -- a state with these parts is the state after it
 pub added_parts : (c : Container) (s : State) (cs : List Container) (ts : List DueAction) (vs : List Volume) (us : List VolumeUse) → cs ≡ s.containers ++ c ∷ [] → ts ≡ s.timers
@@ -139,8 +139,8 @@ added_parts c s cs ts vs us h1 h2 h3 h4 =
     ∙ sym (added c s))))
 
 pub added_told : (c : Container) (s : State) → (add c s).events ≡ told_volumes (new_volumes c s) s.clock ++ plain_event Create c s.clock ∷ []
-added_told c s = ap (λ l. l ++ plain_event Create c (each make_missing c.life.mounts s).state.clock ∷ []) (tells [] c.life.mounts s).1
-    ∙ ap (λ (z : State). told_volumes (new_volumes c s) s.clock ++ plain_event Create c z.clock ∷ []) (tells [] c.life.mounts s).0
+added_told c s = ap (λ l. l ++ plain_event Create c (each make_missing c.life.mounts s).state.clock ∷ []) (tells c.life.mounts s).1
+    ∙ ap (λ (z : State). told_volumes (new_volumes c s) s.clock ++ plain_event Create c z.clock ∷ []) (tells c.life.mounts s).0
 
 none_each_missing : (ms : List Mount) (s : State) → [] ≡ (each make_missing ms s).died
 none_each_missing [] s = refl
@@ -157,34 +157,80 @@ none_added c s = none_each_missing c.life.mounts s ∙ sym (append-nil (each mak
 pub all_stand : (ms : List Mount) (s : State) → AllByRecursion (λ m. is_there (find (named m.volume) (with_volumes (missing_volumes s.clock ms s.volumes) s.volumes)) ≡ true) ms
 all_stand ms s =
     let same : with_mounts ms s.clock s.volumes ≡ with_volumes (missing_volumes s.clock ms s.volumes) s.volumes =
-    ap (λ (z : State). z.volumes) (sym (made ms s).0 ∙ (tells [] ms s).0) in
+    ap (λ (z : State). z.volumes) (sym (made ms s).0 ∙ (tells ms s).0) in
     subst (λ vs. AllByRecursion (λ (m : Mount). is_there (find (named m.volume) vs) ≡ true) ms) same (mounts_stand ms s.clock s.volumes)
 
 -- at most as many are made as there are mounts
-length_more : (b : Bool) (v : Volume) (vs : List Volume) → length (one_more b v vs) ≤ length vs + 1
-length_more true v vs = omega arith
-length_more false v vs = length_snoc vs
-  where
-    length_snoc : (ws : List Volume) → length (ws ++ v ∷ []) ≤ length ws + 1
-    length_snoc [] = omega arith
-    length_snoc (w ∷ ws) = let e = length_snoc ws in omega (arith, e)
-
-pub few_missing : (t : ℕ) (first : List Volume) (ms : List Mount) (vs : List Volume) → length (missing_after t first ms vs) ≤ length first + length ms
-few_missing t first [] vs = omega arith
-few_missing t first (m ∷ ms) vs =
-    let more = few_missing t (one_more (is_known m.volume first vs) (new_volume m.volume [] t) first) ms vs in
-    let one = length_more (is_known m.volume first vs) (new_volume m.volume [] t) first in omega (arith, more, one)
+pub few_missing : (t : ℕ) (ms : List Mount) (vs : List Volume) → length (missing_volumes t ms vs) ≤ length ms
+few_missing t ms vs =
+    let e : length (missing_volumes t ms vs) ≡ length (once (filter (is_new vs) (names_of ms))) = simp length-map refl in
+    let f : length (names_of ms) ≡ length ms = simp length-map refl in
+    let most = length_once (filter (is_new vs) (names_of ms)) in
+    let few = length_filter (is_new vs) (names_of ms) in omega (arith, e, f, most, few)
 
 -- ---- mount by mount
 
-missing_snoc : (t : ℕ) (first : List Volume) (xs : List Mount) (m : Mount) (vs : List Volume)
-    → missing_after t first (xs ++ m ∷ []) vs ≡ one_more (is_known m.volume (missing_after t first xs vs) vs) (new_volume m.volume [] t) (missing_after t first xs vs)
-missing_snoc t first [] m vs = refl
-missing_snoc t first (x ∷ xs) m vs = missing_snoc t (one_more (is_known x.volume first vs) (new_volume x.volume [] t) first) xs m vs
+any_made : (t : ℕ) (name : List ℕ) (ks : List (List ℕ)) → list_any (named name) (map (made_of t) ks) ≡ list_any (λ k. same_bytes k name) ks
+any_made t name [] = refl
+any_made t name (k ∷ ks) = ap (λ b. same_bytes k name || b) (any_made t name ks)
 
-pub next_missing : (t : ℕ) (ms : List Mount) (i : ℕ) (m : Mount) (vs : List Volume) → take (i + 1) ms ≡ take i ms ++ m ∷ []
-    → one_more (is_known m.volume (missing_volumes t (take i ms) vs) vs) (new_volume m.volume [] t) (missing_volumes t (take i ms) vs) ≡ missing_volumes t (take (i + 1) ms) vs
-next_missing t ms i m vs more = sym (ap (λ l. missing_volumes t l vs) more ∙ missing_snoc t [] (take i ms) m vs)
+-- whether the volume of one more mount is made or stands
+abbrev pub is_known : List ℕ → List Volume → List Volume → Bool
+is_known name made vs = list_any (named name) made || stands vs name
+
+snoc_by : (stood among : Bool) (t : ℕ) (n : List ℕ) (ks : List (List ℕ)) (vs : List Volume) → stands vs n ≡ stood → list_any (λ k. same_bytes k n) (filter (is_new vs) ks) ≡ among
+    → map (made_of t) (once (filter (is_new vs) (ks ++ n ∷ []))) ≡ (if among || stood then map (made_of t) (once (filter (is_new vs) ks)) else map (made_of t) (once (filter (is_new vs) ks)) ++ made_of t n ∷ [])
+snoc_by true true t n ks vs e f = ap (λ l. map (made_of t) (once l)) (filter_end (is_new vs) false ks n (ap not e))
+snoc_by true false t n ks vs e f = ap (λ l. map (made_of t) (once l)) (filter_end (is_new vs) false ks n (ap not e))
+snoc_by false true t n ks vs e f =
+    let new : List (List ℕ) = filter (is_new vs) ks in
+    ap (λ l. map (made_of t) (once l)) (filter_end (is_new vs) true ks n (ap not e))
+    ∙ ap (map (made_of t)) (once_snoc new n ∙ ap (λ b. if b then once new else once new ++ n ∷ []) f)
+snoc_by false false t n ks vs e f =
+    let new : List (List ℕ) = filter (is_new vs) ks in
+    ap (λ l. map (made_of t) (once l)) (filter_end (is_new vs) true ks n (ap not e))
+    ∙ (ap (map (made_of t)) (once_snoc new n ∙ ap (λ b. if b then once new else once new ++ n ∷ []) f) ∙ map_end (made_of t) (once new) n)
+
+missing_snoc : (t : ℕ) (ms : List Mount) (m : Mount) (vs : List Volume)
+    → missing_volumes t (ms ++ m ∷ []) vs ≡ (if is_known m.volume (missing_volumes t ms vs) vs then missing_volumes t ms vs else missing_volumes t ms vs ++ made_of t m.volume ∷ [])
+missing_snoc t ms m vs =
+    let new : List (List ℕ) = filter (is_new vs) (names_of ms) in
+    let among : list_any (named m.volume) (missing_volumes t ms vs) ≡ list_any (λ k. same_bytes k m.volume) new = any_made t m.volume (once new) ∙ any_once (λ k. same_bytes k m.volume) new in
+    ap (λ l. map (made_of t) (once (filter (is_new vs) l))) (map_end (λ (x : Mount). x.volume) ms m)
+    ∙ (snoc_by (stands vs m.volume) (list_any (λ k. same_bytes k m.volume) new) t m.volume (names_of ms) vs refl refl
+    ∙ ap (λ b. if b || stands vs m.volume then missing_volumes t ms vs else missing_volumes t ms vs ++ made_of t m.volume ∷ []) (sym among))
+
+pub known_more : (t : ℕ) (ms : List Mount) (m : Mount) (vs made : List Volume) → made ≡ missing_volumes t ms vs → is_known m.volume made vs ≡ true → made ≡ missing_volumes t (ms ++ m ∷ []) vs
+known_more t ms m vs made e known =
+    let known_here : is_known m.volume (missing_volumes t ms vs) vs ≡ true = sym (ap (λ l. is_known m.volume l vs) e) ∙ known in
+    e ∙ sym (missing_snoc t ms m vs ∙ ap (λ b. if b then missing_volumes t ms vs else missing_volumes t ms vs ++ made_of t m.volume ∷ []) known_here)
+
+pub new_more : (t : ℕ) (ms : List Mount) (m : Mount) (vs made more : List Volume) (v : Volume) → made ≡ missing_volumes t ms vs → is_known m.volume made vs ≡ false
+    → more ≡ made ++ v ∷ [] → v ≡ new_volume m.volume [] t → more ≡ missing_volumes t (ms ++ m ∷ []) vs
+new_more t ms m vs made more v e known is one =
+    let known_here : is_known m.volume (missing_volumes t ms vs) vs ≡ false = sym (ap (λ l. is_known m.volume l vs) e) ∙ known in
+    is ∙ (ap (λ l. l ++ v ∷ []) e ∙ (ap (λ x. missing_volumes t ms vs ++ x ∷ []) one
+    ∙ sym (missing_snoc t ms m vs ∙ ap (λ b. if b then missing_volumes t ms vs else missing_volumes t ms vs ++ made_of t m.volume ∷ []) known_here)))
+
+-- ---- none of them stands
+
+new_stands : (vs : List Volume) (n : List ℕ) (b : Bool) → stands vs n ≡ b → not b ≡ true → stands vs n ≡ false
+new_stands vs n true e no = absurd (cc)
+new_stands vs n false e no = e
+
+named_as : (t : ℕ) (ks : List (List ℕ)) → map (λ (v : Volume). v.name) (map (made_of t) ks) ≡ ks
+named_as t [] = refl
+named_as t (k ∷ ks) = ap (λ l. k ∷ l) (named_as t ks)
+
+pub are_missing : (t : ℕ) (ms : List Mount) (vs : List Volume) → AreMissing (missing_volumes t ms vs) vs
+are_missing t ms vs =
+    let new : List (List ℕ) = filter (is_new vs) (names_of ms) in
+    record {
+      fresh = All-map (λ v. stands vs v.name ≡ false) (made_of t) (once new)
+          (all_once (λ n. stands vs n ≡ false) new
+          (All-imp (λ n. is_new vs n ≡ true) (λ n. stands vs n ≡ false) (λ n e. new_stands vs n (stands vs n) refl e) new (passed (is_new vs) (names_of ms))));
+      apart = subst (λ (l : List (List ℕ)). AreDistinct l) (sym (named_as t (once new))) (distinct_once new);
+    }
 
 -- ---- volume by volume, in the table
 
@@ -192,26 +238,48 @@ pub same_placed : (v : Volume) (vs : List Volume) → table.placed v vs ≡ plac
 same_placed v [] = refl
 same_placed v (w ∷ ws) = ap (λ l. match_ordering (slice_cmp nat_cmp v.name w.name) (v ∷ w ∷ ws) (v ∷ w ∷ ws) (w ∷ l)) (same_placed v ws)
 
-created_by : (o : Option Volume) (v : Volume) (vs : List Volume) → table.after_creation (table.creation o) v vs ≡ with_volume o v vs
-created_by None v vs = same_placed v vs
-created_by (Some w) v vs = refl
+created_by : (o : Option Volume) (r : Made) (v : Volume) (vs new : List Volume) → is_there o ≡ false → r ≡ table.creation o → new ≡ table.after_creation r v vs → new ≡ placed v vs
+created_by None r v vs new no answer is = is ∙ (ap (λ q. table.after_creation q v vs) answer ∙ same_placed v vs)
+created_by (Some w) r v vs new no answer is = absurd (cc)
 
-pub created : (r : Made) (v : Volume) (vs new : List Volume) → r ≡ table.creation (find (named v.name) vs) → new ≡ table.after_creation r v vs → new ≡ with_volume (find (named v.name) vs) v vs
-created r v vs new answer is = is ∙ (ap (λ q. table.after_creation q v vs) answer ∙ created_by (find (named v.name) vs) v vs)
+-- one that doesn't stand is made
+pub created : (r : Made) (v : Volume) (vs new : List Volume) → stands vs v.name ≡ false → r ≡ table.creation (find (named v.name) vs) → new ≡ table.after_creation r v vs → new ≡ placed v vs
+created r v vs new no answer is = created_by (find (named v.name) vs) r v vs new no answer is
 
 ordered_length : (o : Ordering) (v w : Volume) (ws ps : List Volume) → length ps ≡ length ws + 1 → length (match_ordering o (v ∷ w ∷ ws) (v ∷ w ∷ ws) (w ∷ ps)) ≡ length (w ∷ ws) + 1
 ordered_length Less v w ws ps e = omega arith
 ordered_length Equal v w ws ps e = omega arith
 ordered_length Greater v w ws ps e = omega (arith, e)
 
-placed_length : (v : Volume) (ws : List Volume) → length (placed v ws) ≡ length ws + 1
+pub placed_length : (v : Volume) (ws : List Volume) → length (placed v ws) ≡ length ws + 1
 placed_length v [] = refl
 placed_length v (w ∷ ws) = ordered_length (slice_cmp nat_cmp v.name w.name) v w ws (placed v ws) (placed_length v ws)
 
-pub with_length : (o : Option Volume) (v : Volume) (vs : List Volume) → length (with_volume o v vs) ≤ length vs + 1
-with_length None v vs = let e = placed_length v vs in omega (arith, e)
-with_length (Some w) v vs = omega arith
+or_none : (a b : Bool) → a ≡ false → b ≡ false → (a || b) ≡ false
+or_none true b e f = absurd (cc)
+or_none false b e f = f
 
-pub first_made : (items : List Volume) (v d : Volume) (vs : List Volume) → 0 < length items → v ≡ slice_index_or items 0 d → with_volumes (remove items 0) (with_volume (find (named v.name) vs) v vs) ≡ with_volumes items vs
-first_made [] v d vs low e = absurd (omega (arith, low))
-first_made (w ∷ items) v d vs low e = ap (λ (x : Volume). with_volumes items (with_volume (find (named x.name) vs) x vs)) e
+other_name : (a b : List ℕ) (t : Bool) → same_bytes a b ≡ t → a ≢ b → same_bytes a b ≡ false
+other_name a b true e other = absurd (other ((bytes_decides a b).0 e))
+other_name a b false e other = e
+
+rest_missing : (v : Volume) (rest vs : List Volume) → AreMissing (v ∷ rest) vs → AreMissing rest (placed v vs)
+rest_missing v rest vs h = record {
+  fresh = All-imp (λ u. (v.name ≢ u.name) × (stands vs u.name ≡ false)) (λ u. stands (placed v vs) u.name ≡ false)
+      (λ u e. found_placed (named u.name) v vs ∙ or_none (same_bytes v.name u.name) (stands vs u.name) (other_name v.name u.name (same_bytes v.name u.name) refl e.0) e.1)
+      rest (All-both (λ u. v.name ≢ u.name) (λ u. stands vs u.name ≡ false) rest (all_of_mapped (λ n. v.name ≢ n) (λ (u : Volume). u.name) rest h.apart.0) h.fresh.1);
+  apart = h.apart.1;
+}
+
+-- what is left, once the first is in its place
+pub record IsRest (items : List Volume) (v : Volume) (vs : List Volume) : Type 0 where
+  pub fresh : stands vs v.name ≡ false
+  pub rest : AreMissing (remove items 0) (placed v vs)
+  pub same : with_volumes (remove items 0) (placed v vs) ≡ with_volumes items vs
+
+first_of : (w v : Volume) (rest vs : List Volume) → w ≡ v → AreMissing (w ∷ rest) vs → IsRest (w ∷ rest) v vs
+first_of w v rest vs e h = subst (λ (x : Volume). IsRest (w ∷ rest) x vs) e (record { fresh = h.fresh.0; rest = rest_missing w rest vs h; same = refl })
+
+pub first_made : (items : List Volume) (v d : Volume) (vs : List Volume) → 0 < length items → v ≡ slice_index_or items 0 d → AreMissing items vs → IsRest items v vs
+first_made [] v d vs low e h = absurd (omega (arith, low))
+first_made (w ∷ items) v d vs low e h = first_of w v items vs (sym e) h

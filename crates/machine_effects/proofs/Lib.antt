@@ -27,6 +27,7 @@ pub mod MeetToldLemmas
 pub mod KillToldLemmas
 pub mod CallToldLemmas
 pub mod DiedToldLemmas
+pub mod OnceLemmas
 pub mod CreateLemmas
 pub mod NameLemmas
 pub mod IdLemmas

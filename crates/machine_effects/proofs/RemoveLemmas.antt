@@ -57,7 +57,7 @@ pub changed_nowhere : {A : Type 0} (p : A → Bool) (f : A → A) (xs : List A) 
 changed_nowhere p f xs e = sym (map_id xs) ∙ (update_nowhere p f (λ x. x) xs e ∙ ap (update_first p f) (map_id xs))
 
 -- one item further
-filter_end : {A : Type 0} (p : A → Bool) (b : Bool) (xs : List A) (x : A) → p x ≡ b → filter p (xs ++ x ∷ []) ≡ (if b then filter p xs ++ x ∷ [] else filter p xs)
+pub filter_end : {A : Type 0} (p : A → Bool) (b : Bool) (xs : List A) (x : A) → p x ≡ b → filter p (xs ++ x ∷ []) ≡ (if b then filter p xs ++ x ∷ [] else filter p xs)
 filter_end p true [] x e = rw e
 filter_end p false [] x e = rw e
 filter_end p true (y ∷ ys) x e = either (p y) y (filter p (ys ++ x ∷ [])) (filter p ys) x (filter_end p true ys x e)
@@ -67,7 +67,7 @@ filter_end p true (y ∷ ys) x e = either (p y) y (filter p (ys ++ x ∷ [])) (f
     either false y xs ys x e = e
 filter_end p false (y ∷ ys) x e = ap (λ l. if p y then y ∷ l else l) (filter_end p false ys x e)
 
-map_end : {A B : Type 0} (f : A → B) (xs : List A) (x : A) → map f (xs ++ x ∷ []) ≡ map f xs ++ f x ∷ []
+pub map_end : {A B : Type 0} (f : A → B) (xs : List A) (x : A) → map f (xs ++ x ∷ []) ≡ map f xs ++ f x ∷ []
 map_end f [] x = refl
 map_end f (y ∷ ys) x = ap (λ l. f y ∷ l) (map_end f ys x)
 

@@ -27,7 +27,7 @@ containers_in = map container_in
 
 -- The output of an exec.
 abbrev pub output_in : HeldOutput → OwnedLog
-output_in o = record { owner = o.owner; log = o.records.items }
+output_in o = record { owner = o.owner; log = o.log.records }
 
 -- The outputs of execs.
 abbrev pub outputs_in : List HeldOutput → List OwnedLog
@@ -92,4 +92,4 @@ room_in h = vec_capacity h.records - vec_len h.records
 
 -- How many more records the output has room for.
 abbrev pub output_room : HeldOutput → ℕ
-output_room o = vec_capacity o.records - vec_len o.records
+output_room o = o.log.room

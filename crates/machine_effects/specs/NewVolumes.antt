@@ -1,6 +1,6 @@
 -- Which volumes a create makes (Docker Engine API v1.43, ContainerCreate; own: those of its mounts that don't stand).
-use Rattle.std.specs.Prelude.{◌≡◌, ℕ, ◌+◌, ◌<◌, ◌≤◌, ◌^◌, ◌||◌, length, map, Bool, true, false, List, [], ◌∷◌, ◌++◌, Option, Some, None, find}
-use Rattle.std.specs.List.{list_any}
+use Rattle.std.specs.Prelude.{◌≡◌, ℕ, ◌+◌, ◌<◌, ◌≤◌, ◌^◌, length, map, filter, not, Bool, false, List, [], ◌∷◌, None, find}
+use Rattle.std.specs.List.{AllByRecursion, fold}
 use Rattle.engine_text.specs.Texts.{same_bytes}
 use Rattle.engine_text.specs.declared.container.Container.{Container}
 use Rattle.engine_text.specs.declared.event.Action.TheVariants.{Create}
@@ -8,38 +8,32 @@ use Rattle.engine_text.specs.declared.event.Event.{Event}
 use Rattle.engine_text.specs.declared.mounts.Mount.{Mount}
 use Rattle.engine_text.specs.declared.volume.Volume.{Volume}
 use Rattle.machine_model.specs.Calls.Create.{new_volume, placed}
-use Rattle.machine_model.specs.Consistency.{is_there}
+use Rattle.machine_model.specs.Consistency.{AreDistinct, is_there}
 use Rattle.machine_model.specs.EventTexts.{volume_event}
 use Rattle.machine_effects.specs.Memory.{Memory}
 
--- With the volume, unless one of its name stands.
-abbrev pub with_volume : Option Volume → Volume → List Volume → List Volume
-with_volume None v vs = placed v vs
-with_volume (Some w) v vs = vs
+-- Whether a volume of that name stands.
+abbrev pub stands : List Volume → List ℕ → Bool
+stands vs name = is_there (find (λ v. same_bytes v.name name) vs)
 
--- With these, one after the other.
-abbrev pub with_volumes : List Volume → List Volume → List Volume
-with_volumes [] vs = vs
-with_volumes (v ∷ made) vs = with_volumes made (with_volume (find (λ w. same_bytes w.name v.name) vs) v vs)
+-- Each of these names once.
+abbrev pub once : List (List ℕ) → List (List ℕ)
+once [] = []
+once (name ∷ names) = name ∷ filter (λ n. not (same_bytes name n)) (once names)
 
--- Whether a volume of that name is among those that are made, or stands.
-abbrev pub is_known : List ℕ → List Volume → List Volume → Bool
-is_known name made vs = list_any (λ v. same_bytes v.name name) made || is_there (find (λ v. same_bytes v.name name) vs)
-
--- One more is made, unless it is known.
-abbrev pub one_more : Bool → Volume → List Volume → List Volume
-one_more true v made = made
-one_more false v made = made ++ v ∷ []
-
--- Those of these mounts that don't stand, each once, behind those that are made.
-abbrev pub missing_after : ℕ → List Volume → List Mount → List Volume → List Volume
-missing_after moment made [] vs = made
-missing_after moment made (m ∷ ms) vs =
-    missing_after moment (one_more (is_known m.volume made vs) (new_volume m.volume [] moment) made) ms vs
-
--- Those of these mounts that don't stand, each once.
+-- The volumes of these mounts that don't stand, each once, made at a moment.
 abbrev pub missing_volumes : ℕ → List Mount → List Volume → List Volume
-missing_volumes moment ms vs = missing_after moment [] ms vs
+missing_volumes moment ms vs =
+    map (λ name. new_volume name [] moment) (once (filter (λ name. not (stands vs name)) (map (λ m. m.volume) ms)))
+
+-- None of these stands, and no two have one name.
+pub record AreMissing (made vs : List Volume) : Type 0 where
+  pub fresh : AllByRecursion (λ v. stands vs v.name ≡ false) made
+  pub apart : AreDistinct (map (λ v. v.name) made)
+
+-- With these, each in its place by name.
+abbrev pub with_volumes : List Volume → List Volume → List Volume
+with_volumes made vs = fold (λ ws v. placed v ws) vs made
 
 -- The event create of each of these.
 abbrev pub told_volumes : List Volume → ℕ → List Event

@@ -1,10 +1,10 @@
 // The volumes that a create makes, and the references to them.
-ghost use Rattle.std.specs.Prelude.{◌≡◌, ℕ, ◌+◌, ◌≤◌, [], ◌++◌, IsTrue, IfOk, OnOk, find, length, map, vec_len};
+ghost use Rattle.std.specs.Prelude.{◌≡◌, ℕ, ◌+◌, ◌≤◌, ◌||◌, [], ◌∷◌, ◌++◌, List, IsTrue, IfOk, OnOk, find, length, map, vec_len};
 ghost use Rattle.std.specs.List.{AllByRecursion, list_any};
 ghost use Rattle.engine_text.specs.Texts.{same_bytes};
-ghost use Rattle.machine_model.specs.Calls.Create.{new_volume};
+ghost use Rattle.engine_text.specs.declared.mounts.Mount.{Mount};
 ghost use Rattle.machine_model.specs.Consistency.{is_there};
-ghost use Rattle.machine_effects.specs.NewVolumes.{is_known, missing_volumes, one_more, with_volumes};
+ghost use Rattle.machine_effects.specs.NewVolumes.{missing_volumes, stands, with_volumes, AreMissing};
 
 use engine_text::{Mount, NoMemory, Pairs, Text, Volume};
 use std::alloc::Global;
@@ -17,7 +17,7 @@ fn has_name(v: &Volume, name: &str) -> bool
 }
 
 fn stands(volumes: &Volumes, name: &str) -> bool
-    ensures { result ≡ is_there (find (λ v. same_bytes v.name name.now) volumes.now.volumes) }
+    ensures { result ≡ stands volumes.now.volumes name.now }
 {
     match volumes.find(name) {
         None => false,
@@ -31,28 +31,31 @@ fn is_among(made: &[Volume], name: &str) -> bool
     made.iter().any(|v| has_name(v, name))
 }
 
+// Whether the volume of that name is made, or stands.
 fn is_known(volumes: &Volumes, made: &[Volume], name: &str) -> bool
-    ensures { result ≡ is_known name.now made.now volumes.now.volumes }
+    ensures { result
+        ≡ (list_any (λ v. same_bytes v.name name.now) made.now || stands volumes.now.volumes name.now) }
 {
     is_among(made, name) || stands(volumes, name)
 }
 
-// One more is made, unless it is known.
+// The mount's volume is made too, unless it is or stands.
 fn note_missing(
     alloc: Global,
     volumes: &Volumes,
-    name: &Text,
+    mount: &Mount,
     moment: u64,
     made: &mut Vec<Volume>,
 ) -> Result<(), NoMemory>
-    ensures { OnOk result (made.new.items ≡ one_more (is_known name.now made.old.items volumes.now.volumes)
-        (new_volume name.now [] moment) made.old.items) }
+    ensures { OnOk result ((before : List Mount)
+        → made.old.items ≡ missing_volumes moment before volumes.now.volumes
+        → made.new.items ≡ missing_volumes moment (before ++ mount.now ∷ []) volumes.now.volumes) }
 {
-    if is_known(volumes, made.as_slice(), name.as_str()) {
+    if is_known(volumes, made.as_slice(), mount.volume.as_str()) {
         return Ok(());
     }
     let volume = Volume {
-        name: name.copy(alloc)?,
+        name: mount.volume.copy(alloc)?,
         labels: Pairs::new(alloc),
         created: moment,
     };
@@ -73,14 +76,15 @@ pub fn missing_volumes(
 {
     let mut made = Vec::new(alloc);
     for m in mounts {
-        note_missing(alloc, volumes, &m.volume, moment, &mut made)?;
+        note_missing(alloc, volumes, m, moment, &mut made)?;
     }
     Ok(made)
 }
 
-/// These are made, each unless one of its name stands; there was room for them.
+/// These are made; there was room for them.
 pub fn make_volumes(volumes: &mut Volumes, mut made: Vec<Volume>)
-    requires { length volumes.old.volumes + vec_len made ≤ volumes.old.room }
+    requires missing { AreMissing made.items volumes.old.volumes }
+    requires room { length volumes.old.volumes + vec_len made ≤ volumes.old.room }
     ensures volumes { volumes.new.volumes ≡ with_volumes made.items volumes.old.volumes }
     ensures uses { volumes.new.uses ≡ volumes.old.uses }
     ensures use_room { volumes.new.use_room ≡ volumes.old.use_room }

@@ -12,7 +12,7 @@ ghost use Rattle.machine_effects.specs.declared.held.HeldOutput.{HeldOutput};
 
 use super::execs::Execs;
 use super::held::HeldOutput;
-use engine_text::{Bytes, Log, LogRecord, NoMemory, OwnedLog, Owner, Stream, same_owner};
+use engine_text::{Bytes, LogRecord, NoMemory, OwnedLog, Owner, Stream, same_owner};
 use std::alloc::Global;
 use std::marker::Model;
 
@@ -56,10 +56,10 @@ fn move_at(held: &mut Vec<HeldOutput>, place: usize, into: &mut Vec<OwnedLog>)
     ensures more { vec_len into.new ≡ vec_len into.old + 1 }
     ensures capacity { vec_capacity into.new ≡ vec_capacity into.old }
 {
-    let HeldOutput { owner, records } = held.remove(place);
+    let HeldOutput { owner, log } = held.remove(place);
     into.push_reserved(OwnedLog {
         owner,
-        log: Log::from_vec(records),
+        log: log.close(),
     });
 }
 
@@ -98,12 +98,16 @@ fn write(held: &mut Vec<HeldOutput>, number: u64, written: LogRecord)
 {
     if let Some(i) = place_of(held.as_slice(), number) {
         let h = &mut held[i];
-        h.records.push_reserved(written);
+        h.log.push_reserved(written);
     }
 }
 
 // Makes room for one more record of the exec's output.
-fn reserve_record(held: &mut Vec<HeldOutput>, number: u64) -> Result<(), NoMemory>
+fn reserve_record(
+    held: &mut Vec<HeldOutput>,
+    alloc: Global,
+    number: u64,
+) -> Result<(), NoMemory>
     ensures same { outputs_in held.new.items ≡ outputs_in held.old.items }
     ensures room { OnOk result
         (FitsOutput number (outputs_in held.new.items) (map output_room held.new.items)) }
@@ -112,10 +116,7 @@ fn reserve_record(held: &mut Vec<HeldOutput>, number: u64) -> Result<(), NoMemor
         return Ok(());
     };
     let h = &mut held[i];
-    match h.records.reserve(1) {
-        Ok(()) => Ok(()),
-        Err(_) => Err(NoMemory),
-    }
+    h.log.reserve(alloc, 1)
 }
 
 impl Outputs {
@@ -162,11 +163,12 @@ impl Outputs {
         };
         write(&mut self.held, number, written);
     }
+
     /// Makes room for one more record of the exec's output.
-    pub fn reserve_record(&mut self, number: u64) -> Result<(), NoMemory>
+    pub fn reserve_record(&mut self, alloc: Global, number: u64) -> Result<(), NoMemory>
         ensures outputs { self.new.outputs ≡ self.old.outputs }
         ensures room { OnOk result (FitsOutput number self.new.outputs self.new.rooms) }
     {
-        reserve_record(&mut self.held, number)
+        reserve_record(&mut self.held, alloc, number)
     }
 }

@@ -33,14 +33,14 @@ impl Tables {
     }
 
     // Room for one more record of what the owner's process writes.
-    fn reserve_record(&mut self, owner: Owner) -> Result<(), NoMemory>
+    fn reserve_record(&mut self, alloc: Global, owner: Owner) -> Result<(), NoMemory>
         ensures state { self.new.state ≡ self.old.state }
         ensures kept { OnOk result (HasRecordRoom owner self.new) }
         ensures room { self.new.room ≡ self.old.room }
     {
         match owner {
-            Owner::Container(number) => self.containers.reserve_record(number),
-            Owner::Exec(number) => self.outputs.reserve_record(number),
+            Owner::Container(number) => self.containers.reserve_record(alloc, number),
+            Owner::Exec(number) => self.outputs.reserve_record(alloc, number),
         }
     }
 
@@ -51,7 +51,7 @@ impl Tables {
         ensures moments { self.new.room.moments ≡ self.old.room.moments }
     {
         self.reserve_end_of(owner)?;
-        self.reserve_record(owner)?;
+        self.reserve_record(alloc, owner)?;
         let length = self.kernel.record_length(owner);
         self.kernel.reserve(alloc, 2, length)
     }

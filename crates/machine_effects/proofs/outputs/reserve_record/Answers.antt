@@ -13,13 +13,13 @@ returns-in_default-clause-room c = no_place (λ (o : OwnedLog). same_owner o.own
 
 pub returns-in-Ok-clause-same : goal.returns-in-Ok-clause-same
 returns-in-Ok-clause-same c = set_same output_in c.index_mut-h.result.now _ c.args.held.now.items c.in-Some.i
-    (ap (λ (l : List LogRecord). record (output_in c.index_mut-h.result.now) { log = l }) c.reserve.ensures.items ∙ ap (λ (x : HeldOutput). output_in x) c.index_mut-h.ensures.value)
+    (ap (λ (l : List LogRecord). record (output_in c.index_mut-h.result.now) { log = l }) c.reserve.ensures.records ∙ ap (λ (x : HeldOutput). output_in x) c.index_mut-h.ensures.value)
 
 pub returns-in-Err-clause-same : goal.returns-in-Err-clause-same
 returns-in-Err-clause-same c = set_same output_in c.index_mut-h.result.now _ c.args.held.now.items c.in-Some.i
-    (ap (λ (l : List LogRecord). record (output_in c.index_mut-h.result.now) { log = l }) c.reserve.ensures.items ∙ ap (λ (x : HeldOutput). output_in x) c.index_mut-h.ensures.value)
+    (ap (λ (l : List LogRecord). record (output_in c.index_mut-h.result.now) { log = l }) c.reserve.ensures.records ∙ ap (λ (x : HeldOutput). output_in x) c.index_mut-h.ensures.value)
 
 pub returns-in-Ok-clause-room : goal.returns-in-Ok-clause-room
 returns-in-Ok-clause-room c =
     made_at (λ (o : OwnedLog). same_owner o.owner (Owner.Exec c.args.number)) output_in output_room c.args.held.now.items c.in-Some.i _
-    (rw (← c.as_slice.ensures.value) (sym c.place_of.ensures ∙ c.in-Some.is)) (returns-in-Ok-clause-same c) (omega (arith, c.in-Ok.ensures.ok, c.in-Ok.ensures.len))
+    (rw (← c.as_slice.ensures.value) (sym c.place_of.ensures ∙ c.in-Some.is)) (returns-in-Ok-clause-same c) (omega (arith, c.in-Ok.ensures.ok))

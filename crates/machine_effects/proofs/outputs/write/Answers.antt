@@ -1,4 +1,4 @@
-use Rattle.std.proofs.Common.{◌≡◌, ◌<◌, ◌∷◌, [], Some, List, sym, ap, ◌∙◌, position, arith, vec_len, vec_capacity}
+use Rattle.std.proofs.Common.{◌≡◌, ◌<◌, ◌∷◌, [], Some, List, sym, ap, ◌∙◌, position}
 use Rattle.std.proofs.lemmas.List.Quantifiers.{position-Some}
 use Rattle.engine_text.specs.Owner.{same_owner}
 use Rattle.engine_text.specs.declared.log.LogRecord.{LogRecord}
@@ -17,12 +17,12 @@ push_reserved-requires c =
     let q = position-Some (λ (x : HeldOutput). same_owner x.owner (Owner.Exec c.args.number)) c.args.held.now.items c.in-Some.i c.index_mut-h.result.now at in
     let room : 0 < output_room c.index_mut-h.result.now = room_of output_room c.args.held.now.items c.in-Some.i c.index_mut-h.result.now q.0 c.index_mut-h.ensures.value
     (c.requires c.in-Some.i (place_in (λ (x : OwnedLog). same_owner x.owner (Owner.Exec c.args.number)) output_in c.args.held.now.items ∙ at)) in
-    omega (arith, room)
+    room
 
 pub returns-in-Some : goal.returns-in-Some
 returns-in-Some c = set_updated (λ (d : OwnedLog). same_owner d.owner (Owner.Exec c.args.number)) (with_record c.args.written) output_in c.index_mut-h.result.now _ c.args.held.now.items c.in-Some.i
     (rw (← c.as_slice.ensures.value) (sym c.place_of.ensures ∙ c.in-Some.is))
-    (ap (λ (l : List LogRecord). record (output_in c.index_mut-h.result.now) { log = l }) c.push_reserved.ensures.items
+    (ap (λ (l : List LogRecord). record (output_in c.index_mut-h.result.now) { log = l }) c.push_reserved.ensures.records
     ∙ ap (λ (x : HeldOutput). with_record c.args.written (output_in x)) c.index_mut-h.ensures.value)
 
 pub returns-in_default : goal.returns-in_default

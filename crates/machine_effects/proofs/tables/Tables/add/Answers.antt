@@ -12,19 +12,25 @@ use Rattle.machine_model.specs.Consistency.{is_there}
 use Rattle.machine_model.specs.State.{State}
 use Rattle.machine_effects.specs.Held.{container_in}
 use Rattle.machine_effects.specs.Memory.{Memory}
-use Rattle.machine_effects.specs.NewVolumes.{missing_volumes, with_volumes}
+use Rattle.machine_effects.specs.NewVolumes.{AreMissing, missing_volumes, with_volumes}
 use Rattle.machine_effects.specs.Views.Tables.{state_of}
-use Rattle.machine_effects.proofs.CreateLemmas.{added_parts, all_stand, few_missing, new_volumes}
+use Rattle.machine_effects.proofs.CreateLemmas.{added_parts, all_stand, are_missing, few_missing, new_volumes}
 use Rattle.machine_effects.proofs.tables.Tables.add.Goals as goal
 
-pub make_volumes-requires : goal.make_volumes-requires
-make_volumes-requires c =
+pub make_volumes-requires-clause-missing : goal.make_volumes-requires-clause-missing
+make_volumes-requires-clause-missing c =
+    let s : State = c.args.self.now.state in
+    subst (λ (l : List Volume). AreMissing l c.self.inside.volumes.volumes) (sym c.requires.volumes)
+    (subst (λ (m : Memory). AreMissing (missing_volumes s.clock c.args.held.container.life.mounts s.volumes) m.state.volumes) (sym c.self.view_is) (are_missing s.clock c.args.held.container.life.mounts s.volumes))
+
+pub make_volumes-requires-clause-room : goal.make_volumes-requires-clause-room
+make_volumes-requires-clause-room c =
     let s : State = c.args.self.now.state in
     let ms : List Mount = c.args.held.container.life.mounts in
     let stood : length c.self.inside.volumes.volumes ≡ length s.volumes = ap (λ (m : Memory). length m.state.volumes) c.self.view_is in
     let room : c.self.inside.volumes.room ≡ c.args.self.now.volumes = ap (λ (m : Memory). m.volumes) c.self.view_is in
     let made : length c.args.volumes.items ≡ length (missing_volumes s.clock ms s.volumes) = ap length c.requires.volumes in
-    let few = few_missing s.clock [] ms s.volumes in
+    let few = few_missing s.clock ms s.volumes in
     let most = c.requires.room.volumes in
     omega (arith, stood, room, made, few, most)
 
