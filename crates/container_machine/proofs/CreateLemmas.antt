@@ -1,22 +1,33 @@
 -- A create that is made ready is the create's outcome.
-use Rattle.std.proofs.Common.{◌≡◌, ℕ, List, [], ◌∷◌, ◌++◌, refl, ap, sym, ◌∙◌}
+use Rattle.std.proofs.Common.{◌≡◌, ◌≢◌, ℕ, ◌+◌, ◌<◌, ◌^◌, Bool, true, false, None, List, [], ◌∷◌, ◌++◌, map, refl, ap, sym, ◌∙◌, arith}
+use Rattle.std.specs.Cmp.Lexicographic.{bytes_decides}
+use Rattle.std.specs.List.{AllByRecursion}
 use Rattle.std.specs.Prelude.{codes}
+use Rattle.container_table.specs.Tables.{with_id}
 use Rattle.engine_text.specs.Id.{id_of}
+use Rattle.engine_text.specs.Texts.{same_bytes}
 use Rattle.engine_text.specs.declared.call.CreateSpec.{CreateSpec}
 use Rattle.engine_text.specs.declared.container.Container.{Container}
 use Rattle.engine_text.specs.declared.container.Life.{Life}
 use Rattle.engine_text.specs.declared.event.Action.TheVariants.{Create}
 use Rattle.engine_text.specs.declared.event.Event.{Event}
+use Rattle.engine_text.specs.declared.exec.Exec.{Exec}
 use Rattle.engine_text.specs.declared.log.LogRecord.{LogRecord}
 use Rattle.engine_text.specs.declared.reply.Reply.TheVariants.{Answer}
 use Rattle.engine_text.specs.declared.volume.Volume.{Volume}
 use Rattle.machine_model.specs.Calls.Create.{add, created, new_container, new_life}
 use Rattle.machine_model.specs.Chain.{Effect}
+use Rattle.machine_model.proofs.IdLemmas.{id_of_below}
+use Rattle.machine_model.proofs.ListLemmas.{all_front, all_of_mapped, found_nowhere}
+use Rattle.machine_model.specs.Consistency.{IsConsistent}
 use Rattle.machine_model.specs.EventTexts.{plain_event}
+use Rattle.machine_model.specs.Names.{holder}
 use Rattle.machine_model.specs.State.{State}
 use Rattle.machine_model.specs.Step.{at_moment}
 use Rattle.machine_effects.specs.NewVolumes.{missing_volumes, told_volumes}
+use Rattle.machine_effects.proofs.ListLemmas.{All-both, All-imp}
 use Rattle.machine_effects.proofs.CreateLemmas.{added_told}
+use Rattle.container_machine.specs.Calls.Create.{IsNew}
 use Rattle.container_machine.specs.Making.{Makes}
 use Rattle.container_machine.specs.Plans.{plan_effect, Brings}
 use Rattle.container_machine.specs.declared.prepared.Prepared.{Prepared}
@@ -29,6 +40,11 @@ new_held number id name life log asked t s h1 h2 h3 h4 =
     ∙ (ap (λ (i : List ℕ). record { number = s.next_number; id = i; name = name; life = record life { log = log } }) h2
     ∙ (ap (λ (l : Life). record { number = s.next_number; id = id_of s.seed s.next_number; name = name; life = record l { log = log } }) h3
     ∙ ap (λ (l : List LogRecord). record { number = s.next_number; id = id_of s.seed s.next_number; name = name; life = record (new_life asked t) { log = l } }) h4))
+
+-- what the plan brings
+pub is_new : (d : Container) (made : List Volume) (t : ℕ) (s : State) → d.number ≡ s.next_number → d.id ≡ id_of s.seed s.next_number → holder d.name s.containers ≡ None
+    → made ≡ missing_volumes t d.life.mounts s.volumes → IsNew d made t s
+is_new d made t s number id name volumes = record { number = number; id = id; name = name; volumes = volumes }
 
 pub makes_create : (p : Prepared) (t : ℕ) (s : State) (name : List ℕ) (asked : CreateSpec) (d : Container) (volumes : List Volume) (empty one : List Event) (e : Event)
     → d ≡ new_container name asked (at_moment t s) → p.moment ≡ t → ((z : State) → plan_effect p.plan z ≡ add d z) → Brings p.plan t s
@@ -49,3 +65,25 @@ makes_create p t s name asked d volumes empty one e is moment plan brings reply 
       reply = reply ∙ ap (λ (x : Container). Answer 201 (codes "{\"Id\":\"" ++ x.id ++ codes "\",\"Warnings\":[]}")) is;
       brings = brings;
     }
+
+-- ---- in a consistent state it may be added
+
+same_either : (b : Bool) (m n : List ℕ) → same_bytes m n ≡ b → m ≢ n → same_bytes m n ≡ false
+same_either true m n e other = absurd (other ((bytes_decides m n).0 e))
+same_either false m n e other = e
+
+-- numbers lie below the next
+numbers_below : (s : State) → IsConsistent s → AllByRecursion (λ (d : Container). d.number < s.next_number) s.containers
+numbers_below s k = all_of_mapped (λ n. n < s.next_number) (λ (d : Container). d.number) s.containers
+    (all_front (λ n. n < s.next_number) (map (λ (d : Container). d.number) s.containers) (map (λ (x : Exec). x.number) s.execs) k.names.below)
+
+pub is_above : (n : ℕ) (s : State) → IsConsistent s → n ≡ s.next_number → AllByRecursion (λ (d : Container). d.number < n) s.containers
+is_above n s k e = All-imp (λ (d : Container). d.number < s.next_number) (λ (d : Container). d.number < n) (λ d low. omega (arith, low, e)) s.containers (numbers_below s k)
+
+pub has_new_id : (id : List ℕ) (s : State) → IsConsistent s → id ≡ id_of s.seed s.next_number → with_id id s.containers ≡ None
+has_new_id id s k e =
+    let most : s.next_number < 2 ^ 64 = omega (arith, k.numbers.next_number, k.counts.steps) in
+    found_nowhere (λ (d : Container). same_bytes d.id id) s.containers
+    (All-imp (λ (d : Container). (d.number < s.next_number) × (d.id ≡ id_of s.seed d.number)) (λ (d : Container). same_bytes d.id id ≡ false)
+    (λ d h. same_either (same_bytes d.id id) d.id id refl (λ same. id_of_below s.seed d.number s.next_number d.id h.0 most h.1 (same ∙ e)))
+    s.containers (All-both (λ (d : Container). d.number < s.next_number) (λ (d : Container). d.id ≡ id_of s.seed d.number) s.containers (numbers_below s k) k.names.container_ids))

@@ -14,6 +14,7 @@ use Rattle.machine_effects.specs.Fit.{AreFew, AreTimely, CanSettle}
 use Rattle.machine_effects.specs.Memory.{Memory, HasRoom, standing}
 use Rattle.machine_effects.specs.declared.kit.Kit.{Kit}
 use Rattle.machine_effects.proofs.ListLemmas.{All-imp}
+use Rattle.container_machine.proofs.CreateLemmas.{has_new_id, is_above}
 use Rattle.container_machine.specs.Making.{Makes}
 use Rattle.container_machine.specs.Parts.{MachineParts}
 use Rattle.container_machine.specs.Plans.{plan_effect, Brings, Fits, HasRoomFor, Serves}
@@ -44,8 +45,11 @@ fits : (plan : Plan) (t : ℕ) (m : Memory) → Brings plan t m.state → IsCons
 fits Plan.Nothing t m brings k at room = tt
 fits (Plan.Create held volumes) t m brings k at room = record {
   room = record { place = room.place; volumes = room.volumes; uses = room.uses };
-  volumes = brings;
+  volumes = brings.volumes;
   number = omega (arith, k.numbers.next_number, k.counts.steps);
+  above = is_above held.container.number m.state k brings.number;
+  id = has_new_id held.container.id m.state k brings.id;
+  name = brings.name;
 }
 fits (Plan.Kill n sent last kit) t m brings k at room = record {
   signal = brings.1;

@@ -1,3 +1,4 @@
+pub mod Create
 pub mod Kill
 pub mod List
 pub mod Start

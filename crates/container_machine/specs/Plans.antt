@@ -8,10 +8,11 @@ use Rattle.machine_model.specs.Calls.Pause.{pause}
 use Rattle.machine_effects.specs.Fit.{IsScriptOf, exec_numbers, outputs_of}
 use Rattle.machine_effects.specs.Held.{container_in}
 use Rattle.machine_effects.specs.Memory.{Memory, HasRoom}
-use Rattle.machine_effects.specs.NewVolumes.{CanAdd, HasAddRoom, missing_volumes}
+use Rattle.machine_effects.specs.NewVolumes.{CanAdd, HasAddRoom}
 use Rattle.machine_effects.specs.declared.kit.Kit.{Kit}
 use Rattle.machine_model.specs.Effects.Launch.{launch_by_call}
 use Rattle.machine_model.specs.Effects.Meet.{thaw_container}
+use Rattle.container_machine.specs.Calls.Create.{IsNew}
 use Rattle.container_machine.specs.Calls.Start.{CanStart}
 use Rattle.container_machine.specs.Calls.Kill.{kill_effect, kill_restarting_effect, CanKill}
 use Rattle.container_machine.specs.Calls.Unpause.{CanThaw}
@@ -57,7 +58,7 @@ pub record Serves (n : ℕ) (kit : Kit) (s : State) : Type 0 where
 -- What the plan brings fits the state at that moment.
 abbrev pub Brings : Plan → ℕ → State → Type 0
 Brings Plan.Nothing t s = ⊤
-Brings (Plan.Create held volumes) t s = volumes.items ≡ missing_volumes t held.container.life.mounts s.volumes
+Brings (Plan.Create held volumes) t s = IsNew (container_in held) volumes.items t s
 Brings (Plan.Kill n sent last kit) t s = Serves n kit s × (sent.number < 32)
 Brings (Plan.KillRestarting n sent) t s = ⊤
 Brings (Plan.Pause n) t s = ⊤

@@ -1,5 +1,5 @@
 // Containers in order of number, with their indexes by id and by name.
-ghost use Rattle.std.specs.Prelude.{◌≡◌, ◌+◌, ◌≤◌, ◌<◌, [], ◌∷◌, ◌++◌, Some, None, IsTrue, OnOk, OnErr, nat_lt, length, slice_get, option_copied, option_map};
+ghost use Rattle.std.specs.Prelude.{◌≡◌, ◌+◌, ◌≤◌, ◌<◌, ◌^◌, [], ◌∷◌, ◌++◌, Some, None, IsTrue, OnOk, OnErr, nat_lt, length, slice_get, option_copied, option_map};
 ghost use Rattle.std.specs.List.{AllByRecursion};
 ghost use Rattle.container_table.specs.Reference.{container_by};
 ghost use Rattle.container_table.specs.Tables.{numbered, with_id, named, is_free, without, renamed, relived};
@@ -83,7 +83,8 @@ impl Containers {
 
     /// How many they are.
     pub fn len(&self) -> usize
-        ensures { result ≡ length self.now.containers }
+        ensures value { result ≡ length self.now.containers }
+        ensures few { length self.now.containers < 2 ^ 63 }
     {
         self.boxes.list.len()
     }

@@ -1,5 +1,5 @@
 // Containers and their timers, whole and indexed.
-ghost use Rattle.std.specs.Prelude.{◌≡◌, ℕ, ◌+◌, ◌<◌, ◌≤◌, [], ◌∷◌, ◌++◌, Some, None, IsTrue, OnOk, OnErr, nat_lt, length, slice_get, option_copied, option_map};
+ghost use Rattle.std.specs.Prelude.{◌≡◌, ℕ, ◌+◌, ◌<◌, ◌≤◌, ◌^◌, [], ◌∷◌, ◌++◌, Some, None, IsTrue, OnOk, OnErr, nat_lt, length, slice_get, option_copied, option_map};
 ghost use Rattle.std.specs.List.{AllByRecursion};
 ghost use Rattle.container_table.specs.Reference.{container_by};
 ghost use Rattle.container_table.specs.Timers.{timer_in, cleared, with_timer, least};
@@ -104,7 +104,8 @@ impl Table {
 
     /// How many containers there are.
     pub fn len(&self) -> usize
-        ensures { result ≡ length self.now.containers }
+        ensures value { result ≡ length self.now.containers }
+        ensures few { length self.now.containers < 2 ^ 63 }
     {
         self.containers.len()
     }

@@ -36,10 +36,6 @@ pushed (Some b) ds x of = by_order (is_before x b) refl
     by_order true e = sym (least_is x (ds ++ x ∷ []) (behind x ds (x ∷ []) (inl refl)) (All-snoc (λ y. is_before y x ≡ false) ds x (all_after x b ds e of.1) (not_before_itself x)))
     by_order false e = sym (least_is b (ds ++ x ∷ []) (in_front b ds (x ∷ []) of.0) (All-snoc (λ y. is_before y b ≡ false) ds x of.1 e))
 
--- one more timer
-pub next_timer : (ds : List DueAction) (i : ℕ) (z : DueAction) → i < length ds → nearer (least (take i ds)) (get_or ds i z) ≡ least (take (i + 1) ds)
-next_timer ds i z low = pushed (least (take i ds)) (take i ds) (get_or ds i z) (least_of_these (take i ds)) ∙ ap least (sym (take_more ds i z low))
-
 -- ---- processes, place by place
 
 one_more : (ds : List DueAction) (o : Owner) (due : Option ℕ) → further_at (least ds) (Some o) due ≡ least (ds ++ cons_option (action_at (owner_number o) due) [])

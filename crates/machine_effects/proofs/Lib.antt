@@ -1,16 +1,14 @@
 pub mod ListLemmas
 pub mod UpdateLemmas
 pub mod MarkLemmas
+pub mod LifeLemmas
 pub mod RemoveLemmas
 pub mod SiftLemmas
 pub mod LastLemmas
-pub mod FoundLemmas
 pub mod TimeLemmas
 pub mod EachLemmas
 pub mod SettleLemmas
 pub mod DiedLemmas
-pub mod FindLemmas
-pub mod HeldLemmas
 pub mod ToldLemmas
 pub mod MeetLemmas
 pub mod TicketLemmas

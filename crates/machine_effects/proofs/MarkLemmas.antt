@@ -5,7 +5,7 @@ use Rattle.engine_text.specs.declared.log.LogRecord.{LogRecord}
 use Rattle.machine_effects.specs.Marks.{marked}
 use Rattle.machine_effects.specs.declared.marks.Mark.{Mark}
 
-pub mark_log : (m : Mark) (l : Life) (log : List LogRecord) → record (marked m l) { log = log } ≡ marked m (record l { log = log })
+pub mark_log : (m : Mark) (l : Life) (log : List LogRecord) → marked m (record l { log = log }) ≡ record (marked m l) { log = log }
 mark_log Mark.ByHand l log = refl
 mark_log Mark.Running l log = refl
 mark_log Mark.Paused l log = refl

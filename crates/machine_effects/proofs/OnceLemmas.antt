@@ -101,9 +101,10 @@ all_imp P Q f (x ∷ xs) all = (f x all.0, all_imp P Q f xs all.1)
 
 pub distinct_once : (xs : List Name) → AreDistinct (once xs)
 distinct_once [] = tt
-distinct_once (x ∷ xs) =
-    (all_imp (λ n. not (same_bytes x n) ≡ true) (λ n. x ≢ n) (λ n no. not_same x n (same_bytes x n) refl no) (others x (once xs)) (passed (λ n. not (same_bytes x n)) (once xs)),
-    distinct_filter (λ n. not (same_bytes x n)) (once xs) (distinct_once xs))
+distinct_once (x ∷ xs) = (
+  all_imp (λ n. not (same_bytes x n) ≡ true) (λ n. x ≢ n) (λ n no. not_same x n (same_bytes x n) refl no) (others x (once xs)) (passed (λ n. not (same_bytes x n)) (once xs)),
+  distinct_filter (λ n. not (same_bytes x n)) (once xs) (distinct_once xs),
+)
 
 pub length_once : (xs : List Name) → length (once xs) ≤ length xs
 length_once [] = omega arith

@@ -1,7 +1,6 @@
 -- own: what stands in memory, as what it means.
-use Rattle.std.specs.Prelude.{ℕ, ◌-◌, ◌==◌, List, Option, Some, None, map, if◌then◌else◌, vec_len, vec_capacity}
+use Rattle.std.specs.Prelude.{ℕ, ◌==◌, List, Option, Some, None, map, if◌then◌else◌}
 use Rattle.engine_text.specs.Id.{id_of}
-use Rattle.engine_text.specs.declared.container.Container.{Container}
 use Rattle.engine_text.specs.declared.log.OwnedLog.{OwnedLog}
 use Rattle.engine_text.specs.declared.reply.Reply.{Reply}
 use Rattle.engine_text.specs.declared.reply.Reply.TheVariants.{Answer}
@@ -11,19 +10,11 @@ use Rattle.engine_text.specs.declared.ticket.Ticket.{Ticket}
 use Rattle.machine_model.specs.Effects.Destroy.{done, waited}
 use Rattle.machine_model.specs.Outcome.{message_text}
 use Rattle.machine_model.specs.Refusals.{removal_timed_out}
+pub use Rattle.container_table.specs.Logs.{container_in}
 use Rattle.machine_effects.specs.declared.held.Fate.{Fate}
-use Rattle.machine_effects.specs.declared.held.Held.{Held}
 use Rattle.machine_effects.specs.declared.held.HeldOutput.{HeldOutput}
 use Rattle.machine_effects.specs.declared.held.HeldTicket.{HeldTicket}
 use Rattle.machine_effects.specs.declared.held.Ready.{Ready}
-
--- A container with its log.
-abbrev pub container_in : Held → Container
-container_in h = record h.container { life = record h.container.life { log = h.records.items } }
-
--- Containers with their logs.
-abbrev pub containers_in : List Held → List Container
-containers_in = map container_in
 
 -- The output of an exec.
 abbrev pub output_in : HeldOutput → OwnedLog
@@ -85,10 +76,6 @@ ready_or (Some old) r = Some old
 -- The ticket is answered, if it is of the container.
 abbrev pub answered_by : Fate → ℕ → HeldTicket → HeldTicket
 answered_by fate n t = if t.container == n then record t { ready = ready_or t.ready (ready_by fate t.asked) } else t
-
--- How many more records the log has room for.
-abbrev pub room_in : Held → ℕ
-room_in h = vec_capacity h.records - vec_len h.records
 
 -- How many more records the output has room for.
 abbrev pub output_room : HeldOutput → ℕ

@@ -11,7 +11,6 @@ pub mod NewVolumes
 pub mod Ops
 pub mod Outputs
 pub mod Places
-pub mod PrefixSearch
 pub mod Rooms
 pub mod Running
 pub mod Settled

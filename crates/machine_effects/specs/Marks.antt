@@ -14,7 +14,6 @@ use Rattle.machine_model.specs.Effects.Launch.{afresh}
 use Rattle.machine_model.specs.Effects.Meet.{running}
 use Rattle.machine_effects.specs.declared.marks.Mark.{Mark}
 
--- What a mark makes of a life.
 -- So many restarts.
 abbrev pub counted : ℕ → Life → Life
 counted count l = record l { restarts = count }
@@ -43,6 +42,10 @@ renewed f c = record c { life = f c.life }
 abbrev pub with_life : ℕ → (Life → Life) → List Container → List Container
 with_life n f = update_first (λ c. c.number == n) (renewed f)
 
+-- A launch that is the start of that number.
+abbrev pub launched_as : ℕ → ℕ → ℕ → Life → Life
+launched_as starts pid moment l = record l { starts = starts; status = Status.Running; code = 0; started = Some moment; pid = pid }
+
 -- A launch, with its process id and its moment.
 abbrev pub launched_at : ℕ → ℕ → Life → Life
-launched_at pid moment l = record l { starts = l.starts + 1; status = Status.Running; code = 0; started = Some moment; pid = pid }
+launched_at pid moment l = launched_as (l.starts + 1) pid moment l

@@ -1,6 +1,7 @@
 -- Which volumes a create makes (Docker Engine API v1.43, ContainerCreate; own: those of its mounts that don't stand).
 use Rattle.std.specs.Prelude.{◌≡◌, ℕ, ◌+◌, ◌<◌, ◌≤◌, ◌^◌, length, map, filter, not, Bool, false, List, [], ◌∷◌, None, find}
 use Rattle.std.specs.List.{AllByRecursion, fold}
+use Rattle.container_table.specs.Tables.{named, with_id}
 use Rattle.engine_text.specs.Texts.{same_bytes}
 use Rattle.engine_text.specs.declared.container.Container.{Container}
 use Rattle.engine_text.specs.declared.event.Action.TheVariants.{Create}
@@ -47,8 +48,11 @@ pub record HasAddRoom (mounts : ℕ) (m : Memory) : Type 0 where
   pub volumes : length m.state.volumes + mounts ≤ m.volumes
   pub uses : length m.state.uses + mounts ≤ m.uses
 
--- The container may be added, these being the volumes that it makes.
+-- The container may be added, these being the volumes that it makes: its number is above those of all, its id and its name are new.
 pub record CanAdd (c : Container) (made : List Volume) (m : Memory) : Type 0 where
   pub room : HasAddRoom (length c.life.mounts) m
   pub volumes : made ≡ missing_volumes m.state.clock c.life.mounts m.state.volumes
   pub number : m.state.next_number < 2 ^ 63
+  pub above : AllByRecursion (λ d. d.number < c.number) m.state.containers
+  pub id : with_id c.id m.state.containers ≡ None
+  pub name : named c.name m.state.containers ≡ None

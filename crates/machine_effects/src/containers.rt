@@ -1,28 +1,29 @@
-// The table of containers: their logs and timers with them.
-ghost use Rattle.std.specs.Prelude.{◌≡◌, ℕ, ◌+◌, ◌<◌, ◌≤◌, ◌^◌, ◌==◌, [], ◌∷◌, ◌++◌, length, find, option_map, option_copied, slice_get, Some, IfOk, OnOk};
+// The containers, their logs and their timers, over the indexed table.
+ghost use Rattle.std.specs.Prelude.{◌≡◌, ℕ, ◌+◌, ◌<◌, ◌^◌, ◌==◌, None, [], ◌∷◌, ◌++◌, length, find, option_map, option_copied, slice_get, Some, IfOk, OnOk};
+ghost use Rattle.std.specs.List.{AllByRecursion};
 ghost use Rattle.container_table.specs.Lists.{remove_first};
 ghost use Rattle.container_table.specs.Reference.{container_by};
+ghost use Rattle.container_table.specs.Tables.{named, with_id};
 ghost use Rattle.container_table.specs.Timers.{cleared, least, with_timer};
 ghost use Rattle.machine_model.specs.Consistency.{is_there};
+ghost use Rattle.machine_model.specs.Effects.Meet.{logged};
 ghost use Rattle.machine_model.specs.Names.{chosen_name, holder};
 ghost use Rattle.machine_effects.specs.Fit.{AreFew};
 ghost use Rattle.machine_effects.specs.Held.{container_in};
-ghost use Rattle.machine_effects.specs.Rooms.{FitsLog};
-ghost use Rattle.machine_model.specs.Effects.Meet.{logged};
 ghost use Rattle.machine_effects.specs.Marks.{marked, with_life, launched_at};
+ghost use Rattle.machine_effects.specs.Rooms.{FitsLog};
 
-use super::held::Held;
-use super::marks::Mark;
-use super::{find, lives, names, timers};
-use engine_text::{Bytes, DueAction, Found, NoMemory, Stream, Text};
+use super::marks::{Mark, note};
+use super::{lives, names};
+use container_table::{Held, Table};
+use engine_text::{Bytes, DueAction, Found, LogRecord, NoMemory, Stream, Text};
 use std::alloc::Global;
 use std::marker::Model;
 
 /// The containers in order of creation, and the timers of all.
 #[derive(Drop)]
 pub struct Containers {
-    held: Vec<Held>,
-    timers: Vec<DueAction>,
+    table: Table,
 }
 
 impl Model for Containers {
@@ -42,8 +43,7 @@ impl Containers {
         ensures timers { result.timers ≡ [] }
     {
         Containers {
-            held: Vec::new(alloc),
-            timers: Vec::new(alloc),
+            table: Table::new(alloc),
         }
     }
 
@@ -53,7 +53,10 @@ impl Containers {
         ensures timers { self.new.timers ≡ self.old.timers }
         ensures room { self.new.room ≡ self.old.room }
     {
-        lives::renew(&mut self.held, number, noted);
+        let mut life = self.table.blank_life();
+        self.table.swap_life(number, &mut life);
+        note(&mut life, noted);
+        self.table.swap_life(number, &mut life);
     }
 
     /// The container's life begins anew, with that process id.
@@ -64,7 +67,14 @@ impl Containers {
         ensures timers { self.new.timers ≡ self.old.timers }
         ensures room { self.new.room ≡ self.old.room }
     {
-        lives::launch(&mut self.held, number, moment, pid);
+        let Some(h) = self.numbered(number) else {
+            return;
+        };
+        let starts = h.container.life.starts + 1;
+        let mut life = self.table.blank_life();
+        self.table.swap_life(number, &mut life);
+        lives::begin(&mut life, starts, moment, pid);
+        self.table.swap_life(number, &mut life);
     }
 
     /// The container with that number.
@@ -72,14 +82,14 @@ impl Containers {
         ensures { option_map container_in (option_copied result)
             ≡ find (λ c. c.number == number) self.now.containers }
     {
-        lives::numbered(self.held.as_slice(), number)
+        self.table.find_number(number)
     }
 
     /// How many they are.
     pub fn len(&self) -> usize
         ensures { result ≡ length self.now.containers }
     {
-        self.held.len()
+        self.table.len()
     }
 
     /// The container at that place.
@@ -87,7 +97,7 @@ impl Containers {
         requires { place < length self.now.containers }
         ensures { slice_get self.now.containers place ≡ Some (container_in result.now) }
     {
-        &self.held[place]
+        self.table.at(place)
     }
 
     /// Whether there is a container with that number.
@@ -104,7 +114,7 @@ impl Containers {
     pub fn find(&self, reference: &str) -> Found
         ensures { result ≡ container_by self.now.containers reference.now }
     {
-        find::container_by(self.held.as_slice(), reference)
+        self.table.find(reference)
     }
 
     /// The container's log has one more record, of its current run.
@@ -115,7 +125,16 @@ impl Containers {
         ensures timers { self.new.timers ≡ self.old.timers }
         ensures room { self.new.room ≡ self.old.room }
     {
-        lives::record(&mut self.held, number, stream, payload, moment);
+        let Some(h) = self.numbered(number) else {
+            return;
+        };
+        let item = LogRecord {
+            run: h.container.life.starts,
+            stream,
+            payload,
+            moment,
+        };
+        self.table.push_record(number, item);
     }
 
     /// Makes room for one more record of the container's log.
@@ -125,7 +144,7 @@ impl Containers {
         ensures timer_room { self.new.room ≡ self.old.room }
         ensures room { OnOk result (FitsLog number self.new.containers self.new.logs) }
     {
-        lives::reserve_record(&mut self.held, number)
+        self.table.reserve_record(number)
     }
 
     /// The container is gone.
@@ -137,7 +156,7 @@ impl Containers {
         ensures timers { self.new.timers ≡ self.old.timers }
         ensures room { self.new.room ≡ self.old.room }
     {
-        lives::remove(&mut self.held, number)
+        self.table.remove(number)
     }
 
     /// The timer of that rank and number is gone.
@@ -146,7 +165,7 @@ impl Containers {
         ensures timers { self.new.timers ≡ cleared rank number self.old.timers }
         ensures room { self.new.room ≡ self.old.room }
     {
-        timers::clear(&mut self.timers, rank, number);
+        self.table.clear(rank, number);
     }
 
     /// There is a timer of that rank and number at the moment, in the place of an earlier one.
@@ -156,14 +175,14 @@ impl Containers {
         ensures timers { self.new.timers ≡ with_timer moment rank number self.old.timers }
         ensures room { self.new.room ≡ self.old.room }
     {
-        timers::set(&mut self.timers, moment, rank, number);
+        self.table.set(moment, rank, number);
     }
 
     /// The container that has the name.
     pub fn holder(&self, name: &str) -> Option<&Held>
         ensures { option_map container_in (option_copied result) ≡ holder name.now self.now.containers }
     {
-        find::holder(self.held.as_slice(), name)
+        self.table.find_name(name)
     }
 
     /// The name that a create gives its container, the next number being n.
@@ -171,37 +190,37 @@ impl Containers {
         requires { n < 2 ^ 63 }
         ensures { IfOk result (λ t. t ≡ chosen_name given.now n self.now.containers) }
     {
-        names::chosen_name(alloc, given, n, self.held.as_slice())
+        names::chosen_name(alloc, given, n, &self.table)
     }
 
-    /// A container more; there was room for it.
+    /// A container more, of which number, id and name are new; there was room for it.
     pub fn add(&mut self, one: Held)
-        requires { length self.old.containers < self.old.places }
+        requires above { AllByRecursion (λ c. c.number < one.container.number) self.old.containers }
+        requires id { with_id one.container.id self.old.containers ≡ None }
+        requires name { named one.container.name self.old.containers ≡ None }
+        requires place { length self.old.containers < self.old.places }
         ensures containers { self.new.containers ≡ self.old.containers ++ container_in one ∷ [] }
         ensures timers { self.new.timers ≡ self.old.timers }
         ensures room { self.new.room ≡ self.old.room }
     {
-        lives::add(&mut self.held, one);
+        self.table.insert(one);
     }
 
     /// Makes room for a container more.
-    pub fn reserve_place(&mut self) -> Result<(), NoMemory>
+    pub fn reserve_place(&mut self, alloc: Global) -> Result<(), NoMemory>
         ensures containers { self.new.containers ≡ self.old.containers }
         ensures timers { self.new.timers ≡ self.old.timers }
         ensures room { self.new.room ≡ self.old.room }
         ensures places { OnOk result (length self.new.containers < self.new.places) }
     {
-        match self.held.reserve(1) {
-            Ok(()) => Ok(()),
-            Err(_) => Err(NoMemory),
-        }
+        self.table.reserve_containers(alloc, 1)
     }
 
     /// The timer that comes first.
     pub fn least_timer(&self) -> Option<DueAction>
         ensures { result ≡ least self.now.timers }
     {
-        timers::first_of(self.timers.as_slice())
+        self.table.least()
     }
 
     /// Makes room for a timer more.
@@ -210,9 +229,6 @@ impl Containers {
         ensures timers { self.new.timers ≡ self.old.timers }
         ensures room { OnOk result (length self.new.timers < self.new.room) }
     {
-        match self.timers.reserve(1) {
-            Ok(()) => Ok(()),
-            Err(_) => Err(NoMemory),
-        }
+        self.table.reserve_timers(1)
     }
 }

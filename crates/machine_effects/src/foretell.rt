@@ -9,8 +9,8 @@ ghost use Rattle.machine_effects.specs.Held.{container_in};
 ghost use Rattle.machine_effects.specs.Foretold.{told_number, told_execs, told_mounts, told_launch, told_goal, told_status, told_end, told_code};
 
 use super::events::{die_event, exec_die_event, mount_event, plain_event};
-use super::held::Held;
 use super::tables::Tables;
+use container_table::Held;
 use engine_text::{Action, Event, Goal, NoMemory, Script, Status};
 use std::alloc::Global;
 

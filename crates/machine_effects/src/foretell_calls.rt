@@ -12,8 +12,8 @@ ghost use Rattle.machine_effects.specs.ToldMeet.{told_thaw};
 
 use super::events::{exec_die_event, plain_event};
 use super::foretell::{add, tell_launch};
-use super::held::Held;
 use super::tables::Tables;
+use container_table::Held;
 use engine_text::{Action, Event, NoMemory, Owner, Script};
 use std::alloc::Global;
 

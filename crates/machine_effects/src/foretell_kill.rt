@@ -8,8 +8,8 @@ ghost use Rattle.machine_effects.specs.ToldMeet.{running_after, running_numbers,
 
 use super::events::{die_event, kill_event, plain_event};
 use super::foretell::{add, tell_mounts, tell_restart};
-use super::held::Held;
 use super::tables::Tables;
+use container_table::Held;
 use engine_text::{Action, Event, Goal, NoMemory, Script, Status};
 use std::alloc::Global;
 

@@ -8,8 +8,8 @@ ghost use Rattle.machine_effects.specs.ToldMeet.{lives_on, running_after, runnin
 
 use super::events::{die_event, exec_die_event, plain_event};
 use super::foretell::{add, tell_mounts, tell_status};
-use super::held::Held;
 use super::tables::Tables;
+use container_table::Held;
 use engine_text::{Action, Event, NoMemory, Owner, Script, Status};
 use std::alloc::Global;
 

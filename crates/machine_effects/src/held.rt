@@ -1,19 +1,12 @@
 // What stands in memory otherwise than the model says it: logs apart, so that their room is known, and
 // replies of tickets without their texts, so that a ticket becomes ready without memory.
-use engine_text::{Asked, Container, LogRecord, Owner};
-
-/// A container and the records of its log; the log of `container.life` itself stays empty.
-#[derive(Drop)]
-pub struct Held {
-    pub container: Container,
-    pub records: Vec<LogRecord>,
-}
+use engine_text::{Asked, OpenLog, Owner};
 
 /// The output of an exec.
 #[derive(Drop)]
 pub struct HeldOutput {
     pub owner: Owner,
-    pub records: Vec<LogRecord>,
+    pub log: OpenLog,
 }
 
 /// A reply of a ticket, whose text is made when it is taken.

@@ -2,8 +2,8 @@
 ghost use Rattle.std.specs.Prelude.{◌≡◌, ◌<◌, length, slice_get, Some};
 ghost use Rattle.machine_effects.specs.Held.{container_in};
 
-use super::held::Held;
 use super::tables::Tables;
+use container_table::Held;
 
 impl Tables {
     /// How many containers there are.

@@ -2,10 +2,8 @@
 ghost use Rattle.std.specs.Prelude.{◌≡◌, ℕ, ◌+◌, ◌<◌, ◌^◌, IfOk, length};
 ghost use Rattle.machine_model.specs.Consistency.{is_there};
 ghost use Rattle.machine_model.specs.Names as spec;
-ghost use Rattle.machine_effects.specs.Held.{containers_in};
 
-use super::find::holder;
-use super::held::Held;
+use container_table::Table;
 use engine_text::{NoMemory, Text, without_slash};
 use std::alloc::Global;
 
@@ -16,23 +14,23 @@ fn anonymous(alloc: Global, n: u64) -> Result<Text, NoMemory>
     Ok(Text::from_string(name))
 }
 
-fn is_taken(held: &[Held], name: &str) -> bool
-    ensures { result ≡ is_there (spec.holder name.now (containers_in held.now)) }
+fn is_taken(table: &Table, name: &str) -> bool
+    ensures { result ≡ is_there (spec.holder name.now table.now.containers) }
 {
-    match holder(held, name) {
+    match table.find_name(name) {
         None => false,
         Some(_) => true,
     }
 }
 
 // Of so many numbers from n on and one more, the name of the first that is free.
-fn first_free(alloc: Global, held: &[Held], n: u64, most: usize) -> Result<Text, NoMemory>
+fn first_free(alloc: Global, table: &Table, n: u64, most: usize) -> Result<Text, NoMemory>
     requires { n + most < 2 ^ 64 }
-    ensures { IfOk result (λ t. t ≡ spec.first_free most n (containers_in held.now)) }
+    ensures { IfOk result (λ t. t ≡ spec.first_free most n table.now.containers) }
 {
     let mut name = anonymous(alloc, n)?;
     for i in 0..most {
-        if !is_taken(held, name.as_str()) {
+        if !is_taken(table, name.as_str()) {
             return Ok(name);
         }
         name = anonymous(alloc, n + i as u64 + 1)?;
@@ -45,13 +43,13 @@ pub fn chosen_name(
     alloc: Global,
     given: &Option<Text>,
     n: u64,
-    held: &[Held],
+    table: &Table,
 ) -> Result<Text, NoMemory>
-    requires { n + length held.now < 2 ^ 64 }
-    ensures { IfOk result (λ t. t ≡ spec.chosen_name given.now n (containers_in held.now)) }
+    requires { n + length table.now.containers < 2 ^ 64 }
+    ensures { IfOk result (λ t. t ≡ spec.chosen_name given.now n table.now.containers) }
 {
     match given {
         Some(name) => Text::of(alloc, without_slash(name.as_str())),
-        None => first_free(alloc, held, n, held.len()),
+        None => first_free(alloc, table, n, table.len()),
     }
 }

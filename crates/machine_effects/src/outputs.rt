@@ -103,11 +103,7 @@ fn write(held: &mut Vec<HeldOutput>, number: u64, written: LogRecord)
 }
 
 // Makes room for one more record of the exec's output.
-fn reserve_record(
-    held: &mut Vec<HeldOutput>,
-    alloc: Global,
-    number: u64,
-) -> Result<(), NoMemory>
+fn reserve_record(held: &mut Vec<HeldOutput>, alloc: Global, number: u64) -> Result<(), NoMemory>
     ensures same { outputs_in held.new.items ≡ outputs_in held.old.items }
     ensures room { OnOk result
         (FitsOutput number (outputs_in held.new.items) (map output_room held.new.items)) }

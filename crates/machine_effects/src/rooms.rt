@@ -39,7 +39,7 @@ impl Tables {
         ensures room { self.new.room ≡ self.old.room }
     {
         match owner {
-            Owner::Container(number) => self.containers.reserve_record(alloc, number),
+            Owner::Container(number) => self.containers.reserve_record(number),
             Owner::Exec(number) => self.outputs.reserve_record(alloc, number),
         }
     }

@@ -21,13 +21,13 @@ ghost use Rattle.machine_effects.specs.Rooms.{FitsLog, FitsOutput};
 
 use super::containers::Containers;
 use super::execs::Execs;
-use super::held::Held;
 use super::kit::Kit;
 use super::marks::Mark;
 use super::moments::Moments;
 use super::outputs::Outputs;
 use super::removals::Removals;
 use super::tickets::Tickets;
+use container_table::Held;
 use engine_text::{
     Bytes, Effect, Event, Exec, Found, NoMemory, OwnedLog, Owner, Script, Signal, Stream,
 };

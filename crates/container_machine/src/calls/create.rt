@@ -1,5 +1,5 @@
 // Create: the image first, then the name.
-ghost use Rattle.std.specs.Prelude.{◌≡◌, ◌≤◌, ◌++◌, [], codes, length, IfOk};
+ghost use Rattle.std.specs.Prelude.{◌≡◌, ◌≤◌, ◌++◌, [], codes, length, None, IfOk};
 ghost use Rattle.machine_model.specs.Calls.Create as spec;
 ghost use Rattle.machine_model.specs.Consistency.{IsConsistent};
 ghost use Rattle.machine_model.specs.Names.{holder};
@@ -14,8 +14,8 @@ use crate::prepared::Prepared;
 use crate::refusals::{name_conflict, no_such_image};
 use crate::texts::join;
 use engine_text::{
-    Action, Container, CreateSpec, Event, Goal, Life, Log, NoMemory, Reply, Status, Text, Volume,
-    Words,
+    Action, Container, CreateSpec, Event, Goal, Life, Log, NoMemory, OpenLog, Reply, Status, Text,
+    Volume, Words,
 };
 use machine_effects::{Held, Tables, add, plain_event, tell_volumes};
 use std::alloc::Global;
@@ -84,6 +84,7 @@ fn prepare_new(
     name: Text,
     asked: &CreateSpec,
 ) -> Result<Prepared, NoMemory>
+    requires { holder name tables.now.state.containers ≡ None }
     ensures { IfOk result (λ p. Makes p moment tables.now.state
         (λ s. spec.created (spec.new_container name asked.now s) s)) }
 {
@@ -101,7 +102,7 @@ fn prepare_new(
     let body = created_text(alloc, &container.id)?;
     let held = Held {
         container,
-        records: Vec::new(alloc),
+        log: OpenLog::new(alloc),
     };
     Ok(Prepared {
         moment,

@@ -6,9 +6,9 @@ ghost use Rattle.machine_model.specs.Names.{chosen_name, holder};
 ghost use Rattle.machine_effects.specs.Held.{container_in};
 ghost use Rattle.machine_effects.specs.NewVolumes.{missing_volumes, CanAdd, HasAddRoom};
 
-use crate::held::Held;
 use crate::new_volumes::{make_volumes, missing_volumes, refer_to};
 use crate::tables::Tables;
+use container_table::Held;
 use engine_text::{Mounts, NoMemory, Text, Volume, id_of};
 use std::alloc::Global;
 
@@ -64,7 +64,7 @@ impl Tables {
         ensures room { OnOk result (HasAddRoom mounts self.new) }
         ensures moments { self.new.room.moments ≡ self.old.room.moments }
     {
-        self.containers.reserve_place()?;
+        self.containers.reserve_place(alloc)?;
         self.volumes.reserve(alloc, mounts)
     }
 

@@ -6,7 +6,7 @@ ghost use Rattle.machine_effects.specs.Fit.{CanRemove};
 use crate::held::Fate;
 use crate::kit::Kit;
 use crate::tables::Tables;
-use engine_text::{KeptLogs, Log, OwnedLog, OwnedLogs, Owner, Removed};
+use engine_text::{KeptLogs, OwnedLog, OwnedLogs, Owner, Removed};
 
 impl Tables {
     /// The container is gone; what is kept of it goes into the kit's lists.
@@ -27,7 +27,7 @@ impl Tables {
         } = kit;
         logs.push_reserved(OwnedLog {
             owner: Owner::Container(number),
-            log: Log::from_vec(h.records),
+            log: h.log.close(),
         });
         self.outputs.take_of(&self.execs, number, &mut logs);
         self.execs.remove_of(number);

@@ -3,10 +3,12 @@ ghost use Rattle.std.specs.Prelude.{◌≡◌, ◌<◌};
 ghost use Rattle.machine_model.specs.Effects.Launch.{launch, launch_by_call};
 ghost use Rattle.machine_effects.specs.Fit.{CanLaunch};
 
-use crate::lives;
 use crate::marks::Mark;
 use crate::tables::Tables;
 use engine_text::Script;
+
+// How many bytes a log may have.
+const MOST_BYTES: u64 = 4_194_304;
 
 impl Tables {
     /// The container is launched, with the script of its words.
@@ -23,7 +25,7 @@ impl Tables {
             return;
         };
         let stdin = h.container.life.open_stdin;
-        let room = lives::room_after(h.records.as_slice());
+        let room = h.log.bytes_left(MOST_BYTES);
         self.begin(number, script, stdin, room);
     }
 

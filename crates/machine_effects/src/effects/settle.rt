@@ -5,9 +5,10 @@ ghost use Rattle.machine_effects.specs.Held.{container_in, replies_in};
 ghost use Rattle.machine_effects.specs.Settled.{deaths, settled_at, settled_place, replies_for};
 
 use crate::death::Death;
-use crate::held::{Held, Ready};
+use crate::held::Ready;
 use crate::ready::{code_of, death_of, has_died, is_restarting, ready_if};
 use crate::tables::Tables;
+use container_table::Held;
 use engine_text::{Asked, Owner, Until};
 
 impl Tables {

@@ -2,13 +2,12 @@ use Rattle.std.proofs.Common.{◌≡◌, ◌+◌, ◌-◌, ◌<◌, true, List, 
 use Rattle.engine_text.specs.declared.container.Container.{Container}
 use Rattle.machine_model.specs.Consistency.{is_there}
 use Rattle.machine_model.specs.Names.{anonymous, first_free, holder}
-use Rattle.machine_effects.specs.Held.{containers_in}
 use Rattle.machine_effects.proofs.NameLemmas.{following, taken_here}
 use Rattle.machine_effects.proofs.names.first_free.Goals as goal
 
 pub loop-i-preserved : goal.loop-i-preserved
 loop-i-preserved c =
-    let cs : List Container = containers_in c.args.held.now in
+    let cs : List Container = c.args.table.now.containers in
     let called : c.as_str.result.now ≡ anonymous (c.args.n + c.loop-i.i) = c.as_str.ensures ∙ c.loop-i.invariant.name in
     let told = c.is_taken.ensures in
     let same = ap (λ t. is_there (holder t cs)) called in

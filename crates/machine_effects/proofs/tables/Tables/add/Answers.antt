@@ -1,6 +1,7 @@
-use Rattle.std.proofs.Common.{◌≡◌, ◌+◌, ◌≤◌, List, [], ◌++◌, ap, sym, ◌∙◌, subst, arith, find, length, map}
+use Rattle.std.proofs.Common.{◌≡◌, ◌+◌, ◌<◌, ◌≤◌, None, List, [], ◌++◌, ap, sym, ◌∙◌, subst, arith, find, length, map}
 use Rattle.std.specs.List.{AllByRecursion}
 use Rattle.std.specs.Prelude.{IsTrue}
+use Rattle.container_table.specs.Tables.{named, with_id}
 use Rattle.engine_text.specs.Texts.{same_bytes}
 use Rattle.engine_text.specs.declared.container.Container.{Container}
 use Rattle.engine_text.specs.declared.mounts.Mount.{Mount}
@@ -43,6 +44,18 @@ refer_to-requires-clause-stand c =
     c.make_volumes.ensures.volumes ∙ (ap (λ l. with_volumes l c.self.inside.volumes.volumes) c.requires.volumes ∙ ap (λ (m : Memory). with_volumes made m.state.volumes) c.self.view_is) in
     subst (λ (vs : List Volume). AllByRecursion (λ (m : Mount). IsTrue (is_there (find (λ v. same_bytes v.name m.volume) vs))) c.as_slice.result.now) (sym same)
     (subst (λ (l : List Mount). AllByRecursion (λ (m : Mount). IsTrue (is_there (find (λ v. same_bytes v.name m.volume) (with_volumes made s.volumes)))) l) (sym c.as_slice.ensures) (all_stand ms s))
+
+pub add-requires-clause-above : goal.add-requires-clause-above
+add-requires-clause-above c = subst (λ (m : Memory). AllByRecursion (λ (d : Container). d.number < c.args.held.container.number) m.state.containers) (sym c.self.view_is) c.requires.above
+
+pub add-requires-clause-id : goal.add-requires-clause-id
+add-requires-clause-id c = subst (λ (m : Memory). with_id c.args.held.container.id m.state.containers ≡ None) (sym c.self.view_is) c.requires.id
+
+pub add-requires-clause-name : goal.add-requires-clause-name
+add-requires-clause-name c = subst (λ (m : Memory). named c.args.held.container.name m.state.containers ≡ None) (sym c.self.view_is) c.requires.name
+
+pub add-requires-clause-place : goal.add-requires-clause-place
+add-requires-clause-place c = subst (λ (m : Memory). length m.state.containers < m.containers) (sym c.self.view_is) c.requires.room.place
 
 pub returns-clause-state : goal.returns-clause-state
 returns-clause-state c =

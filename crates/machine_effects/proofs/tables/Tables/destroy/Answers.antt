@@ -31,11 +31,11 @@ returns-clause-state c =
     let d : Container = container_in c.in-Some.h in
     let found : container_numbered n s ≡ Some d = sym c.remove.ensures.held ∙ ap (option_map container_in) c.in-Some.is in
     let numbers : c.args.kit.execs ≡ exec_numbers n s = c.requires.numbers ∙ sym (ap (λ (m : Memory). exec_numbers n m.state) c.self.view_is) in
-    let first : c.push_reserved.new.self.items ≡ record { owner = Owner.Container n; log = c.in-Some.h.records.items } ∷ [] =
-    c.push_reserved.ensures.items ∙ (ap (λ (l : List OwnedLog). l ++ record { owner = Owner.Container n; log = c.from_vec.result } ∷ []) c.requires.empty
-    ∙ ap (λ (l : List LogRecord). record { owner = Owner.Container n; log = l } ∷ []) c.from_vec.ensures) in
-    let logs : c.from_vec-2.result ≡ record { owner = Owner.Container n; log = d.life.log } ∷ outputs_of n s =
-    c.from_vec-2.ensures ∙ (c.take_of.ensures.into ∙ ap (λ (l : List OwnedLog). l ++ outputs_of n s) first) in
+    let first : c.push_reserved.new.self.items ≡ record { owner = Owner.Container n; log = c.in-Some.h.log.records } ∷ [] =
+    c.push_reserved.ensures.items ∙ (ap (λ (l : List OwnedLog). l ++ record { owner = Owner.Container n; log = c.close.result } ∷ []) c.requires.empty
+    ∙ ap (λ (l : List LogRecord). record { owner = Owner.Container n; log = l } ∷ []) c.close.ensures) in
+    let logs : c.from_vec.result ≡ record { owner = Owner.Container n; log = d.life.log } ∷ outputs_of n s =
+    c.from_vec.ensures ∙ (c.take_of.ensures.into ∙ ap (λ (l : List OwnedLog). l ++ outputs_of n s) first) in
     let t : State = record s {
       containers = c.remove.new.self.containers;
       timers = c.remove.new.self.timers;

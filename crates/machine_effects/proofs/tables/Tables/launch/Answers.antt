@@ -1,6 +1,4 @@
 use Rattle.std.proofs.Common.{sym, ◌∙◌, ap}
-use Rattle.std.proofs.Common.{◌-◌}
-use Rattle.machine_model.specs.Effects.Launch.{log_size}
 use Rattle.machine_effects.specs.Held.{container_in}
 use Rattle.machine_effects.specs.Effects.EndMain.{begun}
 use Rattle.machine_effects.proofs.SettleLemmas.{launch_none, launch_some}
@@ -14,5 +12,5 @@ returns-in_default-script-clause-state c =
 pub returns-clause-state : goal.returns-clause-state
 returns-clause-state c =
     c.begin.ensures.state
-    ∙ (ap (λ k. begun c.args.number c.in-Some-script.script c.in-Some.h.now.container.life.open_stdin k c.args.self.now.state) (c.room_after-room.ensures ∙ ap (λ r. 4194304 - log_size r) c.as_slice.ensures.value) ∙ launch_some c.args.number c.args.self.now.state (container_in c.in-Some.h.now) c.in-Some-script.script (sym c.in-Some.ensures)
+    ∙ (ap (λ k. begun c.args.number c.in-Some-script.script c.in-Some.h.now.container.life.open_stdin k c.args.self.now.state) c.bytes_left-room.ensures ∙ launch_some c.args.number c.args.self.now.state (container_in c.in-Some.h.now) c.in-Some-script.script (sym c.in-Some.ensures)
     (sym (c.requires.fit.named (container_in c.in-Some.h.now) (sym c.in-Some.ensures)) ∙ c.in-Some-script.is))
