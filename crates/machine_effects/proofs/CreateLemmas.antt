@@ -10,6 +10,7 @@ use Rattle.engine_text.specs.declared.container.Container.{Container}
 use Rattle.engine_text.specs.declared.event.Action.TheVariants.{Create}
 use Rattle.engine_text.specs.declared.event.Event.{Event}
 use Rattle.engine_text.specs.declared.mounts.Mount.{Mount}
+use Rattle.engine_text.specs.declared.pairs.Pair.{Pair}
 use Rattle.engine_text.specs.declared.step.DueAction.{DueAction}
 use Rattle.engine_text.specs.declared.volume.Volume.{Volume}
 use Rattle.engine_text.specs.declared.volume.VolumeUse.{VolumeUse}
@@ -211,6 +212,9 @@ new_more t ms m vs made more v e known is one =
     let known_here : is_known m.volume (missing_volumes t ms vs) vs ≡ false = sym (ap (λ l. is_known m.volume l vs) e) ∙ known in
     is ∙ (ap (λ l. l ++ v ∷ []) e ∙ (ap (λ x. missing_volumes t ms vs ++ x ∷ []) one
     ∙ sym (missing_snoc t ms m vs ∙ ap (λ b. if b then missing_volumes t ms vs else missing_volumes t ms vs ++ made_of t m.volume ∷ []) known_here)))
+
+pub made_as : (name : List ℕ) (labels : List Pair) (n : List ℕ) (t : ℕ) → name ≡ n → labels ≡ [] → record { name = name; labels = labels; created = t } ≡ new_volume n [] t
+made_as name labels n t e f = ap (λ (k : List ℕ). new_volume k labels t) e ∙ ap (λ (l : List Pair). new_volume n l t) f
 
 -- ---- none of them stands
 

@@ -1,10 +1,10 @@
 // The containers, their logs and their timers, over the indexed table.
-ghost use Rattle.std.specs.Prelude.{◌≡◌, ℕ, ◌+◌, ◌<◌, ◌^◌, ◌==◌, None, [], ◌∷◌, ◌++◌, length, find, option_map, option_copied, slice_get, Some, IfOk, OnOk};
+ghost use Rattle.std.specs.Prelude.{◌≡◌, ℕ, ◌+◌, ◌<◌, ◌≤◌, ◌^◌, ◌==◌, None, [], ◌∷◌, ◌++◌, length, find, option_map, option_copied, slice_get, Some, IfOk, OnOk};
 ghost use Rattle.std.specs.List.{AllByRecursion};
 ghost use Rattle.container_table.specs.Lists.{remove_first};
 ghost use Rattle.container_table.specs.Reference.{container_by};
-ghost use Rattle.container_table.specs.Tables.{named, with_id};
-ghost use Rattle.container_table.specs.Timers.{cleared, least, with_timer};
+ghost use Rattle.container_table.specs.Tables.{named, renamed, with_id};
+ghost use Rattle.container_table.specs.Timers.{cleared, least, timer_in, with_timer};
 ghost use Rattle.machine_model.specs.Consistency.{is_there};
 ghost use Rattle.machine_model.specs.Effects.Meet.{logged};
 ghost use Rattle.machine_model.specs.Names.{chosen_name, holder};
@@ -57,6 +57,16 @@ impl Containers {
         self.table.swap_life(number, &mut life);
         note(&mut life, noted);
         self.table.swap_life(number, &mut life);
+    }
+
+    /// The container has that name, which no container has.
+    pub fn rename(&mut self, number: u64, name: Text)
+        requires { holder name self.old.containers ≡ None }
+        ensures containers { self.new.containers ≡ renamed number name self.old.containers }
+        ensures timers { self.new.timers ≡ self.old.timers }
+        ensures room { self.new.room ≡ self.old.room }
+    {
+        self.table.rename(number, name);
     }
 
     /// The container's life begins anew, with that process id.
@@ -216,6 +226,13 @@ impl Containers {
         self.table.reserve_containers(alloc, 1)
     }
 
+    /// The timer of that rank and number.
+    pub fn timer(&self, rank: u8, number: u64) -> Option<DueAction>
+        ensures { result ≡ timer_in rank number self.now.timers }
+    {
+        self.table.timer(rank, number)
+    }
+
     /// The timer that comes first.
     pub fn least_timer(&self) -> Option<DueAction>
         ensures { result ≡ least self.now.timers }
@@ -229,6 +246,15 @@ impl Containers {
         ensures timers { self.new.timers ≡ self.old.timers }
         ensures room { OnOk result (length self.new.timers < self.new.room) }
     {
-        self.table.reserve_timers(1)
+        self.reserve_timers(1)
+    }
+
+    /// Makes room for so many timers more.
+    pub fn reserve_timers(&mut self, more: usize) -> Result<(), NoMemory>
+        ensures containers { self.new.containers ≡ self.old.containers }
+        ensures timers { self.new.timers ≡ self.old.timers }
+        ensures room { OnOk result (length self.new.timers + more ≤ self.new.room) }
+    {
+        self.table.reserve_timers(more)
     }
 }

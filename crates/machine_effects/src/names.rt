@@ -1,5 +1,5 @@
 // Names of containers.
-ghost use Rattle.std.specs.Prelude.{◌≡◌, ℕ, ◌+◌, ◌<◌, ◌^◌, IfOk, length};
+ghost use Rattle.std.specs.Prelude.{◌≡◌, ℕ, ◌+◌, ◌<◌, ◌^◌, IfOk};
 ghost use Rattle.machine_model.specs.Consistency.{is_there};
 ghost use Rattle.machine_model.specs.Names as spec;
 
@@ -45,7 +45,7 @@ pub fn chosen_name(
     n: u64,
     table: &Table,
 ) -> Result<Text, NoMemory>
-    requires { n + length table.now.containers < 2 ^ 64 }
+    requires { n < 2 ^ 63 }
     ensures { IfOk result (λ t. t ≡ spec.chosen_name given.now n table.now.containers) }
 {
     match given {
