@@ -7,6 +7,8 @@ pub mod MakeLemmas
 pub mod ReadyLemmas
 pub mod CommitLemmas
 pub mod StartLemmas
+pub mod StopLemmas
+pub mod TakeLemmas
 pub mod DueFoundLemmas
 pub mod DueMakeLemmas
 pub mod UnpauseLemmas

@@ -51,6 +51,17 @@ fits (Plan.Create held volumes) t m brings k at room = record {
   id = has_new_id held.container.id m.state k brings.id;
   name = brings.name;
 }
+fits (Plan.EndTicket ticket) t m brings k at room = tt
+fits (Plan.Halt connection n halting sent seconds kit) t m brings k at room = record {
+  signal = brings.1;
+  begin = record { room = room.ticket; number = omega (arith, k.numbers.next_ticket, k.counts.steps) };
+  halt = record {
+    timely = timely t m.state at;
+    fit = settles n kit t m brings.0 k at.until room.end;
+    deadline = room.deadline;
+    spare = room.end.spare;
+  };
+}
 fits (Plan.Kill n sent last kit) t m brings k at room = record {
   signal = brings.1;
   timely = timely t m.state at;
@@ -63,10 +74,15 @@ fits (Plan.Start n script) t m brings k at room = record {
   launch = record { few = few m.state k; pid = omega (arith, k.numbers.next_pid, k.counts.steps); named = brings };
   spare = room.spare;
 }
+fits (Plan.StopRestarting n) t m brings k at room = tt
 fits (Plan.Unpause n kit) t m brings k at room = record {
   timely = timely t m.state at;
   fit = settles n kit t m brings k at.until room;
   spare = room.spare;
+}
+fits (Plan.Wait connection n until) t m brings k at room = record {
+  room = room;
+  number = omega (arith, k.numbers.next_ticket, k.counts.steps);
 }
 
 pub ready : (p : Prepared) (w : MachineParts) (connection moment : ℕ) (c : Call) → IsConsistent w.memory.state → IsLawful w.memory.state (Step.Call connection moment c)

@@ -5,4 +5,7 @@ pub mod kill;
 pub mod list;
 pub mod pause;
 pub mod start;
+pub mod stop;
+pub mod take;
 pub mod unpause;
+pub mod wait;

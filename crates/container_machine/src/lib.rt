@@ -6,6 +6,7 @@ mod calls;
 mod counts;
 mod due;
 mod filters;
+mod halts;
 pub mod laws;
 mod lookup;
 mod machine;

@@ -1,9 +1,9 @@
 // The machine: its tables and the events so far.
-ghost use Rattle.std.specs.Prelude.{◌≡◌, ℕ, ◌+◌, ◌<◌, ◌≤◌, [], ◌++◌, length, vec_len, vec_capacity, IfOk, OnOk, IsTrue};
+ghost use Rattle.std.specs.Prelude.{◌≡◌, ℕ, ◌+◌, ◌<◌, ◌≤◌, [], ◌++◌, length, vec_len, vec_capacity, IfOk, OnErr, OnOk, IsFalse, IsTrue};
 ghost use Rattle.machine_model.specs.Step.{call_outcome, due_step};
 ghost use Rattle.engine_text.specs.declared.step.Step as steps;
 ghost use Rattle.machine_model.specs.Call.{outcome_of};
-ghost use Rattle.machine_model.specs.History.{IsLawful, greatest_moment, is_due};
+ghost use Rattle.machine_model.specs.History.{IsLawful, greatest_moment, is_drop, is_due};
 ghost use Rattle.machine_model.specs.State.{initial_state};
 ghost use Rattle.machine_model.specs.Soundness.{IsSound};
 ghost use Rattle.call_bounds.specs.Built.{is_built};
@@ -65,11 +65,17 @@ impl Machine {
     }
 
     // The call as it is answered in this state.
-    fn prepare_call(&self, alloc: Global, moment: u64, call: &Call) -> Result<Prepared, NoMemory>
+    fn prepare_call(
+        &self,
+        alloc: Global,
+        conn: u32,
+        moment: u64,
+        call: &Call,
+    ) -> Result<Prepared, NoMemory>
         requires sound { IsSound call.now }
         requires built { IsTrue (is_built call.now) }
-        ensures { IfOk result (λ p. (connection : ℕ)
-            → Makes p moment self.now.memory.state (outcome_of call.now connection)) }
+        requires heard { IsFalse (is_drop call.now) }
+        ensures { IfOk result (λ p. Makes p moment self.now.memory.state (outcome_of call.now conn)) }
     {
         self.kept();
         match call {
@@ -89,8 +95,17 @@ impl Machine {
             Call::Start { target } => {
                 calls::start::prepare(&self.tables, alloc, moment, target.as_str())
             }
+            Call::Stop { target, wait, signal } => {
+                let target = target.as_str();
+                calls::stop::prepare(&self.tables, alloc, conn, moment, target, *wait, *signal)
+            }
+            Call::Take { ticket } => calls::take::prepare(&self.tables, alloc, moment, *ticket),
             Call::Unpause { target } => {
                 calls::unpause::prepare(&self.tables, alloc, moment, target.as_str())
+            }
+            Call::Wait { target, until } => {
+                let target = target.as_str();
+                calls::wait::prepare(&self.tables, alloc, conn, moment, target, *until)
             }
             _ => unreachable!(),
         }
@@ -102,6 +117,13 @@ impl Machine {
         ensures moments { 65536 ≤ self.now.memory.room.moments }
     {
         let _ = &self.events;
+    }
+
+    // No more events stand than have room.
+    fn fits(&self)
+        ensures { length self.now.events ≤ self.now.places }
+    {
+        let _ = self.events.capacity();
     }
 
     // Room for that, and for so many events.
@@ -119,15 +141,20 @@ impl Machine {
             Plan::Create { held, .. } => self
                 .tables
                 .make_add_room(alloc, held.container.life.mounts.len()),
+            Plan::EndTicket { .. } => Ok(()),
+            Plan::Halt { .. } => self.tables.make_halt_room(alloc),
             Plan::KillRestarting { .. } => Ok(()),
             Plan::Kill { .. } => self.tables.make_room(alloc),
             Plan::Pause { .. } => self.tables.make_room(alloc),
             Plan::Start { .. } => self.tables.make_room(alloc),
+            Plan::StopRestarting { .. } => Ok(()),
             Plan::Unpause { .. } => self.tables.make_room(alloc),
+            Plan::Wait { .. } => self.tables.make_ticket_room(),
         }
     }
 
     /// Makes a lawful call ready: its reply, its events, and all the memory that its commit wants.
+    /// A drop takes no memory.
     pub fn prepare(
         &mut self,
         alloc: Global,
@@ -140,9 +167,14 @@ impl Machine {
         ensures state { self.new.memory.state ≡ self.old.memory.state }
         ensures events { self.new.events ≡ self.old.events }
         ensures ready { IfOk result (λ p. IsFor p self.new (asked_by conn moment call.now)) }
+        ensures drop { OnErr result (IsFalse (is_drop call.now)) }
     {
         self.kept();
-        let prepared = self.prepare_call(alloc, moment, call)?;
+        self.fits();
+        if let Call::Drop { ticket } = call {
+            return Ok(calls::take::prepare_drop(alloc, moment, *ticket));
+        }
+        let prepared = self.prepare_call(alloc, conn, moment, call)?;
         self.make_room(alloc, &prepared.plan, prepared.events.len())?;
         Ok(prepared)
     }
@@ -234,7 +266,7 @@ impl Machine {
     }
 }
 
-/// Makes a lawful call, and answers it; out of memory it changes nothing.
+/// Makes a lawful call, and answers it; out of memory it changes nothing. A drop takes none.
 pub fn ask(
     machine: &mut Machine,
     alloc: Global,
@@ -244,7 +276,8 @@ pub fn ask(
 ) -> Result<Reply, NoMemory>
     requires lawful { IsLawful machine.old.memory.state (steps.Step.Call conn moment call.now) }
     requires built { IsTrue (is_built call.now) }
-    ensures { IsAsked result (call_outcome conn moment call.now machine.old.memory.state) machine.old machine.new }
+    ensures made { IsAsked result (call_outcome conn moment call.now machine.old.memory.state) machine.old machine.new }
+    ensures drop { OnErr result (IsFalse (is_drop call.now)) }
 {
     let prepared = machine.prepare(alloc, conn, moment, call)?;
     Ok(machine.commit(prepared))

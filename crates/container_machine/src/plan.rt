@@ -3,9 +3,9 @@ ghost use Rattle.std.specs.Prelude.{◌≡◌};
 ghost use Rattle.container_machine.specs.Plans.{plan_effect, Fits};
 ghost use Rattle.machine_effects.specs.Settled.{deaths};
 
-use super::calls;
-use engine_text::{Script, Signal, Volume};
-use machine_effects::{Death, Held, Kit, Tables};
+use super::{calls, halts};
+use engine_text::{Script, Signal, Until, Volume};
+use machine_effects::{Death, Halting, Held, Kit, Tables};
 
 /// What a prepared call does.
 #[derive(Drop)]
@@ -14,6 +14,17 @@ pub enum Plan {
     Create {
         held: Held,
         volumes: Vec<Volume>,
+    },
+    EndTicket {
+        ticket: u64,
+    },
+    Halt {
+        conn: u32,
+        number: u64,
+        halting: Halting,
+        sent: Signal,
+        seconds: i32,
+        kit: Kit,
     },
     Kill {
         number: u64,
@@ -32,9 +43,17 @@ pub enum Plan {
         number: u64,
         script: Option<Script>,
     },
+    StopRestarting {
+        number: u64,
+    },
     Unpause {
         number: u64,
         kit: Kit,
+    },
+    Wait {
+        conn: u32,
+        number: u64,
+        until: Until,
     },
 }
 
@@ -51,6 +70,18 @@ pub fn perform(tables: &mut Tables, plan: Plan) -> Option<Death>
             calls::create::perform(tables, held, volumes);
             None
         }
+        Plan::EndTicket { ticket } => {
+            calls::take::perform(tables, ticket);
+            None
+        }
+        Plan::Halt {
+            conn,
+            number,
+            halting,
+            sent,
+            seconds,
+            kit,
+        } => halts::perform(tables, conn, number, halting, sent, seconds, kit),
         Plan::Kill {
             number,
             sent,
@@ -69,6 +100,18 @@ pub fn perform(tables: &mut Tables, plan: Plan) -> Option<Death>
             calls::start::perform(tables, number, script);
             None
         }
+        Plan::StopRestarting { number } => {
+            calls::stop::perform_restarting(tables, number);
+            None
+        }
         Plan::Unpause { number, kit } => calls::unpause::perform(tables, number, kit),
+        Plan::Wait {
+            conn,
+            number,
+            until,
+        } => {
+            calls::wait::perform(tables, conn, number, until);
+            None
+        }
     }
 }

@@ -93,6 +93,13 @@ pub fn not_running(alloc: Global, id: &str) -> Result<Text, NoMemory>
     join(alloc, "Container ", id, " is not running")
 }
 
+/// The removal of a container took too long.
+pub fn removal_timed_out(alloc: Global, id: &str) -> Result<Text, NoMemory>
+    ensures { IfOk result (λ t. t ≡ spec.removal_timed_out id.now) }
+{
+    join(alloc, "removal of container ", id, " timed out")
+}
+
 /// A container isn't paused.
 pub fn not_paused(alloc: Global, id: &str) -> Result<Text, NoMemory>
     ensures { IfOk result (λ t. t ≡ spec.not_paused id.now) }

@@ -100,7 +100,7 @@ unpause_died n s code is = woken_died thaw Status.Paused n s code is
 none_told : (event : Container → ℕ → Event) (n : ℕ) (s : State) → (tell_of event n s).died ≡ []
 none_told event n s = none_found (container_numbered n s) _ (λ c z. refl) s
 
-behind_event : (event : Container → ℕ → Event) (n : ℕ) (s : State) (died : State → List Died) → (tell_of event n s).died ++ died (tell_of event n s).state ≡ died s
+pub behind_event : (event : Container → ℕ → Event) (n : ℕ) (s : State) (died : State → List Died) → (tell_of event n s).died ++ died (tell_of event n s).state ≡ died s
 behind_event event n s died = ap (λ l. l ++ died (tell_of event n s).state) (none_told event n s) ∙ ap died (tell_still event n s)
 
 pub deliver_died : (last : Bool) (number n : ℕ) (s : State) (c : Container) (code : Option ℕ) → container_numbered n s ≡ Some c → code ≡ code_at (signal number last s.clock) (process_of (Owner.Container n) s.processes) → (deliver last number n s).died ≡ died_of n code

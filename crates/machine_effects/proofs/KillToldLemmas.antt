@@ -11,6 +11,8 @@ use Rattle.engine_text.specs.declared.container.Life.{Life}
 use Rattle.engine_text.specs.declared.owner.Owner.{Owner}
 use Rattle.engine_text.specs.declared.signal.Signal.{Signal}
 use Rattle.engine_text.specs.declared.status.Status.{Status}
+use Rattle.engine_text.specs.declared.ticket.Asked.{Asked}
+use Rattle.engine_text.specs.declared.ticket.Ticket.{Ticket}
 use Rattle.proc_kernel.specs.Catalogue.{program_of}
 use Rattle.proc_kernel.specs.Foretelling.{code_at}
 use Rattle.proc_kernel.specs.Processes.{signal}
@@ -24,6 +26,7 @@ use Rattle.machine_model.specs.Calls.Remove.{to_remove, if_it_lives, kill_to_rem
 use Rattle.machine_model.specs.Due.{stop_deadline}
 use Rattle.machine_model.specs.Effects.Halt.{halt, lesser, set_deadline, signal_used, seconds_used}
 use Rattle.machine_model.specs.Effects.Meet.{meet_signal}
+use Rattle.machine_model.specs.Tickets.{begun}
 use Rattle.machine_effects.specs.Foretold.{told_code, told_exec, told_goal, told_mounts, told_number, told_status}
 use Rattle.engine_text.specs.declared.event.Action.{Action}
 use Rattle.machine_effects.specs.Marks.{renewed}
@@ -34,49 +37,58 @@ use Rattle.machine_effects.proofs.SiftLemmas.{nil_end}
 use Rattle.machine_effects.proofs.ToldLemmas.{found_renewed, told_at}
 use Rattle.machine_effects.proofs.MeetToldLemmas.{StandOnce, code_is, code_kept, goal_kept, meet_told, status_kept, thaws_marked}
 
--- ---- timers, of which nothing is told
+-- ---- timers and tickets, of which nothing is told
 
-abbrev timed : List DueAction → State → State
-timed ts s = record s { timers = ts }
+-- timers, tickets and the next ticket's number
+record Beside : Type 0 where
+  timers : List DueAction
+  tickets : List Ticket
+  next : ℕ
 
-exec_timed : (code : ℕ) (o : Option Exec) (ts : List DueAction) (s : State) → told_exec code o (timed ts s) ≡ told_exec code o s
-exec_timed code None ts s = refl
-exec_timed code (Some x) ts s = refl
+abbrev beside : Beside → State → State
+beside b s = record s { timers = b.timers; tickets = b.tickets; next_ticket = b.next }
 
-thaw_timed : (code : Option ℕ) (j : ℕ) (ts : List DueAction) (s : State) → told_thaw code j (timed ts s) ≡ told_thaw code j s
-thaw_timed None j ts s = refl
-thaw_timed (Some code) j ts s = exec_timed code (exec_numbered j s) ts s
+abbrev with_timers : List DueAction → State → Beside
+with_timers ts s = record { timers = ts; tickets = s.tickets; next = s.next_ticket }
 
-thaws_timed : (js : List ℕ) (ts : List DueAction) (s : State) → flat_map (λ j. told_thaw (thawed_code j s) j (timed ts s)) js ≡ flat_map (λ j. told_thaw (thawed_code j s) j s) js
-thaws_timed [] ts s = refl
-thaws_timed (j ∷ js) ts s =
-    ap (λ l. l ++ flat_map (λ k. told_thaw (thawed_code k s) k (timed ts s)) js) (thaw_timed (thawed_code j s) j ts s)
-    ∙ ap (λ l. told_thaw (thawed_code j s) j s ++ l) (thaws_timed js ts s)
+exec_beside : (code : ℕ) (o : Option Exec) (b : Beside) (s : State) → told_exec code o (beside b s) ≡ told_exec code o s
+exec_beside code None b s = refl
+exec_beside code (Some x) b s = refl
 
-ends_timed : (ks : List ℕ) (ts : List DueAction) (s : State) → flat_map (told_number (timed ts s)) ks ≡ flat_map (told_number s) ks
-ends_timed [] ts s = refl
-ends_timed (k ∷ ks) ts s =
-    ap (λ l. l ++ flat_map (told_number (timed ts s)) ks) (exec_timed 137 (exec_numbered k s) ts s)
-    ∙ ap (λ l. told_number s k ++ l) (ends_timed ks ts s)
+thaw_beside : (code : Option ℕ) (j : ℕ) (b : Beside) (s : State) → told_thaw code j (beside b s) ≡ told_thaw code j s
+thaw_beside None j b s = refl
+thaw_beside (Some code) j b s = exec_beside code (exec_numbered j s) b s
 
-code_timed : (ks : List ℕ) (code : Option ℕ) (c : Container) (o : Option Program) (ts : List DueAction) (s : State) → told_code_with ks code c o (timed ts s) ≡ told_code_with ks code c o s
-code_timed ks None c o ts s = refl
-code_timed ks (Some code) c o ts s =
-    ap (λ l. l ++ (die_event code c s.clock ∷ (told_mounts Action.Unmount c s.clock ++ told_status c.life.status o c s.clock))) (ends_timed ks ts s)
+thaws_beside : (js : List ℕ) (b : Beside) (s : State) → flat_map (λ j. told_thaw (thawed_code j s) j (beside b s)) js ≡ flat_map (λ j. told_thaw (thawed_code j s) j s) js
+thaws_beside [] b s = refl
+thaws_beside (j ∷ js) b s =
+    ap (λ l. l ++ flat_map (λ k. told_thaw (thawed_code k s) k (beside b s)) js) (thaw_beside (thawed_code j s) j b s)
+    ∙ ap (λ l. told_thaw (thawed_code j s) j s ++ l) (thaws_beside js b s)
 
-main_timed : (code : Option ℕ) (n : ℕ) (c : Container) (o : Option Program) (ts : List DueAction) (s : State) → told_code code n c o (timed ts s) ≡ told_code code n c o s
-main_timed code n c o ts s = code_is code n c o (timed ts s) ∙ (code_timed (running_numbers n s) code c o ts s ∙ sym (code_is code n c o s))
+ends_beside : (ks : List ℕ) (b : Beside) (s : State) → flat_map (told_number (beside b s)) ks ≡ flat_map (told_number s) ks
+ends_beside [] b s = refl
+ends_beside (k ∷ ks) b s =
+    ap (λ l. l ++ flat_map (told_number (beside b s)) ks) (exec_beside 137 (exec_numbered k s) b s)
+    ∙ ap (λ l. told_number s k ++ l) (ends_beside ks b s)
 
-meet_timed : (u : Status) (code : Option ℕ) (n : ℕ) (c : Container) (o : Option Program) (ts : List DueAction) (s : State) → told_meet u code n c o (timed ts s) ≡ told_meet u code n c o s
-meet_timed Status.Paused code n c o ts s =
-    ap (λ l. (plain_event Action.Unpause c s.clock ∷ l) ++ told_code_with (running_after n s) code c o (timed ts s)) (thaws_timed (running_numbers n s) ts s)
-    ∙ ap (λ l. told_wake n c s ++ l) (code_timed (running_after n s) code c o ts s)
-meet_timed Status.Created code n c o ts s = main_timed code n c o ts s
-meet_timed Status.Running code n c o ts s = main_timed code n c o ts s
-meet_timed Status.Restarting code n c o ts s = main_timed code n c o ts s
-meet_timed Status.Removing code n c o ts s = main_timed code n c o ts s
-meet_timed Status.Exited code n c o ts s = main_timed code n c o ts s
-meet_timed Status.Dead code n c o ts s = main_timed code n c o ts s
+code_beside : (ks : List ℕ) (code : Option ℕ) (c : Container) (o : Option Program) (b : Beside) (s : State) → told_code_with ks code c o (beside b s) ≡ told_code_with ks code c o s
+code_beside ks None c o b s = refl
+code_beside ks (Some code) c o b s =
+    ap (λ l. l ++ (die_event code c s.clock ∷ (told_mounts Action.Unmount c s.clock ++ told_status c.life.status o c s.clock))) (ends_beside ks b s)
+
+main_beside : (code : Option ℕ) (n : ℕ) (c : Container) (o : Option Program) (b : Beside) (s : State) → told_code code n c o (beside b s) ≡ told_code code n c o s
+main_beside code n c o b s = code_is code n c o (beside b s) ∙ (code_beside (running_numbers n s) code c o b s ∙ sym (code_is code n c o s))
+
+meet_beside : (u : Status) (code : Option ℕ) (n : ℕ) (c : Container) (o : Option Program) (b : Beside) (s : State) → told_meet u code n c o (beside b s) ≡ told_meet u code n c o s
+meet_beside Status.Paused code n c o b s =
+    ap (λ l. (plain_event Action.Unpause c s.clock ∷ l) ++ told_code_with (running_after n s) code c o (beside b s)) (thaws_beside (running_numbers n s) b s)
+    ∙ ap (λ l. told_wake n c s ++ l) (code_beside (running_after n s) code c o b s)
+meet_beside Status.Created code n c o b s = main_beside code n c o b s
+meet_beside Status.Running code n c o b s = main_beside code n c o b s
+meet_beside Status.Restarting code n c o b s = main_beside code n c o b s
+meet_beside Status.Removing code n c o b s = main_beside code n c o b s
+meet_beside Status.Exited code n c o b s = main_beside code n c o b s
+meet_beside Status.Dead code n c o b s = main_beside code n c o b s
 
 -- ---- a renewed life of which the same is told
 
@@ -141,7 +153,7 @@ pub stop_deadline_told : (n : ℕ) (s : State) (c : Container) (o : Option Progr
     → code ≡ code_at (signal 9 true s.clock) (process_of (Owner.Container n) s.processes) → (stop_deadline n s).events ≡ told_kill 9 code c o s
 stop_deadline_told n s c o code found named single is =
     let y : State = clear_timer 1 n s in
-    let same : told_meet c.life.status code c.number c o y ≡ told_meet c.life.status code c.number c o s = meet_timed c.life.status code c.number c o y.timers s in
+    let same : told_meet c.life.status code c.number c o y ≡ told_meet c.life.status code c.number c o s = meet_beside c.life.status code c.number c o (with_timers y.timers s) s in
     ap (λ z. (tell_of (kill_event 9) n y).events ++ (meet_signal 9 n z).events) (tell_still (kill_event 9) n y)
     ∙ (ap (λ l. (tell_of (kill_event 9) n y).events ++ l) (meet_told 9 n y c o code found named (record { execs = single.execs; processes = single.processes }) is)
     ∙ (by_number 9 n y c c o code found ∙ ap (λ l. kill_event 9 c s.clock ∷ l) same))
@@ -153,8 +165,8 @@ behind_deadline : (z : ℤ) (mark : Life → Life) (goal : Goal) (number n : ℕ
     → code ≡ code_at (signal number true s.clock) (process_of (Owner.Container n) s.processes) → (meet_signal number n (set_deadline z n (change_life n mark s))).events ≡ told_meet c.life.status code n (aimed goal c) o s
 behind_deadline (pos seconds) mark goal number n s c o code aims found named single is =
     let ts : List DueAction = with_timer (lesser (timer_of 1 n s) (s.clock + 1000 * seconds)) 1 n s.timers in
-    aimed_told mark goal number n (timed ts s) c o code aims found named (record { execs = single.execs; processes = single.processes }) is
-    ∙ meet_timed c.life.status code n (aimed goal c) o ts s
+    aimed_told mark goal number n (beside (with_timers ts s) s) c o code aims found named (record { execs = single.execs; processes = single.processes }) is
+    ∙ meet_beside c.life.status code n (aimed goal c) o (with_timers ts s) s
 behind_deadline (negsuc k) mark goal number n s c o code aims found named single is = aimed_told mark goal number n s c o code aims found named single is
 
 pub halt_told : (mark : Life → Life) (goal : Goal) (seconds : Option ℤ) (sent : Option Signal) (s : State) (c : Container) (o : Option Program) (code : Option ℕ) → Aims mark goal c.life → container_numbered c.number s ≡ Some c → o ≡ program_of c.life.words (c.life.starts + 1) → StandOnce s
@@ -167,13 +179,13 @@ halt_told mark goal seconds sent s c o code aims found named single is =
     ∙ (ap (λ l. (tell_of (kill_event number) n s).events ++ l) (behind_deadline z mark goal number n s c o code aims found named single is)
     ∙ ap (λ l. l ++ told_meet c.life.status code n (aimed goal c) o s) (told_at (kill_event number) n s c found))
 
-stopping_aims : (l : Life) → Aims stopping Goal.Stop l
+pub stopping_aims : (l : Life) → Aims stopping Goal.Stop l
 stopping_aims l = record { over = refl; told = record { mounts = refl; goal = refl; status = refl }; words = refl; starts = refl }
 
-restart_aims : (l : Life) → Aims to_restart Goal.Restart l
+pub restart_aims : (l : Life) → Aims to_restart Goal.Restart l
 restart_aims l = record { over = refl; told = record { mounts = refl; goal = refl; status = refl }; words = refl; starts = refl }
 
-remove_aims : (l : Life) → Aims to_remove Goal.Remove l
+pub remove_aims : (l : Life) → Aims to_remove Goal.Remove l
 remove_aims l = record { over = refl; told = record { mounts = refl; goal = refl; status = refl }; words = refl; starts = refl }
 
 -- a stop of a container that lives
@@ -201,3 +213,15 @@ kill_to_remove_told n s c o code found named single is =
     ∙ (ap (λ l. (tell_of (kill_event 9) n s).events ++ ((meet_signal 9 n s1).events ++ l)) (if_quiet (is_live (Owner.Container n) z) n z)
     ∙ (ap (λ l. (tell_of (kill_event 9) n s).events ++ l) (nil_end (meet_signal 9 n s1).events ∙ aimed_told to_remove Goal.Remove 9 n s c o code (remove_aims c.life) found named single is)
     ∙ by_number 9 n s c (aimed Goal.Remove c) o code found))
+
+-- ---- behind the begin of a ticket
+
+-- what a signal and its event kill tell is as before it
+pub kill_begun : (connection container : ℕ) (asked : Asked) (signal : ℕ) (code : Option ℕ) (c : Container) (o : Option Program) (s : State) → told_kill signal code c o (begun connection container asked s) ≡ told_kill signal code c o s
+kill_begun connection container asked signal code c o s =
+    let z : State = begun connection container asked s in
+    ap (λ l. kill_event signal c s.clock ∷ l) (meet_beside c.life.status code c.number c o (record { timers = s.timers; tickets = z.tickets; next = z.next_ticket }) s)
+
+-- the execs and the processes stand as before it
+pub once_begun : (connection container : ℕ) (asked : Asked) (s : State) → StandOnce s → StandOnce (begun connection container asked s)
+once_begun connection container asked s once = record { execs = once.execs; processes = once.processes }

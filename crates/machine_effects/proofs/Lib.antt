@@ -26,6 +26,7 @@ pub mod KillToldLemmas
 pub mod CallToldLemmas
 pub mod DiedToldLemmas
 pub mod OnceLemmas
+pub mod HaltLemmas
 pub mod CreateLemmas
 pub mod NameLemmas
 pub mod IdLemmas

@@ -146,3 +146,8 @@ put_answered fate n ready [] i low e = absurd (omega arith)
 put_answered fate n ready (x ∷ xs) zero low e =
     ap (λ (t : HeldTicket). t ∷ xs) (ap (λ r. record x { ready = r }) (e x refl) ∙ sym (answered_either (x.container == n) x (ready_or x.ready (ready_by fate x.asked))))
 put_answered fate n ready (x ∷ xs) (suc i) low e = ap (λ l. x ∷ l) (put_answered fate n ready xs i (omega arith) e)
+
+-- a ticket more
+pub one_more : (seed : List ℕ) (t : HeldTicket) (ts : List HeldTicket) → tickets_in seed (ts ++ t ∷ []) ≡ tickets_in seed ts ++ ticket_in seed t ∷ []
+one_more seed t [] = refl
+one_more seed t (x ∷ xs) = ap (λ l. ticket_in seed x ∷ l) (one_more seed t xs)

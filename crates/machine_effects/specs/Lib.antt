@@ -2,6 +2,7 @@ pub mod Deadlines
 pub mod Effects
 pub mod Fit
 pub mod Foretold
+pub mod Halts
 pub mod Held
 pub mod Kits
 pub mod LeastDue
@@ -14,6 +15,7 @@ pub mod Places
 pub mod Rooms
 pub mod Running
 pub mod Settled
+pub mod Tickets
 pub mod Values
 pub mod Views
 pub mod ToldMeet

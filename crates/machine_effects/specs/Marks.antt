@@ -7,6 +7,8 @@ use Rattle.engine_text.specs.declared.status.Status.{Status}
 use Rattle.machine_model.specs.Calls.Kill.{by_hand}
 use Rattle.machine_model.specs.Calls.Pause.{paused}
 use Rattle.machine_model.specs.Calls.Remove.{to_remove, removing}
+use Rattle.machine_model.specs.Calls.Restart.{to_restart}
+use Rattle.machine_model.specs.Calls.Stop.{stopping}
 use Rattle.machine_model.specs.Due.{died}
 use Rattle.machine_model.specs.Effects.Cancel.{cancelled}
 use Rattle.machine_model.specs.Effects.EndMain.{ended, exited, no_goal, restarting}
@@ -27,6 +29,8 @@ marked Mark.Exited = exited
 marked Mark.Cancelled = cancelled
 marked Mark.Died = died
 marked Mark.Removing = removing
+marked Mark.Stopping = stopping
+marked Mark.ToRestart = to_restart
 marked Mark.Afresh = afresh
 marked Mark.NoGoal = no_goal
 marked Mark.ToRemove = to_remove

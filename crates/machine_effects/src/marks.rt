@@ -14,6 +14,8 @@ pub enum Mark {
     Cancelled,
     Died,
     Removing,
+    Stopping,
+    ToRestart,
     Afresh,
     NoGoal,
     ToRemove,
@@ -37,6 +39,11 @@ pub fn note(life: &mut Life, mark: Mark)
         }
         Mark::Died => life.status = Status::Dead,
         Mark::Removing => life.status = Status::Removing,
+        Mark::Stopping => {
+            life.manual = true;
+            life.goal = Goal::Stop;
+        }
+        Mark::ToRestart => life.goal = Goal::Restart,
         Mark::Afresh => {
             life.restarts = 0;
             life.delay = 0;

@@ -1,11 +1,13 @@
 // The table of tickets.
-ghost use Rattle.std.specs.Prelude.{◌≡◌, ℕ, ◌<◌, [], length, map, slice_get, Some};
+ghost use Rattle.std.specs.Prelude.{◌≡◌, ℕ, ◌<◌, ◌==◌, [], ◌∷◌, ◌++◌, find, length, map, option_copied, slice_get, Some, OnOk};
+ghost use Rattle.container_table.specs.Lists.{remove_first};
 ghost use Rattle.machine_effects.specs.Held.{last_ready, late_ready, ready_by, ready_or, answered_by};
 ghost use Rattle.machine_effects.specs.Places.{at_place};
 ghost use Rattle.machine_effects.specs.declared.held.HeldTicket.{HeldTicket};
 
 use super::held::{Fate, HeldTicket, Ready};
-use engine_text::Asked;
+use super::ticket_rows;
+use engine_text::{Asked, NoMemory};
 use std::alloc::Global;
 use std::marker::Model;
 
@@ -103,6 +105,41 @@ impl Tickets {
         ensures { slice_get self.now.tickets place ≡ Some result.now }
     {
         &self.items[place]
+    }
+
+    /// The ticket with that number.
+    pub fn numbered(&self, number: u64) -> Option<&HeldTicket>
+        ensures { option_copied result ≡ find (λ t. t.number == number) self.now.tickets }
+    {
+        ticket_rows::numbered(self.items.as_slice(), number)
+    }
+
+    /// Makes room for a ticket more.
+    pub fn reserve(&mut self) -> Result<(), NoMemory>
+        ensures tickets { self.new.tickets ≡ self.old.tickets }
+        ensures room { OnOk result (length self.new.tickets < self.new.room) }
+    {
+        match self.items.reserve(1) {
+            Ok(()) => Ok(()),
+            Err(_) => Err(NoMemory),
+        }
+    }
+
+    /// A ticket more; there was room for it.
+    pub fn add(&mut self, ticket: HeldTicket)
+        requires { length self.old.tickets < self.old.room }
+        ensures tickets { self.new.tickets ≡ self.old.tickets ++ ticket ∷ [] }
+        ensures room { self.new.room ≡ self.old.room }
+    {
+        self.items.push_reserved(ticket);
+    }
+
+    /// The ticket with that number is gone.
+    pub fn remove(&mut self, number: u64)
+        ensures tickets { self.new.tickets ≡ remove_first (λ t. t.number == number) self.old.tickets }
+        ensures room { self.new.room ≡ self.old.room }
+    {
+        ticket_rows::remove(&mut self.items, number);
     }
 
     /// The ticket at that place has that reply, or none.

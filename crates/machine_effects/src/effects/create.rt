@@ -21,13 +21,20 @@ impl Tables {
     }
 
     /// The id of that number.
-    pub fn next_id(&self, alloc: Global) -> Result<Text, NoMemory>
-        ensures { IfOk result (λ t. t ≡ id_of self.now.state.seed self.now.state.next_number) }
+    pub fn id_numbered(&self, alloc: Global, number: u64) -> Result<Text, NoMemory>
+        ensures { IfOk result (λ t. t ≡ id_of self.now.state.seed number) }
     {
-        match str::from_utf8(&id_of(&self.seed, self.next_number)) {
+        match str::from_utf8(&id_of(&self.seed, number)) {
             Ok(text) => Text::of(alloc, text),
             Err(_) => unreachable!(),
         }
+    }
+
+    /// The id of the next number.
+    pub fn next_id(&self, alloc: Global) -> Result<Text, NoMemory>
+        ensures { IfOk result (λ t. t ≡ id_of self.now.state.seed self.now.state.next_number) }
+    {
+        self.id_numbered(alloc, self.next_number)
     }
 
     /// The container that has the name.

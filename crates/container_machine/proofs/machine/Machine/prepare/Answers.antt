@@ -14,5 +14,5 @@ returns-clause-ready c =
     ready c.in_ok-prepared.prepared c.make_room.new.self c.args.conn c.args.moment c.args.call.now
     (subst (λ (s : State). IsConsistent s) e c.kept.ensures.state)
     (subst (λ (s : State). IsLawful s (Step.Call c.args.conn c.args.moment c.args.call.now)) e c.requires.lawful)
-    (subst (λ (s : State). Makes c.in_ok-prepared.prepared c.args.moment s (outcome_of c.args.call.now c.args.conn)) e (c.in_ok-prepared.ensures c.args.conn))
+    (subst (λ (s : State). Makes c.in_ok-prepared.prepared c.args.moment s (outcome_of c.args.call.now c.args.conn)) e c.in_ok-prepared.ensures)
     c.in_ok-make_room.ensures.room (omega (arith, c.in_ok-make_room.ensures.places))

@@ -1,0 +1,107 @@
+-- A stop that is made ready is the stop's outcome.
+use Rattle.std.proofs.Common.{◌≡◌, ℕ, ◌+◌, ◌==◌, ◌<◌, ◌≤◌, ◌&&◌, ℤ, Bool, true, false, List, [], ◌∷◌, ◌++◌, Option, Some, None, refl, ap, sym, ◌∙◌, subst, find, arith, if◌then◌else◌}
+use Rattle.std.specs.Prelude.{IfSome, IsTrue, nat_le}
+use Rattle.std.specs.List.{AllByRecursion}
+use Rattle.std.proofs.lemmas.Bool.Decides.{nat_tests}
+use Rattle.call_bounds.specs.Soundness.{if_given, is_signal}
+use Rattle.engine_text.specs.Scripts.{Program}
+use Rattle.engine_text.specs.declared.container.Container.{Container}
+use Rattle.engine_text.specs.declared.container.Goal.{Goal}
+use Rattle.engine_text.specs.declared.container.Life.{Life}
+use Rattle.engine_text.specs.declared.event.Event.{Event}
+use Rattle.engine_text.specs.declared.owner.Owner.{Owner}
+use Rattle.engine_text.specs.declared.reply.Reply.{Reply}
+use Rattle.engine_text.specs.declared.reply.Reply.TheVariants.{Begun}
+use Rattle.engine_text.specs.declared.signal.Signal.{Signal}
+use Rattle.proc_kernel.specs.Catalogue.{program_of}
+use Rattle.proc_kernel.specs.Foretelling.{code_at}
+use Rattle.proc_kernel.specs.Processes.{signal}
+use Rattle.proc_kernel.specs.Tables.{process_of}
+use Rattle.machine_model.specs.Consistency.{IsConsistent}
+use Rattle.machine_model.specs.Effects.Halt.{halt, seconds_used, signal_used}
+use Rattle.machine_model.specs.Outcome.{Outcome}
+use Rattle.machine_model.specs.Ranges.{IsLifeInRange}
+use Rattle.machine_model.specs.State.{State, container_numbered}
+use Rattle.machine_model.specs.Step.{at_moment}
+use Rattle.machine_model.specs.Tickets.{begins, begun}
+use Rattle.machine_effects.specs.Halts.{asked_of, goal_of, mark_of}
+use Rattle.machine_effects.specs.Kits.{IsKitOf}
+use Rattle.machine_effects.specs.ToldKill.{aimed, told_kill}
+use Rattle.machine_effects.specs.declared.halting.Halting.{Halting}
+use Rattle.machine_effects.specs.declared.kit.Kit.{Kit}
+use Rattle.machine_effects.proofs.KillToldLemmas.{Aims, halt_told, kill_begun, once_begun, restart_aims, stopping_aims}
+use Rattle.container_machine.specs.Calls.Stop.{halt_effect}
+use Rattle.container_machine.specs.Making.{Makes}
+use Rattle.container_machine.specs.Plans.{plan_effect, Brings}
+use Rattle.container_machine.specs.declared.plan.Plan.{Plan}
+use Rattle.container_machine.specs.declared.prepared.Prepared.{Prepared}
+use Rattle.container_machine.proofs.MakeLemmas.{once_at, serves}
+
+-- ---- the signal is one of 1 to 31
+
+found_either : {A : Type 0} (P : A → Type 0) (b : Bool) (x c : A) (o : Option A) → P x → (o ≡ Some c → P c) → (if b then Some x else o) ≡ Some c → P c
+found_either P true x c o h rest e = let is : x ≡ c = cc in subst P is h
+found_either P false x c o h rest e = rest e
+
+-- what holds of each holds of the one that is found
+pub all_found : {A : Type 0} (P : A → Type 0) (p : A → Bool) (xs : List A) (c : A) → AllByRecursion P xs → find p xs ≡ Some c → P c
+all_found P p [] c all e = absurd (cc)
+all_found P p (x ∷ xs) c all e = found_either P (p x) x c (find p xs) all.0 (all_found P p xs c all.1) e
+
+own_signal : (n : ℕ) (s : State) (c : Container) → IsConsistent s → container_numbered n s ≡ Some c → c.life.stop_signal.number < 32
+own_signal n s c k found =
+    let within : IsLifeInRange c.life = all_found (λ (d : Container). IsLifeInRange d.life) (λ (d : Container). d.number == n) s.containers c k.ranges.lives found in
+    let most = within.1.1 in
+    omega (arith, most)
+
+-- the signal that is used
+pub low_used : (o : Option Signal) (n : ℕ) (s : State) (c : Container) (m : ℕ) → IsConsistent s → container_numbered n s ≡ Some c → IfSome o (λ (x : Signal). x.number < 32) → m ≡ signal_used o c → m < 32
+low_used None n s c m k found given e = subst (λ j. j < 32) (sym e) (own_signal n s c k found)
+low_used (Some x) n s c m k found given e = subst (λ j. j < 32) (sym e) given
+
+both_true : (a b : Bool) → IsTrue (a && b) → IsTrue b
+both_true true b h = h
+both_true false b h = absurd (cc)
+
+low_given : (x : Signal) → IsTrue (is_signal x) → x.number < 32
+low_given x h =
+    let low : IsTrue (nat_le x.number 31) = both_true (nat_le 1 x.number) (nat_le x.number 31) h in
+    grind (arith, nat_tests, low)
+
+if_low : (o : Option Signal) → IsTrue (if_given is_signal o) → IfSome o (λ (x : Signal). x.number < 32)
+if_low None h = tt
+if_low (Some x) h = low_given x h
+
+-- the signal of a sound call
+pub low_signal : (a b : Bool) (o : Option Signal) → IsTrue (a && b && if_given is_signal o) → IfSome o (λ (x : Signal). x.number < 32)
+low_signal a b o h = if_low o (both_true (a && b) (if_given is_signal o) h)
+
+-- ---- of a container that lives
+
+aims : (halting : Halting) (l : Life) → Aims (mark_of halting) (goal_of halting) l
+aims Halting.Stop l = stopping_aims l
+aims Halting.Restart l = restart_aims l
+
+pub makes_halt : (p : Prepared) (t : ℕ) (s : State) (c : Container) (connection : ℕ) (halting : Halting) (wait : Option ℤ) (asked : Option Signal) (sent : Signal) (seconds : ℤ) (goal : Goal) (script : Option Program) (code : Option ℕ) (kit : Kit) (ticket : ℕ) (empty : List Event)
+    → IsConsistent s → container_numbered c.number s ≡ Some c → sent.number < 32 → sent.number ≡ signal_used asked c → seconds ≡ seconds_used wait c → goal ≡ goal_of halting → script ≡ program_of c.life.words (c.life.starts + 1)
+    → ((u : ℕ) → code ≡ code_at (signal sent.number true u) (process_of (Owner.Container c.number) s.processes))
+    → p.moment ≡ t → p.plan ≡ Plan.Halt connection c.number halting sent seconds kit → IsKitOf c.number script s kit → p.reply ≡ Begun ticket → ticket ≡ s.next_ticket
+    → empty ≡ [] → p.events.items ≡ empty ++ told_kill sent.number code (aimed goal c) script (at_moment t s)
+    → Makes p t s (begins connection c (asked_of halting) (halt (mark_of halting) wait asked c))
+makes_halt p t s c connection halting wait asked sent seconds goal script code kit ticket empty k found low used after aim named is moment plan of reply next none events =
+    let z : State = at_moment t s in
+    let n : ℕ = c.number in
+    let number : ℕ = signal_used asked c in
+    let y : State = begun connection n (asked_of halting) z in
+    let ends : code ≡ code_at (signal number true t) (process_of (Owner.Container n) s.processes) = is t ∙ ap (λ m. code_at (signal m true t) (process_of (Owner.Container n) s.processes)) used in
+    record {
+      moment = moment;
+      effect = ap (λ q. plan_effect q z) plan ∙ (ap (λ m. halt_effect connection n halting seconds m z) used ∙ ap (λ j. halt_effect connection n halting j number z) after);
+      events = events ∙ (ap (λ l. l ++ told_kill sent.number code (aimed goal c) script z) none
+          ∙ (ap (λ g. told_kill sent.number code (aimed g c) script z) aim
+          ∙ (ap (λ m. told_kill m code (aimed (goal_of halting) c) script z) used
+          ∙ (sym (kill_begun connection n (asked_of halting) number code (aimed (goal_of halting) c) script z)
+          ∙ sym (halt_told (mark_of halting) (goal_of halting) wait asked y c script code (aims halting c.life) found named (once_begun connection n (asked_of halting) z (once_at t s k)) ends)))));
+      reply = reply ∙ ap (λ m. Begun m) next;
+      brings = subst (λ q. Brings q t s) (sym plan) (serves n s c script kit found named of, low);
+    }

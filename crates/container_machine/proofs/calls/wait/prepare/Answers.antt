@@ -1,0 +1,13 @@
+use Rattle.std.proofs.Common.{subst, ◌≡◌, Some, Option}
+use Rattle.engine_text.specs.declared.container.Container.{Container}
+use Rattle.engine_text.specs.declared.ticket.Asked.{Asked}
+use Rattle.machine_model.specs.Chain.{still}
+use Rattle.machine_model.specs.Tickets.{begins}
+use Rattle.container_machine.specs.Making.{IsLooked}
+use Rattle.container_machine.specs.declared.lookup.Looked.{Looked}
+use Rattle.container_machine.proofs.calls.wait.prepare.Goals as goal
+
+pub returns-in-Refused : goal.returns-in-Refused
+returns-in-Refused c =
+    let l : IsLooked (Looked.Refused c.in-Refused.prepared) c.args.moment c.args.target.now c.args.tables.now.state = subst (λ (l : Looked). IsLooked l c.args.moment c.args.target.now c.args.tables.now.state) c.in-Refused.is c.in_ok-h.ensures in
+    l (λ (d : Container). begins c.args.conn d (Asked.Wait c.args.until) still)

@@ -1,0 +1,103 @@
+// The end of a run that a stop or a restart asks for: a ticket, the signal and the deadline.
+ghost use Rattle.std.specs.Prelude.{◌≡◌, ◌<◌, ◌^◌, Some, IfOk, IfSome};
+ghost use Rattle.machine_model.specs.Consistency.{IsConsistent};
+ghost use Rattle.machine_model.specs.Effects.Halt as spec;
+ghost use Rattle.machine_model.specs.State.{container_numbered};
+ghost use Rattle.machine_model.specs.Tickets.{begins};
+ghost use Rattle.machine_effects.specs.Halts.{asked_of, mark_of};
+ghost use Rattle.machine_effects.specs.Held.{container_in};
+ghost use Rattle.machine_effects.specs.Settled.{deaths};
+ghost use Rattle.container_machine.specs.Calls.Stop.{CanStop, halt_effect};
+ghost use Rattle.container_machine.specs.Making.{Makes};
+
+use super::plan::Plan;
+use super::prepared::Prepared;
+use engine_text::{NoMemory, Reply, Signal};
+use machine_effects::{Death, Halting, Held, Kit, Tables};
+use proc_kernel::program;
+use std::alloc::Global;
+
+/// A ticket is given, and the run is to end.
+pub fn perform(
+    tables: &mut Tables,
+    conn: u32,
+    number: u64,
+    halting: Halting,
+    sent: Signal,
+    seconds: i32,
+    kit: Kit,
+) -> Option<Death>
+    requires { CanStop number sent kit tables.old }
+    ensures state { tables.new.state ≡ (halt_effect conn number halting seconds sent.number tables.old.state).state }
+    ensures died { deaths result ≡ (halt_effect conn number halting seconds sent.number tables.old.state).died }
+    ensures room { tables.new.room ≡ tables.old.room }
+{
+    tables.begin_ticket(conn, number, halting.asked());
+    match tables.halt(halting, seconds, sent, number, kit) {
+        None => None,
+        Some(code) => Some(Death { number, code }),
+    }
+}
+
+// The signal that was asked for, else the stop signal.
+fn signal_used(signal: Option<Signal>, h: &Held) -> Signal
+    ensures { result.number ≡ spec.signal_used signal (container_in h.now) }
+{
+    match signal {
+        None => h.container.life.stop_signal,
+        Some(signal) => signal,
+    }
+}
+
+// The seconds that were asked for, else the container's.
+fn seconds_used(seconds: Option<i32>, h: &Held) -> i32
+    ensures { result ≡ spec.seconds_used seconds (container_in h.now) }
+{
+    match seconds {
+        None => h.container.life.stop_after,
+        Some(seconds) => seconds,
+    }
+}
+
+/// Makes the end of a run ready, of a container that runs or is paused.
+pub fn prepare(
+    tables: &Tables,
+    alloc: Global,
+    conn: u32,
+    moment: u64,
+    h: &Held,
+    halting: Halting,
+    wait: Option<i32>,
+    signal: Option<Signal>,
+) -> Result<Prepared, NoMemory>
+    requires signal { IfSome signal (λ s. s.number < 32) }
+    requires stands { container_numbered h.now.container.number tables.now.state ≡ Some (container_in h.now) }
+    requires starts { h.now.container.life.starts < 2 ^ 63 }
+    requires kept { IsConsistent tables.now.state }
+    ensures { IfOk result (λ p. Makes p moment tables.now.state
+        (begins conn (container_in h.now) (asked_of halting) (spec.halt (mark_of halting) wait signal (container_in h.now)))) }
+{
+    let number = h.container.number;
+    let sent = signal_used(signal, h);
+    let seconds = seconds_used(wait, h);
+    let goal = halting.goal();
+    let script = program(alloc, &h.container.life.words, h.container.life.starts + 1)?;
+    let code = tables.signal_code(number, sent, true);
+    let mut events = Vec::new(alloc);
+    tables.tell_kill(alloc, sent.number, code, goal, h, &script, moment, &mut events)?;
+    let kit = tables.kit(alloc, number, script)?;
+    let ticket = tables.next_ticket();
+    Ok(Prepared {
+        moment,
+        reply: Reply::Begun { ticket },
+        events,
+        plan: Plan::Halt {
+            conn,
+            number,
+            halting,
+            sent,
+            seconds,
+            kit,
+        },
+    })
+}

@@ -1,0 +1,101 @@
+-- What stands behind the mark and the deadline of a stop or a restart, and behind the begin of a ticket.
+use Rattle.std.proofs.Common.{◌≡◌, ℕ, ◌+◌, ◌<◌, ◌≤◌, ℤ, pos, negsuc, Bool, true, false, List, [], ◌∷◌, refl, ap, sym, ◌∙◌, subst, arith, length, suc, if◌then◌else◌}
+use Rattle.container_table.specs.Lists.{placed}
+use Rattle.container_table.specs.Timers.{cleared, is_listed_before, is_timer, with_timer}
+use Rattle.engine_text.specs.declared.step.DueAction.{DueAction}
+use Rattle.engine_text.specs.declared.ticket.Asked.{Asked}
+use Rattle.machine_model.specs.State.{State, change_life, timer_of}
+use Rattle.machine_model.specs.Chain.{Died, tell_of}
+use Rattle.machine_model.specs.EventTexts.{kill_event}
+use Rattle.machine_model.specs.Effects.Halt.{lesser, set_deadline}
+use Rattle.machine_model.specs.Effects.Meet.{meet_signal}
+use Rattle.machine_model.specs.Tickets.{begun}
+use Rattle.machine_effects.specs.Fit.{AreTimely, CanSettle}
+use Rattle.machine_effects.specs.Halts.{CanHalt, halted, mark_of}
+use Rattle.machine_effects.specs.Memory.{Memory, Room}
+use Rattle.machine_effects.specs.declared.halting.Halting.{Halting}
+use Rattle.machine_effects.specs.declared.kit.Kit.{Kit}
+use Rattle.machine_effects.specs.declared.marks.Mark.{Mark}
+use Rattle.machine_effects.proofs.DiedToldLemmas.{behind_event}
+use Rattle.machine_effects.proofs.SettleLemmas.{fewer, launch_alike, remove_alike, settle_renew, tell_still}
+
+-- ---- a timer more
+
+placed_either : (b : Bool) (t d : DueAction) (ds ps : List DueAction) → length ps ≤ suc (length ds) → length (if b then d ∷ ps else t ∷ d ∷ ds) ≤ suc (length (d ∷ ds))
+placed_either true t d ds ps e = omega (arith, e)
+placed_either false t d ds ps e = omega arith
+
+placed_length : (t : DueAction) (ds : List DueAction) → length (placed is_listed_before t ds) ≤ suc (length ds)
+placed_length t [] = omega arith
+placed_length t (d ∷ ds) = placed_either (is_listed_before d t) t d ds (placed is_listed_before t ds) (placed_length t ds)
+
+pub timer_more : (moment rank n : ℕ) (ds : List DueAction) → length (with_timer moment rank n ds) ≤ length ds + 1
+timer_more moment rank n ds =
+    let more = placed_length (record { moment = moment; rank = rank; number = n }) (cleared rank n ds) in
+    let less = fewer (is_timer rank n) ds in
+    omega (arith, more, less)
+
+-- a change of the timers alone
+pub settle_timers : (n : ℕ) (kit : Kit) (room : Room) (ts : List DueAction) (s : State) → CanSettle n kit room s → length ts < room.timers → CanSettle n kit room (record s { timers = ts })
+settle_timers n kit room ts s h few = record {
+  clock = h.clock;
+  launch = launch_alike n kit.script s (record s { timers = ts }) refl refl h.launch;
+  remove = remove_alike n kit room s (record s { timers = ts }) (record { removed = refl; kept = refl; numbers = refl; outputs = refl }) h.remove;
+  execs = h.execs;
+  timers = few;
+}
+
+-- ---- the mark and the deadline
+
+settle_mark : (halting : Halting) (n : ℕ) (kit : Kit) (room : Room) (s : State) → CanSettle n kit room s → CanSettle n kit room (change_life n (mark_of halting) s)
+settle_mark Halting.Stop n kit room s h = settle_renew n kit room Mark.Stopping s h
+settle_mark Halting.Restart n kit room s h = settle_renew n kit room Mark.ToRestart s h
+
+pub settle_deadline : (z : ℤ) (halting : Halting) (n : ℕ) (kit : Kit) (room : Room) (s : State) → CanSettle n kit room s → length s.timers + 1 < room.timers
+    → CanSettle n kit room (set_deadline z n (change_life n (mark_of halting) s))
+settle_deadline (pos k) halting n kit room s h few =
+    let more = timer_more (lesser (timer_of 1 n s) (s.clock + 1000 * k)) 1 n s.timers in
+    settle_timers n kit room (with_timer (lesser (timer_of 1 n s) (s.clock + 1000 * k)) 1 n s.timers) (change_life n (mark_of halting) s) (settle_mark halting n kit room s h) (omega (arith, few, more))
+settle_deadline (negsuc k) halting n kit room s h few = settle_mark halting n kit room s h
+
+pub timely_deadline : (z : ℤ) (halting : Halting) (n : ℕ) (s : State) → AreTimely s → AreTimely (set_deadline z n (change_life n (mark_of halting) s))
+timely_deadline (pos k) halting n s h = record { clock = h.clock; processes = h.processes }
+timely_deadline (negsuc k) halting n s h = record { clock = h.clock; processes = h.processes }
+
+-- ---- a halt in its parts
+
+pub halted_state : (halting : Halting) (z : ℤ) (signal n : ℕ) (s : State) → (meet_signal signal n (set_deadline z n (change_life n (mark_of halting) s))).state ≡ (halted halting z signal n s).state
+halted_state halting z signal n s =
+    sym (ap (λ y. (meet_signal signal n (set_deadline z n (change_life n (mark_of halting) y))).state) (tell_still (kill_event signal) n s))
+
+pub halted_died : (halting : Halting) (z : ℤ) (signal n : ℕ) (s : State) → (meet_signal signal n (set_deadline z n (change_life n (mark_of halting) s))).died ≡ (halted halting z signal n s).died
+halted_died halting z signal n s =
+    sym (behind_event (kill_event signal) n s (λ y. (meet_signal signal n (set_deadline z n (change_life n (mark_of halting) y))).died))
+
+-- ---- behind the begin of a ticket
+
+pub settle_begun : (n : ℕ) (kit : Kit) (room : Room) (connection container : ℕ) (asked : Asked) (s : State) → CanSettle n kit room s → CanSettle n kit room (begun connection container asked s)
+settle_begun n kit room connection container asked s h = record {
+  clock = h.clock;
+  launch = launch_alike n kit.script s (begun connection container asked s) refl refl h.launch;
+  remove = remove_alike n kit room s (begun connection container asked s) (record { removed = refl; kept = refl; numbers = refl; outputs = refl }) h.remove;
+  execs = h.execs;
+  timers = h.timers;
+}
+
+pub timely_begun : (connection container : ℕ) (asked : Asked) (s : State) → AreTimely s → AreTimely (begun connection container asked s)
+timely_begun connection container asked s h = record { clock = h.clock; processes = h.processes }
+
+can_as : (n : ℕ) (kit : Kit) (s : State) (room : Room) (spare : ℕ) (m : Memory) → m.state ≡ s → m.room ≡ room → m.spare ≡ spare → AreTimely s → CanSettle n kit room s → length s.timers + 1 < room.timers → 0 < spare → CanHalt n kit m
+can_as n kit s room spare m state is left timely fit few more = record {
+  timely = subst (λ (z : State). AreTimely z) (sym state) timely;
+  fit = subst (λ (r : Room). CanSettle n kit r m.state) (sym is) (subst (λ (z : State). CanSettle n kit room z) (sym state) fit);
+  deadline = subst (λ (r : Room). length m.state.timers + 1 < r.timers) (sym is) (subst (λ (z : State). length z.timers + 1 < room.timers) (sym state) few);
+  spare = subst (λ k. 0 < k) (sym left) more;
+}
+
+-- the run may be ended behind it too
+pub halt_begun : (n : ℕ) (kit : Kit) (connection container : ℕ) (asked : Asked) (m a : Memory) → a.state ≡ begun connection container asked m.state → a.room ≡ m.room → a.spare ≡ m.spare → CanHalt n kit m → CanHalt n kit a
+halt_begun n kit connection container asked m a state room spare h =
+    can_as n kit (begun connection container asked m.state) m.room m.spare a state room spare
+    (timely_begun connection container asked m.state h.timely) (settle_begun n kit m.room connection container asked m.state h.fit) h.deadline h.spare

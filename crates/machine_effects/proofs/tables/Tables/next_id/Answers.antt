@@ -1,7 +1,0 @@
-use Rattle.std.proofs.Common.{subst, sym}
-use Rattle.std.specs.Prelude.{IsUtf8}
-use Rattle.machine_effects.proofs.IdLemmas.{id_utf8}
-use Rattle.machine_effects.proofs.tables.Tables.next_id.Goals as goal
-
-pub unreachable-requires : goal.unreachable-requires
-unreachable-requires c = c.in-Err.ensures.cases.0 (subst IsUtf8 (sym c.id_of.ensures) (id_utf8 c.self.inside.seed c.self.inside.next_number))

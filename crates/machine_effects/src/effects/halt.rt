@@ -1,0 +1,77 @@
+// The signal and the deadline of a stop or a restart.
+ghost use Rattle.std.specs.Prelude.{◌≡◌, ◌<◌, ◌≤◌, length, OnOk};
+ghost use Rattle.machine_model.specs.Effects.Halt.{lesser, set_deadline};
+ghost use Rattle.machine_model.specs.History.{greatest_moment};
+ghost use Rattle.machine_model.specs.State.{timer_of};
+ghost use Rattle.machine_effects.specs.Fit.{died_of};
+ghost use Rattle.machine_effects.specs.Halts.{CanHalt, HasHaltRoom, halted};
+
+use crate::halting::Halting;
+use crate::kit::Kit;
+use crate::tables::Tables;
+use engine_text::{NoMemory, Signal};
+use std::alloc::Global;
+
+impl Tables {
+    // The lesser of the stop deadline that stands and the moment.
+    fn lesser_deadline(&self, number: u64, moment: u64) -> u64
+        ensures { result ≡ lesser (timer_of 1 number self.now.state) moment }
+    {
+        match self.containers.timer(1, number) {
+            None => moment,
+            Some(d) => d.moment.min(moment),
+        }
+    }
+
+    // The stop deadline comes after so many seconds at the latest; with -1 none is set.
+    fn set_deadline(&mut self, seconds: i32, number: u64)
+        requires room { length self.old.state.timers < self.old.room.timers }
+        requires clock { self.old.state.clock ≤ greatest_moment }
+        ensures state { self.new.state ≡ set_deadline seconds number self.old.state }
+        ensures room { self.new.room ≡ self.old.room }
+        ensures spare { self.new.spare ≡ self.old.spare }
+    {
+        if seconds < 0 {
+            return;
+        }
+        let moment = self.lesser_deadline(number, self.clock() + 1000 * seconds as u64);
+        self.set_timer(1, number, moment);
+    }
+
+    /// The marks of the call, the stop deadline, and the signal; the code of the main process, if
+    /// that ended it. With -1 for the seconds no deadline is set.
+    pub fn halt(
+        &mut self,
+        halting: Halting,
+        seconds: i32,
+        sent: Signal,
+        number: u64,
+        kit: Kit,
+    ) -> Option<u8>
+        requires signal { sent.number < 32 }
+        requires may { CanHalt number kit self.old }
+        ensures state { self.new.state ≡ (halted halting seconds sent.number number self.old.state).state }
+        ensures died { died_of number result ≡ (halted halting seconds sent.number number self.old.state).died }
+        ensures room { self.new.room ≡ self.old.room }
+    {
+        self.renew(number, halting.mark());
+        self.set_deadline(seconds, number);
+        self.meet_signal(sent, number, kit)
+    }
+
+    /// Makes room for a ticket, for a deadline, and for the end of a main process with what may
+    /// follow it.
+    pub fn make_halt_room(&mut self, alloc: Global) -> Result<(), NoMemory>
+        ensures state { self.new.state ≡ self.old.state }
+        ensures room { OnOk result (HasHaltRoom self.new) }
+        ensures moments { self.new.room.moments ≡ self.old.room.moments }
+    {
+        if self.scratch.reserve(self.execs.len()).is_err() {
+            return Err(NoMemory);
+        }
+        self.tickets.reserve()?;
+        self.containers.reserve_timers(2)?;
+        self.removals.reserve()?;
+        self.kernel.reserve(alloc, 1, 0)
+    }
+}
