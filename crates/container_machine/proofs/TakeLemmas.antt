@@ -1,16 +1,23 @@
 -- The end of a ticket that is made ready is the call's outcome.
-use Rattle.std.proofs.Common.{◌≡◌, ℕ, refl, ap, ◌∙◌, sym, subst}
+use Rattle.std.proofs.Common.{◌≡◌, ℕ, ◌+◌, ◌≤◌, refl, ap, ◌∙◌, sym, subst, arith, length}
+use Rattle.engine_text.specs.declared.call.Call.{Call}
 use Rattle.engine_text.specs.declared.reply.Reply.{Reply}
 use Rattle.engine_text.specs.declared.reply.Reply.TheVariants.{Dropped}
+use Rattle.engine_text.specs.declared.step.Step.{Step}
 use Rattle.machine_model.specs.Calls.Take.{drop_outcome, take_outcome, ticket_reply}
+use Rattle.machine_model.specs.Consistency.{IsConsistent}
+use Rattle.machine_model.specs.History.{IsLawful}
 use Rattle.machine_model.specs.State.{State}
 use Rattle.machine_model.specs.Step.{at_moment}
 use Rattle.machine_model.specs.Tickets.{ticket_numbered}
 use Rattle.container_machine.specs.Calls.Take.{IsEnding}
 use Rattle.container_machine.specs.Making.{Makes}
-use Rattle.container_machine.specs.Plans.{plan_effect, Brings}
+use Rattle.container_machine.specs.Parts.{MachineParts}
+use Rattle.container_machine.specs.Plans.{plan_effect, Brings, HasRoomFor}
+use Rattle.container_machine.specs.Prepared.{IsFor, asked_by}
 use Rattle.container_machine.specs.declared.plan.Plan.{Plan}
 use Rattle.container_machine.specs.declared.prepared.Prepared.{Prepared}
+use Rattle.container_machine.proofs.ReadyLemmas.{ready}
 
 pub makes_take : (p : Prepared) (t : ℕ) (s : State) (ticket : ℕ) (reply : Reply) → IsEnding t reply ticket p → reply ≡ ticket_reply (ticket_numbered ticket s) → Makes p t s (take_outcome ticket)
 makes_take p t s ticket reply e is =
@@ -33,3 +40,11 @@ makes_drop p t s ticket e =
       reply = e.reply;
       brings = subst (λ q. Brings q t s) (sym e.plan) tt;
     }
+
+-- it may be committed on a machine that made no room for it
+pub ready_drop : (p : Prepared) (w : MachineParts) (connection moment ticket : ℕ) → IsConsistent w.memory.state → IsLawful w.memory.state (Step.Call connection moment (Call.Drop ticket)) → IsEnding moment Dropped ticket p
+    → length w.events ≤ w.places → IsFor p w (asked_by connection moment (Call.Drop ticket))
+ready_drop p w connection moment ticket k lawful e fit =
+    let none : length p.events.items ≡ 0 = ap length e.events in
+    ready p w connection moment (Call.Drop ticket) k lawful (makes_drop p moment w.memory.state ticket e)
+    (subst (λ q. HasRoomFor q w.memory) (sym e.plan) tt) (omega (arith, none, fit))

@@ -65,6 +65,7 @@ impl Machine {
     }
 
     // The call as it is answered in this state.
+    #[tactic(auto, using(crate::proofs::StopLemmas::low_signal))]
     fn prepare_call(
         &self,
         alloc: Global,

@@ -1,10 +1,6 @@
 // Stop: by the container's status.
 ghost use Rattle.std.specs.Prelude.{◌≡◌, ◌<◌, ◌^◌, [], Some, IfOk, IfSome};
-ghost use Rattle.engine_text.specs.declared.event.Action as actions;
-ghost use Rattle.machine_model.specs.Chain.{and_then, tell_of};
 ghost use Rattle.machine_model.specs.Consistency.{IsConsistent};
-ghost use Rattle.machine_model.specs.Effects.Cancel.{cancel_restart};
-ghost use Rattle.machine_model.specs.EventTexts.{plain_event};
 ghost use Rattle.machine_model.specs.Outcome.{done};
 ghost use Rattle.machine_model.specs.State.{container_numbered};
 ghost use Rattle.machine_model.specs.Calls.Stop as spec;

@@ -1,15 +1,14 @@
 // The end of a ticket: a take hears its reply, a drop doesn't.
-ghost use Rattle.std.specs.Prelude.{◌≡◌, ℕ, List, IfOk};
+ghost use Rattle.std.specs.Prelude.{◌≡◌, IfOk};
+ghost use Rattle.engine_text.specs.Id.{id_of};
 ghost use Rattle.engine_text.specs.declared.reply.Reply as replies;
 ghost use Rattle.machine_model.specs.Calls.Take as spec;
-ghost use Rattle.machine_model.specs.State.{State};
+ghost use Rattle.machine_model.specs.Outcome.{message_text};
+ghost use Rattle.machine_model.specs.Refusals.{removal_timed_out};
 ghost use Rattle.machine_model.specs.Tickets.{ticket_numbered};
 ghost use Rattle.machine_effects.specs.Held.{reply_in};
 ghost use Rattle.container_machine.specs.Calls.Take.{IsEnding};
 ghost use Rattle.container_machine.specs.Making.{Makes};
-ghost use Rattle.engine_text.specs.Id.{id_of};
-ghost use Rattle.machine_model.specs.Outcome.{message_text};
-ghost use Rattle.machine_model.specs.Refusals.{removal_timed_out};
 
 use crate::answers::message;
 use crate::plan::Plan;
@@ -17,7 +16,7 @@ use crate::prepared::Prepared;
 use crate::refusals::removal_timed_out;
 use crate::texts::waited;
 use engine_text::{NoMemory, Reply, Text};
-use machine_effects::{HeldTicket, Ready, Tables};
+use machine_effects::{Ready, Tables};
 use std::alloc::Global;
 
 /// The ticket is gone.

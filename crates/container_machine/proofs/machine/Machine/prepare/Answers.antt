@@ -1,12 +1,22 @@
 use Rattle.std.proofs.Common.{◌≡◌, ◌+◌, ◌≤◌, subst, sym, arith, length}
+use Rattle.engine_text.specs.declared.call.Call.{Call}
 use Rattle.machine_model.specs.State.{State}
 use Rattle.machine_model.specs.Call.{outcome_of}
 use Rattle.machine_model.specs.History.{IsLawful}
 use Rattle.engine_text.specs.declared.step.Step.{Step}
 use Rattle.container_machine.specs.Making.{Makes}
+use Rattle.container_machine.specs.Prepared.{IsFor, asked_by}
 use Rattle.machine_model.specs.Consistency.{IsConsistent}
 use Rattle.container_machine.proofs.ReadyLemmas.{ready}
+use Rattle.container_machine.proofs.TakeLemmas.{ready_drop}
 use Rattle.container_machine.proofs.machine.Machine.prepare.Goals as goal
+
+pub returns-in-Drop-clause-ready : goal.returns-in-Drop-clause-ready
+returns-in-Drop-clause-ready c =
+    subst (λ (x : Call). IsFor c.prepare_drop.result c.args.self.now (asked_by c.args.conn c.args.moment x)) (sym c.in-Drop.is)
+    (ready_drop c.prepare_drop.result c.args.self.now c.args.conn c.args.moment c.in-Drop.ticket c.kept.ensures.state
+    (subst (λ (x : Call). IsLawful c.args.self.now.memory.state (Step.Call c.args.conn c.args.moment x)) c.in-Drop.is c.requires.lawful)
+    c.prepare_drop.ensures c.fits.ensures)
 
 pub returns-clause-ready : goal.returns-clause-ready
 returns-clause-ready c =
