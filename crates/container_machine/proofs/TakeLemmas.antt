@@ -1,12 +1,13 @@
 -- The end of a ticket that is made ready is the call's outcome.
 use Rattle.std.proofs.Common.{◌≡◌, ℕ, ◌+◌, ◌≤◌, refl, ap, ◌∙◌, sym, subst, arith, length}
+use Rattle.std.specs.Prelude.{IsFalse}
 use Rattle.engine_text.specs.declared.call.Call.{Call}
 use Rattle.engine_text.specs.declared.reply.Reply.{Reply}
 use Rattle.engine_text.specs.declared.reply.Reply.TheVariants.{Dropped}
 use Rattle.engine_text.specs.declared.step.Step.{Step}
 use Rattle.machine_model.specs.Calls.Take.{drop_outcome, take_outcome, ticket_reply}
 use Rattle.machine_model.specs.Consistency.{IsConsistent}
-use Rattle.machine_model.specs.History.{IsLawful}
+use Rattle.machine_model.specs.History.{IsLawful, is_drop}
 use Rattle.machine_model.specs.State.{State}
 use Rattle.machine_model.specs.Step.{at_moment}
 use Rattle.machine_model.specs.Tickets.{ticket_numbered}
@@ -48,3 +49,8 @@ ready_drop p w connection moment ticket k lawful e fit =
     let none : length p.events.items ≡ 0 = ap length e.events in
     ready p w connection moment (Call.Drop ticket) k lawful (makes_drop p moment w.memory.state ticket e)
     (subst (λ q. HasRoomFor q w.memory) (sym e.plan) tt) (omega (arith, none, fit))
+
+-- what isn't one
+pub not_drop : (c : Call) → ((n : ℕ) → c ≡ Call.Drop n → ⊥) → IsFalse (is_drop c)
+not_drop (Call.Drop n) no = absurd (no n refl)
+not_drop c no = refl

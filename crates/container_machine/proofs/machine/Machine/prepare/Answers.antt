@@ -8,7 +8,7 @@ use Rattle.container_machine.specs.Making.{Makes}
 use Rattle.container_machine.specs.Prepared.{IsFor, asked_by}
 use Rattle.machine_model.specs.Consistency.{IsConsistent}
 use Rattle.container_machine.proofs.ReadyLemmas.{ready}
-use Rattle.container_machine.proofs.TakeLemmas.{ready_drop}
+use Rattle.container_machine.proofs.TakeLemmas.{not_drop, ready_drop}
 use Rattle.container_machine.proofs.machine.Machine.prepare.Goals as goal
 
 pub returns-in-Drop-clause-ready : goal.returns-in-Drop-clause-ready
@@ -26,3 +26,6 @@ returns-clause-ready c =
     (subst (λ (s : State). IsLawful s (Step.Call c.args.conn c.args.moment c.args.call.now)) e c.requires.lawful)
     (subst (λ (s : State). Makes c.in_ok-prepared.prepared c.args.moment s (outcome_of c.args.call.now c.args.conn)) e c.in_ok-prepared.ensures)
     c.in_ok-make_room.ensures.room (omega (arith, c.in_ok-make_room.ensures.places))
+
+pub prepare_call-prepared-requires-clause-heard : goal.prepare_call-prepared-requires-clause-heard
+prepare_call-prepared-requires-clause-heard c = not_drop c.args.call.now c.in_default.not-Drop
