@@ -6,6 +6,7 @@ pub mod ListedLemmas
 pub mod MakeLemmas
 pub mod ReadyLemmas
 pub mod CommitLemmas
+pub mod RestartLemmas
 pub mod StartLemmas
 pub mod StopLemmas
 pub mod TakeLemmas

@@ -1,6 +1,7 @@
 -- A call that is made ready may be committed.
-use Rattle.std.proofs.Common.{◌≡◌, ℕ, ◌+◌, ◌<◌, ◌≤◌, ◌^◌, List, [], ◌∷◌, refl, ap, sym, ◌∙◌, subst, arith, length}
+use Rattle.std.proofs.Common.{◌≡◌, ℕ, ◌+◌, ◌<◌, ◌≤◌, ◌^◌, List, [], ◌∷◌, Option, refl, ap, sym, ◌∙◌, subst, arith, length}
 use Rattle.std.specs.List.{AllByRecursion}
+use Rattle.engine_text.specs.Scripts.{Program}
 use Rattle.engine_text.specs.declared.call.Call.{Call}
 use Rattle.engine_text.specs.declared.container.Container.{Container}
 use Rattle.engine_text.specs.declared.step.Step.{Step}
@@ -10,10 +11,11 @@ use Rattle.machine_model.specs.Call.{outcome_of}
 use Rattle.machine_model.specs.Consistency.{IsConsistent}
 use Rattle.machine_model.specs.History.{IsLawful, greatest_moment}
 use Rattle.machine_model.specs.Step.{at_moment, call_outcome}
-use Rattle.machine_effects.specs.Fit.{AreFew, AreTimely, CanSettle}
+use Rattle.machine_effects.specs.Fit.{AreFew, AreTimely, CanSettle, IsScriptOf}
 use Rattle.machine_effects.specs.Memory.{Memory, HasRoom, standing}
 use Rattle.machine_effects.specs.declared.kit.Kit.{Kit}
 use Rattle.machine_effects.proofs.ListLemmas.{All-imp}
+use Rattle.container_machine.specs.Calls.Start.{CanStart}
 use Rattle.container_machine.proofs.CreateLemmas.{has_new_id, is_above}
 use Rattle.container_machine.specs.Making.{Makes}
 use Rattle.container_machine.specs.Parts.{MachineParts}
@@ -39,6 +41,13 @@ settles n kit t m serves k until room = record {
   remove = record { removed = room.removed; kept = room.kept; numbers = serves.numbers; empty = serves.empty; logs = serves.logs };
   execs = room.execs;
   timers = room.timers;
+}
+
+-- the container may be launched
+starts : (n : ℕ) (script : Option Program) (t : ℕ) (m : Memory) → IsScriptOf n script m.state → IsConsistent m.state → HasRoom m → CanStart n script (standing t m)
+starts n script t m named k room = record {
+  launch = record { few = few m.state k; pid = omega (arith, k.numbers.next_pid, k.counts.steps); named = named };
+  spare = room.spare;
 }
 
 fits : (plan : Plan) (t : ℕ) (m : Memory) → Brings plan t m.state → IsConsistent m.state → IsMomentOf m.state t → HasRoomFor plan m → Fits plan (standing t m)
@@ -70,10 +79,9 @@ fits (Plan.Kill n sent last kit) t m brings k at room = record {
 }
 fits (Plan.KillRestarting n sent) t m brings k at room = tt
 fits (Plan.Pause n) t m brings k at room = room.execs
-fits (Plan.Start n script) t m brings k at room = record {
-  launch = record { few = few m.state k; pid = omega (arith, k.numbers.next_pid, k.counts.steps); named = brings };
-  spare = room.spare;
-}
+fits (Plan.Restart n script) t m brings k at room = starts n script t m brings k room
+fits (Plan.RestartRestarting n script) t m brings k at room = starts n script t m brings k room
+fits (Plan.Start n script) t m brings k at room = starts n script t m brings k room
 fits (Plan.StopRestarting n) t m brings k at room = tt
 fits (Plan.Unpause n kit) t m brings k at room = record {
   timely = timely t m.state at;

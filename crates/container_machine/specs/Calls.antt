@@ -1,6 +1,7 @@
 pub mod Create
 pub mod Kill
 pub mod List
+pub mod Restart
 pub mod Start
 pub mod Stop
 pub mod Take

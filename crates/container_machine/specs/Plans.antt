@@ -5,6 +5,7 @@ use Rattle.machine_model.specs.State.{State}
 use Rattle.machine_model.specs.Chain.{Effect, change, still}
 use Rattle.machine_model.specs.Calls.Create.{add}
 use Rattle.machine_model.specs.Calls.Pause.{pause}
+use Rattle.machine_model.specs.Calls.Restart.{launch_again}
 use Rattle.machine_model.specs.Calls.Take.{end_ticket}
 use Rattle.machine_effects.specs.Fit.{IsScriptOf, exec_numbers, outputs_of}
 use Rattle.machine_effects.specs.Halts.{HasHaltRoom}
@@ -16,6 +17,7 @@ use Rattle.machine_effects.specs.declared.kit.Kit.{Kit}
 use Rattle.machine_model.specs.Effects.Launch.{launch_by_call}
 use Rattle.machine_model.specs.Effects.Meet.{thaw_container}
 use Rattle.container_machine.specs.Calls.Create.{IsNew}
+use Rattle.container_machine.specs.Calls.Restart.{restart_restarting_effect}
 use Rattle.container_machine.specs.Calls.Start.{CanStart}
 use Rattle.container_machine.specs.Calls.Kill.{kill_effect, kill_restarting_effect, CanKill}
 use Rattle.container_machine.specs.Calls.Stop.{CanStop, halt_effect, stop_restarting_effect}
@@ -32,6 +34,8 @@ plan_effect (Plan.Halt connection n halting sent seconds kit) = halt_effect conn
 plan_effect (Plan.Kill n sent last kit) = kill_effect n sent last
 plan_effect (Plan.KillRestarting n sent) = kill_restarting_effect n sent
 plan_effect (Plan.Pause n) = pause n
+plan_effect (Plan.Restart n script) = launch_again n
+plan_effect (Plan.RestartRestarting n script) = restart_restarting_effect n
 plan_effect (Plan.Start n script) = launch_by_call n
 plan_effect (Plan.StopRestarting n) = stop_restarting_effect n
 plan_effect (Plan.Unpause n kit) = thaw_container n
@@ -46,6 +50,8 @@ Fits (Plan.Halt connection n halting sent seconds kit) m = CanStop n sent kit m
 Fits (Plan.Kill n sent last kit) m = CanKill n sent kit m
 Fits (Plan.KillRestarting n sent) m = ⊤
 Fits (Plan.Pause n) m = length m.state.execs ≤ m.room.scratch
+Fits (Plan.Restart n script) m = CanStart n script m
+Fits (Plan.RestartRestarting n script) m = CanStart n script m
 Fits (Plan.Start n script) m = CanStart n script m
 Fits (Plan.StopRestarting n) m = ⊤
 Fits (Plan.Unpause n kit) m = CanThaw n kit m
@@ -60,6 +66,8 @@ HasRoomFor (Plan.Halt connection n halting sent seconds kit) m = HasHaltRoom m
 HasRoomFor (Plan.Kill n sent last kit) m = HasRoom m
 HasRoomFor (Plan.KillRestarting n sent) m = ⊤
 HasRoomFor (Plan.Pause n) m = HasRoom m
+HasRoomFor (Plan.Restart n script) m = HasRoom m
+HasRoomFor (Plan.RestartRestarting n script) m = HasRoom m
 HasRoomFor (Plan.Start n script) m = HasRoom m
 HasRoomFor (Plan.StopRestarting n) m = ⊤
 HasRoomFor (Plan.Unpause n kit) m = HasRoom m
@@ -81,6 +89,8 @@ Brings (Plan.Halt connection n halting sent seconds kit) t s = Serves n kit s ×
 Brings (Plan.Kill n sent last kit) t s = Serves n kit s × (sent.number < 32)
 Brings (Plan.KillRestarting n sent) t s = ⊤
 Brings (Plan.Pause n) t s = ⊤
+Brings (Plan.Restart n script) t s = IsScriptOf n script s
+Brings (Plan.RestartRestarting n script) t s = IsScriptOf n script s
 Brings (Plan.Start n script) t s = IsScriptOf n script s
 Brings (Plan.StopRestarting n) t s = ⊤
 Brings (Plan.Unpause n kit) t s = Serves n kit s

@@ -4,6 +4,7 @@ pub mod inspect;
 pub mod kill;
 pub mod list;
 pub mod pause;
+pub mod restart;
 pub mod start;
 pub mod stop;
 pub mod take;

@@ -93,6 +93,14 @@ impl Machine {
             Call::Pause { target } => {
                 calls::pause::prepare(&self.tables, alloc, moment, target.as_str())
             }
+            Call::Restart {
+                target,
+                wait,
+                signal,
+            } => {
+                let target = target.as_str();
+                calls::restart::prepare(&self.tables, alloc, conn, moment, target, *wait, *signal)
+            }
             Call::Start { target } => {
                 calls::start::prepare(&self.tables, alloc, moment, target.as_str())
             }
@@ -147,6 +155,8 @@ impl Machine {
             Plan::KillRestarting { .. } => Ok(()),
             Plan::Kill { .. } => self.tables.make_room(alloc),
             Plan::Pause { .. } => self.tables.make_room(alloc),
+            Plan::Restart { .. } => self.tables.make_room(alloc),
+            Plan::RestartRestarting { .. } => self.tables.make_room(alloc),
             Plan::Start { .. } => self.tables.make_room(alloc),
             Plan::StopRestarting { .. } => Ok(()),
             Plan::Unpause { .. } => self.tables.make_room(alloc),

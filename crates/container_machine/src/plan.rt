@@ -39,6 +39,14 @@ pub enum Plan {
     Pause {
         number: u64,
     },
+    Restart {
+        number: u64,
+        script: Option<Script>,
+    },
+    RestartRestarting {
+        number: u64,
+        script: Option<Script>,
+    },
     Start {
         number: u64,
         script: Option<Script>,
@@ -94,6 +102,14 @@ pub fn perform(tables: &mut Tables, plan: Plan) -> Option<Death>
         }
         Plan::Pause { number } => {
             calls::pause::perform(tables, number);
+            None
+        }
+        Plan::Restart { number, script } => {
+            calls::restart::perform(tables, number, script);
+            None
+        }
+        Plan::RestartRestarting { number, script } => {
+            calls::restart::perform_restarting(tables, number, script);
             None
         }
         Plan::Start { number, script } => {

@@ -97,7 +97,7 @@ unpause_died n s code is = woken_died thaw Status.Paused n s code is
 
 -- ---- with what comes before it
 
-none_told : (event : Container → ℕ → Event) (n : ℕ) (s : State) → (tell_of event n s).died ≡ []
+pub none_told : (event : Container → ℕ → Event) (n : ℕ) (s : State) → (tell_of event n s).died ≡ []
 none_told event n s = none_found (container_numbered n s) _ (λ c z. refl) s
 
 pub behind_event : (event : Container → ℕ → Event) (n : ℕ) (s : State) (died : State → List Died) → (tell_of event n s).died ++ died (tell_of event n s).state ≡ died s

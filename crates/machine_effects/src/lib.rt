@@ -37,6 +37,7 @@ pub use death::Death;
 pub use events::{kill_event, plain_event};
 pub use execs::Execs;
 pub use foretell::{add, tell_launch};
+pub use foretell_calls::tell_again;
 pub use foretell_create::tell_volumes;
 pub use halting::Halting;
 pub use held::{Fate, HeldOutput, HeldTicket, Ready};

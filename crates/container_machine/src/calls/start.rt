@@ -30,7 +30,8 @@ pub fn perform(tables: &mut Tables, number: u64, script: Option<Script>)
     tables.launch_by_call(number, script);
 }
 
-fn first_word(words: &Words) -> &str
+/// The first of the words, or none.
+pub(super) fn first_word(words: &Words) -> &str
     ensures { result.now ≡ first_word words.now }
 {
     match words.as_slice().first() {
