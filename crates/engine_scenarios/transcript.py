@@ -285,6 +285,58 @@ scenario("stuck", [create("web", STUCK), post("/containers/web/start"), post("/c
           shown(0, "web", STUCK, "exited", code=137, started=moment(10), finished=moment(35))],
          words="--stdio --clock 1700000000000:10")
 
+def waited(code):
+    return answer(200, compact({"StatusCode": code}))
+
+
+# stops and waits: the answer comes once the run has ended, at once where none is on
+ENDED = shown(0, "web", LONG, "exited", code=143, started=NOW, finished=NOW)
+scenario("stop", [create("web", LONG), post("/containers/web/stop"), post("/containers/web/wait"),
+                  post("/containers/web/start"), post("/v1.43/containers/web/stop?t=5"), get("/containers/web/json"),
+                  post("/containers/web/stop"), post("/containers/web/wait?condition=not-running"),
+                  post("/containers/db/stop"), post("/containers/db/wait"), post("/containers/web/stop?signal=NOPE")],
+         [created(0), answer(304), waited(0), answer(204), answer(204), ENDED, answer(304), waited(143),
+          message(404, "No such container: db"), message(404, "No such container: db"),
+          message(400, "Invalid signal: NOPE")], comings=("pieces=1", "pieces=4096"))
+scenario("stop_signals", [create("web", LONG), post("/containers/web/start"), post("/containers/web/stop?signal=USR1"),
+                          create("db", body=compact({"Image": "engine/tools", "Cmd": LONG, "StopSignal": "SIGINT"})),
+                          post("/containers/db/start"), post("/containers/db/pause"), post("/containers/db/stop"),
+                          get("/containers/web/json"), get("/containers/db/json")],
+         [created(0), answer(204), answer(204), created(1), answer(204), answer(204), answer(204),
+          shown(0, "web", LONG, "exited", code=138, started=NOW, finished=NOW),
+          shown(1, "db", LONG, "exited", code=130, started=NOW, finished=NOW, stop="SIGINT")])
+# the clock stands but for the pauses of a wait: the deadline of one second is met behind twenty of them
+LATER = "2023-11-14T22:13:21.000000000Z"
+scenario("stop_deadline", [create("web", DEAF), post("/containers/web/start"), post("/containers/web/stop?t=1"),
+                           get("/containers/web/json")],
+         [created(0), answer(204), answer(204), shown(0, "web", DEAF, "exited", code=137, started=NOW, finished=LATER)])
+scenario("stop_without_seconds", [create("web", DEAF), post("/containers/web/start"), post("/containers/web/stop?t=0"),
+                                  get("/containers/web/json")],
+         [created(0), answer(204), answer(204), shown(0, "web", DEAF, "exited", code=137, started=NOW, finished=NOW)])
+# a stop gives a pending restart up
+ALWAYS = ("always", 0)
+scenario("stop_of_a_restart", [create("web", body=compact({"Image": "engine/tools", "Cmd": ["exit", "1"], "HostConfig": {
+    "RestartPolicy": {"Name": "always"}}})), post("/containers/web/start"), post("/containers/web/stop"), get("/containers/web/json")],
+         [created(0), answer(204), answer(204),
+          shown(0, "web", ["exit", "1"], "exited", code=1, started=NOW, finished=NOW, policy=ALWAYS)])
+# `next-exit` waits for an end behind it, `not-running` for the last one
+ONCE = ("on-failure", 1)
+for until in ("next-exit", "not-running"):
+    scenario(f"wait_{until.replace('-', '_')}", [
+        create("web", body=compact({"Image": "engine/tools", "Cmd": ["exit", "1"], "HostConfig": {
+            "RestartPolicy": {"Name": ONCE[0], "MaximumRetryCount": ONCE[1]}}})),
+        post("/containers/web/start"), post(f"/containers/web/wait?condition={until}"), get("/containers/web/json")],
+        [created(0), answer(204), waited(1),
+         shown(0, "web", ["exit", "1"], "exited", code=1, started=moment(100), finished=moment(100), policy=ONCE, restarts=1)])
+# a restart launches at once what doesn't live, and ends what does
+scenario("restart", [create("web", LONG), post("/containers/web/restart"), post("/containers/web/restart?t=3"),
+                     get("/containers/web/json"), post("/containers/web/pause"), post("/containers/web/restart?signal=USR2"),
+                     get("/containers/web/json"), create("db", ["nope"]), post("/containers/db/restart"),
+                     post("/containers/job/restart")],
+         [created(0), answer(204), answer(204), shown(0, "web", LONG, "running", pid=1002, started=NOW, finished=NOW), answer(204),
+          answer(204), shown(0, "web", LONG, "running", pid=1003, started=NOW, finished=NOW), created(1),
+          message(400, "unknown command: nope"), message(404, "No such container: job")])
+
 # restarts: 100 milliseconds behind the first end, twice as long behind the next one
 POLICY = ("on-failure", 2)
 FAILS = ["exit", "1"]
@@ -359,7 +411,7 @@ scenario("queries", [
     [message(400, "Invalid container name (a)"), message(400, "Invalid signal: NOPE"), message(400, "bad t"),
      message(400, "bad limit"), message(400, "bad tail"), message(400, "bad condition"), message(400, "bad time"),
      message(400, "you must choose at least one stream"), message(400, "links are left out"),
-     message(400, "invalid filter"), message(400, "bad JSON"), message(501, "not built"), message(400, "bad time")])
+     message(400, "invalid filter"), message(400, "bad JSON"), message(404, "No such container: web"), message(400, "bad time")])
 
 
 def main():
