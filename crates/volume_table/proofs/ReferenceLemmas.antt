@@ -1,5 +1,5 @@
 -- own: references mean the same uses where a volume is put in or taken away.
-use Rattle.std.proofs.Common.{◌≡◌, ℕ, ◌+◌, ◌-◌, ◌<◌, ◌≤◌, zero, suc, Bool, true, false, not, ◌||◌, List, [], ◌∷◌, ◌++◌, length, get_or, map, filter, position, take, drop, set, eqb, nat_le, nat_lt, if◌then◌else◌, All, Option, Some, Result, is_ok, slice_get, ap, ◌∙◌, sym, refl, subst, inl, inr, arith}
+use Rattle.std.proofs.Common.{◌≡◌, ℕ, ◌+◌, ◌-◌, ◌<◌, ◌≤◌, zero, suc, Bool, true, false, not, ◌||◌, List, [], ◌∷◌, ◌++◌, length, get_or, map, filter, position, take, drop, set, eqb, nat_le, nat_lt, if◌then◌else◌, All, Option, Some, None, Result, is_ok, slice_get, ap, ◌∙◌, sym, refl, subst, inl, inr, arith}
 use Rattle.std.specs.List.{list_any, insert, remove}
 use Rattle.std.specs.List.Sorted.{IsStrictlySortedBy}
 use Rattle.std.specs.Ordering.{is_eq, ordering_reverse}
@@ -15,6 +15,7 @@ use Rattle.std.proofs.lemmas.List.Edits.{length-insert, length-remove, map_over_
 use Rattle.std.proofs.lemmas.List.Elements.{All-head, All-tail, All-cons, All-nil}
 use Rattle.std.proofs.lemmas.List.Quantifiers.{position-Some}
 use Rattle.std.proofs.lemmas.List.{get_or_default}
+use Rattle.engine_text.proofs.PlaceLemmas.{nowhere}
 use Rattle.engine_text.specs.Texts.{same_bytes}
 use Rattle.engine_text.specs.declared.volume.Volume.{Volume}
 use Rattle.volume_table.specs.declared.references.Reference.{Reference}
@@ -151,6 +152,19 @@ module _ (name : List ℕ) (vs : List Volume) (sorted : IsStrictlySortedBy by_na
   pub in_use : (rs : List Reference) → All (IsWithin vs) rs → is_in_use name (map (use_in vs) rs) ≡ list_any (λ (r : Reference). eqb r.place i) rs
   in_use [] all = refl
   in_use (r ∷ rs) all = (λ j. refers r (All-head (IsWithin vs) r rs all) j || in_use rs (All-tail (IsWithin vs) r rs all) j)
+
+-- ---- a volume that doesn't stand
+
+no_name : (name : List ℕ) (vs : List Volume) (k : ℕ) → ((d : Volume) → k < length vs → is_named name (get_or vs k d) ≡ false) → k < length vs → same_bytes (name_of (slice_get vs k)) name ≡ false
+no_name name [] k none w = absurd (omega (arith, w))
+no_name name (v ∷ vs) k none w = ap (λ (o : Option Volume). same_bytes (name_of o) name) (slice_get-get_or (v ∷ vs) k v w) ∙ none v w
+
+-- Nothing refers to it.
+pub unused : (name : List ℕ) (vs : List Volume) (rs : List Reference) → position (is_named name) vs ≡ None → All (IsWithin vs) rs → is_in_use name (map (use_in vs) rs) ≡ false
+unused name vs [] none all = refl
+unused name vs (r ∷ rs) none all =
+    let here = no_name name vs r.place (λ d w. (nowhere (is_named name) vs none).at r.place d w) (All-head (IsWithin vs) r rs all) in
+    ap (λ b. b || is_in_use name (map (use_in vs) rs)) here ∙ unused name vs rs none (All-tail (IsWithin vs) r rs all)
 
 -- ---- references of a container
 

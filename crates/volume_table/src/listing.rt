@@ -27,6 +27,13 @@ impl<'a> VolumeListing<'a> {
     {
         VolumeListing { rest: volumes }
     }
+
+    /// Those to come.
+    pub fn as_slice(&self) -> &'a [Volume]
+        ensures { result.now ≡ self.now }
+    {
+        self.rest
+    }
 }
 
 impl<'a> Iterator for VolumeListing<'a> {

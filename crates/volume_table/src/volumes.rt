@@ -103,6 +103,16 @@ impl Volumes {
         }
     }
 
+    /// Whether a container refers to the volume of that name.
+    pub fn is_used(&self, name: &str) -> bool
+        ensures { result ≡ is_in_use name.now self.now.uses }
+    {
+        match place_of(self.volumes.as_slice(), name) {
+            Ok(place) => is_referred(self.references.as_slice(), place),
+            Err(_) => false,
+        }
+    }
+
     /// Takes a volume away, unless a container refers to it.
     pub fn remove(&mut self, name: &str) -> Removed
         ensures answer { result
