@@ -1,4 +1,4 @@
-use Rattle.std.proofs.Common.{List, ap, sym, ◌∙◌, eqb}
+use Rattle.std.proofs.Common.{ap, sym, ◌∙◌, eqb}
 use Rattle.std.specs.List.{list_any}
 use Rattle.std.specs.Result.{result_ok}
 use Rattle.engine_text.proofs.PlaceLemmas.{seen}
