@@ -30,3 +30,5 @@ pub mod HaltLemmas
 pub mod CreateLemmas
 pub mod NameLemmas
 pub mod IdLemmas
+pub mod NewExecLemmas
+pub mod VolumeLemmas

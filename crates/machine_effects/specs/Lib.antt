@@ -8,6 +8,7 @@ pub mod Kits
 pub mod LeastDue
 pub mod Marks
 pub mod Memory
+pub mod NewExecs
 pub mod NewVolumes
 pub mod Ops
 pub mod Outputs

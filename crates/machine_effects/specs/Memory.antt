@@ -12,7 +12,7 @@ pub record Room : Type 0 where
   pub moments : ℕ
   pub scratch : ℕ
 
--- The state; how many containers, volumes and references to these may stand; the kernel's spare room, records and the bytes of each; how many more records each log and
+-- The state; how many containers, volumes, references to these, execs and outputs of execs may stand; the kernel's spare room, records and the bytes of each; how many more records each log and
 -- output has room for; the numbers that a step has noted.
 pub record Memory : Type 0 where
   pub state : State
@@ -20,6 +20,8 @@ pub record Memory : Type 0 where
   pub containers : ℕ
   pub volumes : ℕ
   pub uses : ℕ
+  pub execs : ℕ
+  pub exec_outputs : ℕ
   pub spare : ℕ
   pub bytes : ℕ
   pub logs : List ℕ

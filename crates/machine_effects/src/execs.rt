@@ -17,7 +17,7 @@ use std::marker::Model;
 /// The execs in order of number.
 #[derive(Drop)]
 pub struct Execs {
-    items: Vec<Exec>,
+    pub(super) items: Vec<Exec>,
 }
 
 impl Model for Execs {

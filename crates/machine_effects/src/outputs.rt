@@ -19,7 +19,7 @@ use std::marker::Model;
 /// The output of each exec that has started.
 #[derive(Drop)]
 pub struct Outputs {
-    held: Vec<HeldOutput>,
+    pub(super) held: Vec<HeldOutput>,
 }
 
 impl Model for Outputs {
