@@ -1,4 +1,6 @@
+pub mod AnswerLemmas
 pub mod CreateLemmas
+pub mod ExecLemmas
 pub mod FilterLemmas
 pub mod InspectLemmas
 pub mod KillLemmas
@@ -13,3 +15,4 @@ pub mod TakeLemmas
 pub mod DueFoundLemmas
 pub mod DueMakeLemmas
 pub mod UnpauseLemmas
+pub mod VolumeLemmas

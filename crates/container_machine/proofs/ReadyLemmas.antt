@@ -71,6 +71,11 @@ fits (Plan.Halt connection n halting sent seconds kit) t m brings k at room = re
     spare = room.end.spare;
   };
 }
+fits (Plan.ExecCreate x output) t m brings k at room = record {
+  room = record { place = room.place; output = room.output };
+  output = brings;
+  number = omega (arith, k.numbers.next_number, k.counts.steps);
+}
 fits (Plan.Kill n sent last kit) t m brings k at room = record {
   signal = brings.1;
   timely = timely t m.state at;
@@ -88,6 +93,8 @@ fits (Plan.Unpause n kit) t m brings k at room = record {
   fit = settles n kit t m brings k at.until room;
   spare = room.spare;
 }
+fits (Plan.VolumeCreate name labels) t m brings k at room = record { free = brings; room = room }
+fits (Plan.VolumeRemove name) t m brings k at room = record { stands = brings.stands; unused = brings.unused }
 fits (Plan.Wait connection n until) t m brings k at room = record {
   room = room;
   number = omega (arith, k.numbers.next_ticket, k.counts.steps);

@@ -1,4 +1,5 @@
 pub mod Create
+pub mod Execs
 pub mod Kill
 pub mod List
 pub mod Restart
@@ -6,4 +7,5 @@ pub mod Start
 pub mod Stop
 pub mod Take
 pub mod Unpause
+pub mod Volumes
 pub mod Wait

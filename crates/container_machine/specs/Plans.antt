@@ -1,27 +1,31 @@
 -- own: what a prepared call does once its container is found and its status is known, and what that needs.
-use Rattle.std.specs.Prelude.{◌≡◌, ℕ, ◌+◌, ◌<◌, ◌≤◌, [], ⊤, length, vec_capacity}
+use Rattle.std.specs.Prelude.{◌≡◌, ℕ, ◌+◌, ◌<◌, ◌≤◌, [], None, ⊤, length, vec_capacity}
 use Rattle.engine_text.specs.declared.signal.Signal.{Signal}
 use Rattle.machine_model.specs.State.{State}
 use Rattle.machine_model.specs.Chain.{Effect, change, still}
-use Rattle.machine_model.specs.Calls.Create.{add}
+use Rattle.machine_model.specs.Calls.Create.{add, make_volume, volume_named}
 use Rattle.machine_model.specs.Calls.Pause.{pause}
 use Rattle.machine_model.specs.Calls.Restart.{launch_again}
 use Rattle.machine_model.specs.Calls.Take.{end_ticket}
+use Rattle.machine_model.specs.Calls.Volumes.{remove_volume}
 use Rattle.machine_effects.specs.Fit.{IsScriptOf, exec_numbers, outputs_of}
 use Rattle.machine_effects.specs.Halts.{HasHaltRoom}
-use Rattle.machine_effects.specs.Held.{container_in}
+use Rattle.machine_effects.specs.Held.{container_in, output_in}
 use Rattle.machine_effects.specs.Memory.{Memory, HasRoom}
+use Rattle.machine_effects.specs.NewExecs.{CanAddExec, HasExecRoom, empty_output}
 use Rattle.machine_effects.specs.NewVolumes.{CanAdd, HasAddRoom}
 use Rattle.machine_effects.specs.Tickets.{CanBegin}
 use Rattle.machine_effects.specs.declared.kit.Kit.{Kit}
 use Rattle.machine_model.specs.Effects.Launch.{launch_by_call}
 use Rattle.machine_model.specs.Effects.Meet.{thaw_container}
 use Rattle.container_machine.specs.Calls.Create.{IsNew}
+use Rattle.container_machine.specs.Calls.Execs.{add_exec}
 use Rattle.container_machine.specs.Calls.Restart.{restart_restarting_effect}
 use Rattle.container_machine.specs.Calls.Start.{CanStart}
 use Rattle.container_machine.specs.Calls.Kill.{kill_effect, kill_restarting_effect, CanKill}
 use Rattle.container_machine.specs.Calls.Stop.{CanStop, halt_effect, stop_restarting_effect}
 use Rattle.container_machine.specs.Calls.Unpause.{CanThaw}
+use Rattle.container_machine.specs.Calls.Volumes.{CanMakeVolume, CanRemoveVolume, HasVolumeRoom}
 use Rattle.container_machine.specs.Calls.Wait.{wait_effect}
 use Rattle.container_machine.specs.declared.plan.Plan.{Plan}
 
@@ -30,6 +34,7 @@ abbrev pub plan_effect : Plan → State → Effect
 plan_effect Plan.Nothing = still
 plan_effect (Plan.Create held volumes) = add (container_in held)
 plan_effect (Plan.EndTicket ticket) = change (end_ticket ticket)
+plan_effect (Plan.ExecCreate x output) = add_exec x
 plan_effect (Plan.Halt connection n halting sent seconds kit) = halt_effect connection n halting seconds sent.number
 plan_effect (Plan.Kill n sent last kit) = kill_effect n sent last
 plan_effect (Plan.KillRestarting n sent) = kill_restarting_effect n sent
@@ -39,6 +44,8 @@ plan_effect (Plan.RestartRestarting n script) = restart_restarting_effect n
 plan_effect (Plan.Start n script) = launch_by_call n
 plan_effect (Plan.StopRestarting n) = stop_restarting_effect n
 plan_effect (Plan.Unpause n kit) = thaw_container n
+plan_effect (Plan.VolumeCreate name labels) = make_volume name labels
+plan_effect (Plan.VolumeRemove name) = remove_volume name
 plan_effect (Plan.Wait connection n until) = wait_effect connection n until
 
 -- The tables stand as it needs them.
@@ -46,6 +53,7 @@ abbrev pub Fits : Plan → Memory → Type 0
 Fits Plan.Nothing m = ⊤
 Fits (Plan.Create held volumes) m = CanAdd (container_in held) volumes.items m
 Fits (Plan.EndTicket ticket) m = ⊤
+Fits (Plan.ExecCreate x output) m = CanAddExec x output m
 Fits (Plan.Halt connection n halting sent seconds kit) m = CanStop n sent kit m
 Fits (Plan.Kill n sent last kit) m = CanKill n sent kit m
 Fits (Plan.KillRestarting n sent) m = ⊤
@@ -55,6 +63,8 @@ Fits (Plan.RestartRestarting n script) m = CanStart n script m
 Fits (Plan.Start n script) m = CanStart n script m
 Fits (Plan.StopRestarting n) m = ⊤
 Fits (Plan.Unpause n kit) m = CanThaw n kit m
+Fits (Plan.VolumeCreate name labels) m = CanMakeVolume name m
+Fits (Plan.VolumeRemove name) m = CanRemoveVolume name m.state
 Fits (Plan.Wait connection n until) m = CanBegin m
 
 -- There is room for it.
@@ -62,6 +72,7 @@ abbrev pub HasRoomFor : Plan → Memory → Type 0
 HasRoomFor Plan.Nothing m = ⊤
 HasRoomFor (Plan.Create held volumes) m = HasAddRoom (length held.container.life.mounts) m
 HasRoomFor (Plan.EndTicket ticket) m = ⊤
+HasRoomFor (Plan.ExecCreate x output) m = HasExecRoom m
 HasRoomFor (Plan.Halt connection n halting sent seconds kit) m = HasHaltRoom m
 HasRoomFor (Plan.Kill n sent last kit) m = HasRoom m
 HasRoomFor (Plan.KillRestarting n sent) m = ⊤
@@ -71,6 +82,8 @@ HasRoomFor (Plan.RestartRestarting n script) m = HasRoom m
 HasRoomFor (Plan.Start n script) m = HasRoom m
 HasRoomFor (Plan.StopRestarting n) m = ⊤
 HasRoomFor (Plan.Unpause n kit) m = HasRoom m
+HasRoomFor (Plan.VolumeCreate name labels) m = HasVolumeRoom m
+HasRoomFor (Plan.VolumeRemove name) m = ⊤
 HasRoomFor (Plan.Wait connection n until) m = length m.state.tickets < m.room.tickets
 
 -- The memory that it brings is what the end of the container's main process may want.
@@ -85,6 +98,7 @@ abbrev pub Brings : Plan → ℕ → State → Type 0
 Brings Plan.Nothing t s = ⊤
 Brings (Plan.Create held volumes) t s = IsNew (container_in held) volumes.items t s
 Brings (Plan.EndTicket ticket) t s = ⊤
+Brings (Plan.ExecCreate x output) t s = output_in output ≡ empty_output x.number
 Brings (Plan.Halt connection n halting sent seconds kit) t s = Serves n kit s × (sent.number < 32)
 Brings (Plan.Kill n sent last kit) t s = Serves n kit s × (sent.number < 32)
 Brings (Plan.KillRestarting n sent) t s = ⊤
@@ -94,4 +108,6 @@ Brings (Plan.RestartRestarting n script) t s = IsScriptOf n script s
 Brings (Plan.Start n script) t s = IsScriptOf n script s
 Brings (Plan.StopRestarting n) t s = ⊤
 Brings (Plan.Unpause n kit) t s = Serves n kit s
+Brings (Plan.VolumeCreate name labels) t s = volume_named name s ≡ None
+Brings (Plan.VolumeRemove name) t s = CanRemoveVolume name s
 Brings (Plan.Wait connection n until) t s = ⊤

@@ -1,5 +1,6 @@
 // The calls, one by one.
 pub mod create;
+pub mod execs;
 pub mod inspect;
 pub mod kill;
 pub mod list;
@@ -9,4 +10,5 @@ pub mod start;
 pub mod stop;
 pub mod take;
 pub mod unpause;
+pub mod volumes;
 pub mod wait;

@@ -14,6 +14,7 @@ mod plan;
 mod prepared;
 mod refusals;
 mod texts;
+mod volume_filters;
 
 pub use due::PreparedDue;
 pub use machine::{Machine, ask};

@@ -14,6 +14,7 @@ ghost use Rattle.container_machine.specs.Plans.{HasRoomFor};
 ghost use Rattle.machine_model.specs.Consistency.{IsConsistent};
 ghost use Rattle.container_machine.specs.Prepared.{Asked, asked_by, IsFor, IsForSome, IsCommitted, IsAsked};
 
+use super::calls::execs::create::ExecAsk;
 use super::due::{DuePlan, PreparedDue};
 use super::plan::{Plan, perform};
 use super::prepared::Prepared;
@@ -74,6 +75,7 @@ impl Machine {
         call: &Call,
     ) -> Result<Prepared, NoMemory>
         requires sound { IsSound call.now }
+        requires until { moment ≤ greatest_moment }
         requires built { IsTrue (is_built call.now) }
         requires heard { IsFalse (is_drop call.now) }
         ensures { IfOk result (λ p. Makes p moment self.now.memory.state (outcome_of call.now conn)) }
@@ -81,6 +83,24 @@ impl Machine {
         self.kept();
         match call {
             Call::Create(asked) => calls::create::prepare(&self.tables, alloc, moment, asked),
+            Call::ExecCreate {
+                target,
+                words,
+                stdin,
+                out,
+                err,
+            } => {
+                let asked = ExecAsk {
+                    words,
+                    stdin: *stdin,
+                    out: *out,
+                    err: *err,
+                };
+                calls::execs::create::prepare(&self.tables, alloc, moment, target.as_str(), asked)
+            }
+            Call::ExecInspect { id } => {
+                calls::execs::inspect::prepare(&self.tables, alloc, moment, id.as_str())
+            }
             Call::Kill { target, signal } => {
                 calls::kill::prepare(&self.tables, alloc, moment, target.as_str(), *signal)
             }
@@ -111,6 +131,18 @@ impl Machine {
             Call::Take { ticket } => calls::take::prepare(&self.tables, alloc, moment, *ticket),
             Call::Unpause { target } => {
                 calls::unpause::prepare(&self.tables, alloc, moment, target.as_str())
+            }
+            Call::VolumeCreate { name, labels } => {
+                calls::volumes::create::prepare(&self.tables, alloc, moment, name, labels)
+            }
+            Call::VolumeInspect { name } => {
+                calls::volumes::inspect::prepare(&self.tables, alloc, moment, name.as_str())
+            }
+            Call::VolumeList { filter } => {
+                calls::volumes::list::prepare(&self.tables, alloc, moment, filter)
+            }
+            Call::VolumeRemove { name } => {
+                calls::volumes::remove::prepare(&self.tables, alloc, moment, name)
             }
             Call::Wait { target, until } => {
                 let target = target.as_str();
@@ -151,6 +183,7 @@ impl Machine {
                 .tables
                 .make_add_room(alloc, held.container.life.mounts.len()),
             Plan::EndTicket { .. } => Ok(()),
+            Plan::ExecCreate { .. } => self.tables.make_exec_room(),
             Plan::Halt { .. } => self.tables.make_halt_room(alloc),
             Plan::KillRestarting { .. } => Ok(()),
             Plan::Kill { .. } => self.tables.make_room(alloc),
@@ -160,6 +193,8 @@ impl Machine {
             Plan::Start { .. } => self.tables.make_room(alloc),
             Plan::StopRestarting { .. } => Ok(()),
             Plan::Unpause { .. } => self.tables.make_room(alloc),
+            Plan::VolumeCreate { .. } => self.tables.make_volume_room(alloc),
+            Plan::VolumeRemove { .. } => Ok(()),
             Plan::Wait { .. } => self.tables.make_ticket_room(),
         }
     }

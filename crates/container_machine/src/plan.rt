@@ -4,8 +4,8 @@ ghost use Rattle.container_machine.specs.Plans.{plan_effect, Fits};
 ghost use Rattle.machine_effects.specs.Settled.{deaths};
 
 use super::{calls, halts};
-use engine_text::{Script, Signal, Until, Volume};
-use machine_effects::{Death, Halting, Held, Kit, Tables};
+use engine_text::{Exec, Pairs, Script, Signal, Text, Until, Volume};
+use machine_effects::{Death, Halting, Held, HeldOutput, Kit, Tables};
 
 /// What a prepared call does.
 #[derive(Drop)]
@@ -17,6 +17,10 @@ pub enum Plan {
     },
     EndTicket {
         ticket: u64,
+    },
+    ExecCreate {
+        exec: Exec,
+        output: HeldOutput,
     },
     Halt {
         conn: u32,
@@ -58,6 +62,13 @@ pub enum Plan {
         number: u64,
         kit: Kit,
     },
+    VolumeCreate {
+        name: Text,
+        labels: Pairs,
+    },
+    VolumeRemove {
+        name: Text,
+    },
     Wait {
         conn: u32,
         number: u64,
@@ -80,6 +91,10 @@ pub fn perform(tables: &mut Tables, plan: Plan) -> Option<Death>
         }
         Plan::EndTicket { ticket } => {
             calls::take::perform(tables, ticket);
+            None
+        }
+        Plan::ExecCreate { exec, output } => {
+            calls::execs::create::perform(tables, exec, output);
             None
         }
         Plan::Halt {
@@ -121,6 +136,14 @@ pub fn perform(tables: &mut Tables, plan: Plan) -> Option<Death>
             None
         }
         Plan::Unpause { number, kit } => calls::unpause::perform(tables, number, kit),
+        Plan::VolumeCreate { name, labels } => {
+            calls::volumes::create::perform(tables, name, labels);
+            None
+        }
+        Plan::VolumeRemove { name } => {
+            calls::volumes::remove::perform(tables, name);
+            None
+        }
         Plan::Wait {
             conn,
             number,

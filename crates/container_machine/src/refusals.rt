@@ -125,3 +125,36 @@ pub fn already_paused(alloc: Global, id: &str) -> Result<Text, NoMemory>
 {
     join(alloc, "Container ", id, " is already paused")
 }
+
+/// A paused container has no new execs.
+pub fn paused(alloc: Global, id: &str) -> Result<Text, NoMemory>
+    ensures { IfOk result (λ t. t ≡ spec.paused id.now) }
+{
+    join(
+        alloc,
+        "Container ",
+        id,
+        " is paused, unpause the container first",
+    )
+}
+
+/// No exec has that id.
+pub fn no_such_exec(alloc: Global, id: &str) -> Result<Text, NoMemory>
+    ensures { IfOk result (λ t. t ≡ spec.no_such_exec id.now) }
+{
+    join(alloc, "No such exec instance: ", id, "")
+}
+
+/// No volume has that name.
+pub fn no_such_volume(alloc: Global, name: &str) -> Result<Text, NoMemory>
+    ensures { IfOk result (λ t. t ≡ spec.no_such_volume name.now) }
+{
+    join(alloc, "get ", name, ": no such volume")
+}
+
+/// A container refers to the volume.
+pub fn volume_in_use(alloc: Global, name: &str) -> Result<Text, NoMemory>
+    ensures { IfOk result (λ t. t ≡ spec.volume_in_use name.now) }
+{
+    join(alloc, "remove ", name, ": volume is in use")
+}

@@ -1,0 +1,11 @@
+-- own: what the making of an exec does once its container is found.
+use Rattle.machine_model.specs.State.{State}
+use Rattle.machine_model.specs.Chain.{Effect, and_then, change, tell_of}
+use Rattle.machine_model.specs.EventTexts.{exec_event}
+use Rattle.machine_model.specs.Calls.ExecCreate.{with_exec}
+use Rattle.engine_text.specs.declared.event.Action.TheVariants.{ExecCreate}
+use Rattle.engine_text.specs.declared.exec.Exec.{Exec}
+
+-- The exec stands; event exec_create.
+abbrev pub add_exec : Exec → State → Effect
+add_exec x = and_then (change (with_exec x)) (tell_of (exec_event ExecCreate x.id) x.container)

@@ -1,0 +1,3 @@
+// The calls of execs.
+pub mod create;
+pub mod inspect;

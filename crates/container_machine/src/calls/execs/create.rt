@@ -1,0 +1,149 @@
+// Exec create: by the container's status.
+ghost use Rattle.std.specs.Prelude.{◌≡◌, ◌++◌, [], codes, Some, IfOk};
+ghost use Rattle.machine_model.specs.Calls.ExecCreate as spec;
+ghost use Rattle.machine_model.specs.State.{container_numbered};
+ghost use Rattle.machine_effects.specs.Held.{container_in};
+ghost use Rattle.machine_effects.specs.NewExecs.{CanAddExec};
+ghost use Rattle.container_machine.specs.Calls.Execs.{add_exec};
+ghost use Rattle.container_machine.specs.Making.{Makes};
+
+use crate::answers::refuse;
+use crate::lookup::{Looked, look};
+use crate::plan::Plan;
+use crate::prepared::Prepared;
+use crate::refusals::{being_removed, dead, not_running, paused, restarting};
+use crate::texts::join;
+use engine_text::{Action, Exec, NoMemory, Reply, Status, Text, Words};
+use machine_effects::{Held, HeldOutput, Tables, add, exec_event};
+use std::alloc::Global;
+
+/// What is asked of an exec.
+#[derive(Clone, Copy, Drop)]
+pub struct ExecAsk<'a> {
+    pub words: &'a Words,
+    pub stdin: bool,
+    pub out: bool,
+    pub err: bool,
+}
+
+/// The exec stands, with its output.
+pub fn perform(tables: &mut Tables, exec: Exec, output: HeldOutput)
+    requires { CanAddExec exec output tables.old }
+    ensures state { tables.new.state ≡ (add_exec exec tables.old.state).state }
+    ensures died { [] ≡ (add_exec exec tables.old.state).died }
+    ensures room { tables.new.room ≡ tables.old.room }
+{
+    tables.add_exec(exec, output);
+}
+
+// The answer to an exec create that was done.
+fn created_text(alloc: Global, id: &Text) -> Result<Text, NoMemory>
+    ensures { IfOk result (λ t. t ≡ codes "{\"Id\":\"" ++ id.now ++ codes "\"}") }
+{
+    join(alloc, "{\"Id\":\"", id.as_str(), "\"}")
+}
+
+fn new_exec(tables: &Tables, alloc: Global, h: &Held, asked: ExecAsk<'_>) -> Result<Exec, NoMemory>
+    ensures { IfOk result (λ x. x ≡ spec.new_exec (container_in h.now)
+        asked.words.now asked.stdin asked.out asked.err tables.now.state) }
+{
+    Ok(Exec {
+        number: tables.next_number(),
+        id: tables.next_id(alloc)?,
+        container: h.container.number,
+        words: asked.words.copy(alloc)?,
+        stdin: asked.stdin,
+        out: asked.out,
+        err: asked.err,
+        started: false,
+        pid: 0,
+        code: None,
+    })
+}
+
+// In a container that runs.
+fn prepare_new(
+    tables: &Tables,
+    alloc: Global,
+    moment: u64,
+    h: &Held,
+    asked: ExecAsk<'_>,
+) -> Result<Prepared, NoMemory>
+    requires { container_numbered h.now.container.number tables.now.state ≡ Some (container_in h.now) }
+    ensures { IfOk result (λ p. Makes p moment tables.now.state (λ s. spec.created
+        (spec.new_exec (container_in h.now) asked.words.now asked.stdin asked.out asked.err s)
+        (container_in h.now) s)) }
+{
+    let exec = new_exec(tables, alloc, h, asked)?;
+    let mut events = Vec::new(alloc);
+    let event = exec_event(alloc, Action::ExecCreate, &exec.id, &h.container, moment)?;
+    add(&mut events, event)?;
+    let body = created_text(alloc, &exec.id)?;
+    let output = HeldOutput::new(alloc, exec.number);
+    Ok(Prepared {
+        moment,
+        reply: Reply::Answer { status: 201, body },
+        events,
+        plan: Plan::ExecCreate { exec, output },
+    })
+}
+
+fn prepare_by_status(
+    tables: &Tables,
+    alloc: Global,
+    moment: u64,
+    h: &Held,
+    asked: ExecAsk<'_>,
+) -> Result<Prepared, NoMemory>
+    requires { container_numbered h.now.container.number tables.now.state ≡ Some (container_in h.now) }
+    ensures { IfOk result (λ p. Makes p moment tables.now.state
+        (spec.if_running h.now.container.life.status (container_in h.now) (λ s. spec.created
+        (spec.new_exec (container_in h.now) asked.words.now asked.stdin asked.out asked.err s)
+        (container_in h.now) s))) }
+{
+    let id = h.container.id.as_str();
+    match h.container.life.status {
+        Status::Created => {
+            let text = not_running(alloc, id)?;
+            refuse(alloc, moment, 409, &text)
+        }
+        Status::Running => prepare_new(tables, alloc, moment, h, asked),
+        Status::Paused => {
+            let text = paused(alloc, id)?;
+            refuse(alloc, moment, 409, &text)
+        }
+        Status::Restarting => {
+            let text = restarting(alloc, id)?;
+            refuse(alloc, moment, 409, &text)
+        }
+        Status::Removing => {
+            let text = being_removed(alloc, id)?;
+            refuse(alloc, moment, 409, &text)
+        }
+        Status::Exited => {
+            let text = not_running(alloc, id)?;
+            refuse(alloc, moment, 409, &text)
+        }
+        Status::Dead => {
+            let text = dead(alloc, id)?;
+            refuse(alloc, moment, 409, &text)
+        }
+    }
+}
+
+/// Makes the create of an exec ready.
+pub fn prepare(
+    tables: &Tables,
+    alloc: Global,
+    moment: u64,
+    target: &str,
+    asked: ExecAsk<'_>,
+) -> Result<Prepared, NoMemory>
+    ensures { IfOk result (λ p. Makes p moment tables.now.state
+        (spec.exec_create_outcome target.now asked.words.now asked.stdin asked.out asked.err)) }
+{
+    match look(tables, alloc, moment, target)? {
+        Looked::Stands(h) => prepare_by_status(tables, alloc, moment, h, asked),
+        Looked::Refused(prepared) => Ok(prepared),
+    }
+}

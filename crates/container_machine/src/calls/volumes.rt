@@ -1,0 +1,5 @@
+// The calls of volumes.
+pub mod create;
+pub mod inspect;
+pub mod list;
+pub mod remove;
