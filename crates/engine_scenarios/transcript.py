@@ -70,6 +70,18 @@ def create(name=None, words=None, body=None):
     return post("/v1.43/containers/create" + (f"?name={name}" if name is not None else ""), body)
 
 
+def create_volume(name, labels=None):
+    return post("/v1.43/volumes/create", compact({"Name": name, **({"Labels": labels} if labels else {})}))
+
+
+def create_exec(container, words, **more):
+    return post(f"/v1.43/containers/{container}/exec", compact({"Cmd": words, **more}))
+
+
+def volumes_filtered(filters):
+    return get("/volumes?filters=" + urllib.parse.quote(compact(filters)))
+
+
 # ---- answers
 
 def compact(value):
@@ -132,6 +144,23 @@ def item(n, name, words, status, text, labels=None, mounts=()):
 
 def listed(*items):
     return answer(200, compact(list(items)))
+
+
+def volume(name, labels=None, at=NOW):
+    return {"CreatedAt": at, "Driver": "local", "Labels": labels or {},
+            "Mountpoint": f"/var/lib/engine/volumes/{name}/_data", "Name": name, "Options": {}, "Scope": "local"}
+
+
+def volumes(*items):
+    return answer(200, compact({"Volumes": list(items), "Warnings": []}))
+
+
+def exec_shown(n, container, words, stdin=False, out=False, err=False):
+    return answer(200, compact({
+        "CanRemove": False, "ContainerID": id_of(container), "DetachKeys": "", "ExitCode": None, "ID": id_of(n),
+        "OpenStderr": err, "OpenStdin": stdin, "OpenStdout": out, "Pid": 0,
+        "ProcessConfig": {"arguments": words[1:], "entrypoint": words[0], "privileged": False, "tty": False},
+        "Running": False}))
 
 
 def filtered(filters):
@@ -376,11 +405,53 @@ scenario("mounts", [create("web", body=BINDS), create("db"), get("/containers/we
          [created(0), created(1), shown(0, "web", ["hello"], "created", mounts=MOUNTS), listed(),
           listed(item(0, "web", ["hello"], "created", "Created", mounts=MOUNTS)), answer(204),
           shown(0, "web", ["hello"], "exited", started=NOW, finished=NOW, mounts=MOUNTS)])
+# volumes that a call makes: one that stands stays as it is, and lists are in byte order of names
+LOGS = volume("logs", {"tier": "one"}, moment(10))
+CACHE = volume("Cache", at=moment(20))
+scenario("volumes", [
+    get("/volumes"), create_volume("logs", {"tier": "one"}), create_volume("Cache"), create_volume("logs"),
+    get("/v1.43/volumes/logs"), get("/volumes"), volumes_filtered({"name": ["og"]}), volumes_filtered({"name": ["x", "ach"]}),
+    volumes_filtered({"name": []}), get("/volumes/none"), get("/volumes/none", "DELETE"),
+    get("/volumes/logs?force=1", "DELETE"), get("/volumes/logs"), get("/volumes"), create_volume("logs"), get("/volumes"),
+    create_volume("a"), post("/volumes/create", '{"Name":"aa","Driver":"nfs"}'), volumes_filtered({"label": ["tier"]})],
+    [volumes(), answer(201, compact(LOGS)), answer(201, compact(CACHE)), answer(201, compact(LOGS)),
+     answer(200, compact(LOGS)), volumes(CACHE, LOGS), volumes(LOGS), volumes(CACHE),
+     volumes(), message(404, "get none: no such volume"), message(404, "get none: no such volume"),
+     answer(204), message(404, "get logs: no such volume"), volumes(CACHE), answer(201, compact(volume("logs", at=moment(140)))),
+     volumes(CACHE, volume("logs", at=moment(140))),
+     message(400, "bad volume name"), message(400, "bad driver"), message(400, "invalid filter")],
+    words="--stdio --clock 1700000000000:10")
+DATA_IN_USE = message(409, "remove data: volume is in use")
+scenario("volumes_in_use", [
+    create("web", body=BINDS), get("/volumes"), get("/volumes/data", "DELETE"), post("/containers/web/start"),
+    get("/volumes/data", "DELETE"), create_volume("data", {"tier": "one"}), create_volume("spare"),
+    get("/volumes/logs", "DELETE"), get("/volumes/spare", "DELETE"), get("/volumes")],
+    [created(0), volumes(volume("data"), volume("logs")), DATA_IN_USE, answer(204),
+     DATA_IN_USE, answer(201, compact(volume("data"))), answer(201, compact(volume("spare"))),
+     message(409, "remove logs: volume is in use"), answer(204), volumes(volume("data"), volume("logs"))])
 INPUT = compact({"Image": "engine/tools", "Cmd": ["cat"], "OpenStdin": True, "StdinOnce": True, "StopSignal": "SIGINT"})
 scenario("open_input", [create("web", body=INPUT), post("/containers/web/start"), get("/containers/web/json"),
                         post("/containers/web/kill?signal=INT"), get("/containers/web/json")],
          [created(0), answer(204), shown(0, "web", ["cat"], "running", pid=1001, started=NOW, stdin=True, stop="SIGINT"),
           answer(204), shown(0, "web", ["cat"], "exited", code=130, started=NOW, finished=NOW, stdin=True, stop="SIGINT")])
+
+# execs: made in a container that runs, with the numbers that containers have
+ECHO = ["echo", "hi"]
+scenario("execs", [
+    create_exec("web", ECHO), create("web", LONG), create_exec("web", ECHO), post("/containers/web/start"),
+    create_exec("web", ECHO, AttachStdout=True), create("db"),
+    create_exec(id_of(0), ["cat"], AttachStdin=True, AttachStderr=True), get(f"/v1.43/exec/{id_of(1)}/json"),
+    get(f"/exec/{id_of(3)}/json"), get("/exec/none/json"), get(f"/exec/{id_of(1)[:12]}/json"), get(f"/exec/{id_of(0)}/json"),
+    post("/containers/web/pause"), create_exec("web", ECHO), get(f"/exec/{id_of(1)}/json"), post("/containers/web/unpause"),
+    create_exec("web", ["nope"]), post("/containers/web/kill"), create_exec("web", ECHO), get(f"/exec/{id_of(4)}/json")],
+    [message(404, "No such container: web"), created(0), NOT_RUNNING, answer(204),
+     answer(201, compact({"Id": id_of(1)})), created(2),
+     answer(201, compact({"Id": id_of(3)})), exec_shown(1, 0, ECHO, out=True),
+     exec_shown(3, 0, ["cat"], stdin=True, err=True), message(404, "No such exec instance: none"),
+     message(404, f"No such exec instance: {id_of(1)[:12]}"), message(404, f"No such exec instance: {id_of(0)}"),
+     answer(204), message(409, f"Container {id_of(0)} is paused, unpause the container first"),
+     exec_shown(1, 0, ECHO, out=True), answer(204),
+     answer(201, compact({"Id": id_of(4)})), answer(204), NOT_RUNNING, exec_shown(4, 0, ["nope"])])
 
 refused("too_long", "POST /v1.43/containers/create HTTP/1.1\r\nHost: x\r\nContent-Length: 1048577\r\n\r\n", 413)
 refused("without_host", "GET /_ping HTTP/1.1\r\n\r\n", 400)
