@@ -1,5 +1,5 @@
 -- What a change of one box makes of the containers, their numbers and the rooms of their logs.
-use Rattle.std.proofs.Common.{◌≡◌, ℕ, suc, zero, ◌-◌, ◌<◌, ◌≤◌, Bool, true, false, if◌then◌else◌, List, [], ◌∷◌, ◌++◌, length, get_or, map, Option, Some, None, Ok, find, position, refl, sym, ◌∙◌, subst, ap, arith}
+use Rattle.std.proofs.Common.{◌≡◌, ℕ, suc, zero, ◌-◌, ◌<◌, ◌≤◌, Bool, true, false, if◌then◌else◌, List, [], ◌∷◌, ◌++◌, length, get_or, Some, None, position, refl, sym, ◌∙◌, subst, ap, arith}
 use Rattle.std.specs.Prelude.{◌==◌, slice_index}
 use Rattle.std.specs.List.{AllByRecursion, remove}
 use Rattle.std.proofs.Math.ListN.{set}
@@ -11,7 +11,7 @@ use Rattle.engine_text.proofs.PlaceLemmas.{position_is, no_position}
 use Rattle.container_table.specs.Lists.{remove_first, update_first}
 use Rattle.container_table.specs.Order.{IsInOrder}
 use Rattle.container_table.specs.Search.{HoldsOf, Parts}
-use Rattle.container_table.specs.Tables.{numbered, without}
+use Rattle.container_table.specs.Tables.{without}
 use Rattle.container_table.specs.Logs.{container_in, room_in, rooms_used, rooms_without, AreNoLess, FitsLog}
 use Rattle.container_table.specs.declared.held.Held.{Held}
 use Rattle.container_table.specs.Held.{contents, numbers_of, rooms_of, is_numbered_before}

@@ -1,5 +1,5 @@
 // Boxes of containers: those that are held, in order of number, and spare ones.
-ghost use Rattle.std.specs.Prelude.{◌≡◌, ℕ, ◌+◌, ◌<◌, ◌≤◌, [], ◌∷◌, ◌++◌, Some, Ok, OnOk, OnErr, vec_len, vec_capacity};
+ghost use Rattle.std.specs.Prelude.{◌≡◌, ◌+◌, ◌<◌, ◌≤◌, [], ◌∷◌, ◌++◌, Some, Ok, OnOk, OnErr, vec_len, vec_capacity};
 ghost use Rattle.container_table.specs.Tables.{numbered, without, renamed, relived};
 ghost use Rattle.container_table.specs.Logs.{container_in, room_in, recorded, rooms_used, rooms_without, AreNoLess, FitsLog, IsLifeOf};
 ghost use Rattle.container_table.specs.Held.{contents, numbers_of, rooms_of, IsBoxed, IsPlaced};

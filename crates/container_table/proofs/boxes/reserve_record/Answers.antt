@@ -1,10 +1,8 @@
-use Rattle.std.proofs.Common.{◌≡◌, ◌<◌, ◌≤◌, ◌∙◌, List, ap, sym, subst, arith}
-use Rattle.std.specs.Prelude.{◌==◌}
+use Rattle.std.proofs.Common.{◌≤◌, ◌∙◌, List, ap, subst, arith}
 use Rattle.std.specs.Box.{with_value}
 use Rattle.std.proofs.lemmas.Result.{on_ok_weaker, on_err_weaker}
 use Rattle.engine_text.specs.declared.log.LogRecord.{LogRecord}
 use Rattle.engine_text.specs.Logs.{Written}
-use Rattle.container_table.specs.Held.{contents}
 use Rattle.container_table.specs.Logs.{container_in, room_in}
 use Rattle.container_table.specs.declared.held.Held.{Held}
 use Rattle.container_table.proofs.BoxLemmas.{contents_kept, rooms_kept, no_less, room_made}

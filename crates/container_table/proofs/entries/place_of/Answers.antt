@@ -1,4 +1,4 @@
-use Rattle.std.proofs.Common.{ℕ, List, Result, length, ◌∙◌, subst}
+use Rattle.std.proofs.Common.{◌∙◌, subst}
 use Rattle.std.specs.List.Sorted.{IsSearchInRange}
 use Rattle.container_table.specs.Held.{contents}
 use Rattle.container_table.proofs.HeldLemmas.{placed_by_number, length-numbers}
