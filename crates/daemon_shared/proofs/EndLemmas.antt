@@ -23,7 +23,8 @@ use Rattle.turnstile.proofs.Totals.{each_first, each_last, each_both}
 use Rattle.daemon_shared.specs.Sharing.{author_of, opening_in, charter_by, charter_in, IsKept, with_calls, shared_pass}
 use Rattle.daemon_shared.specs.Worsts.{called_by, IsWorst}
 use Rattle.daemon_shared.specs.Running.{ServesBy, Life, Lived, AllLived, numbered, ComeIn, GoOut, Halts, IsNobodys, RunsDaemon}
-use Rattle.daemon_shared.specs.Inside.{SharedSeat, AllPairs, start_of, end_of, begun_of, starts_of, IsRunning, AllRunning, IsTaken, ServesAll}
+use Rattle.daemon_shared.specs.Sessions.{SharedSeat, start_of, end_of}
+use Rattle.daemon_shared.specs.Threads.{AllPairs, begun_of, starts_of, IsRunning, AllRunning, IsTaken, ServesAll}
 use Rattle.daemon_shared.specs.declared.one_daemon.OneDaemon.{OneDaemon}
 use Rattle.daemon_shared.specs.declared.one_daemon.Opening.{Opening}
 use Rattle.daemon_shared.specs.declared.hall.Ended.{Ended}

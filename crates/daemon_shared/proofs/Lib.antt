@@ -4,3 +4,4 @@ pub mod WorstLemmas
 pub mod RunLemmas
 pub mod EndLemmas
 pub mod SessionLemmas
+pub mod PairLemmas

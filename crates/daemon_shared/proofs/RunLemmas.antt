@@ -19,7 +19,8 @@ use Rattle.turnstile.specs.declared.view.View.{View}
 use Rattle.daemon_shared.specs.Sharing.{author_of, IsKept}
 use Rattle.daemon_shared.specs.Worsts.{called_by, worse_of, IsWorst}
 use Rattle.daemon_shared.specs.Running.{ComeIn, GoOut, Halts}
-use Rattle.daemon_shared.specs.Inside.{SharedSeat, AllPairs, IsRoot, Declines, start_of, end_of, Served, IsReady, CanServe, Admits, begun_of, HasClause, IsRunning, AllRunning, starts_of, Begins, IsTaken, ClosesOne, Closes, Closing, ServesAll}
+use Rattle.daemon_shared.specs.Sessions.{SharedSeat, IsRoot, Declines, start_of, end_of, Served, IsReady, CanServe, Admits}
+use Rattle.daemon_shared.specs.Threads.{AllPairs, begun_of, HasClause, IsRunning, AllRunning, starts_of, Begins, IsTaken, ClosesOne, Closes, Closing, ServesAll}
 use Rattle.daemon_shared.specs.declared.one_daemon.Opening.{Opening}
 use Rattle.daemon_shared.specs.declared.hall.Begun.{Begun}
 use Rattle.daemon_shared.specs.declared.hall.Ended.{Ended}

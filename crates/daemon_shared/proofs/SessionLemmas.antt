@@ -5,7 +5,7 @@ use Rattle.turnstile.specs.Turns.{IsPass}
 use Rattle.engine_ports.specs.Door.{Outside}
 use Rattle.session_model.specs.declared.ending.Ending.{Ending}
 use Rattle.session_model.specs.Pass.{PassView}
-use Rattle.daemon_shared.specs.Inside.{SharedSeat}
+use Rattle.daemon_shared.specs.Sessions.{SharedSeat}
 use Rattle.daemon_shared.specs.Running.{ServesBy}
 use Rattle.daemon_shared.specs.Sharing.{shared_pass}
 

@@ -1,4 +1,6 @@
 pub mod Sharing
 pub mod Worsts
 pub mod Running
-pub mod Inside
+pub mod Sessions
+pub mod Threads
+pub mod Pairing

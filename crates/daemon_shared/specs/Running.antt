@@ -1,4 +1,4 @@
--- What running the shared daemon leaves: one history, and a life for each connection that came (own).
+-- What running the shared daemon leaves: one history, and a life of each connection (own).
 use Rattle.std.specs.Prelude.{ℕ, suc, ◌≡◌, ◌≢◌, ◌<◌, ◌≤◌, ◌⊎◌, min, List, [], ◌∷◌, ◌++◌, length, map, Option, Some, None}
 use Rattle.engine_text.specs.declared.step.Step.{Step}
 use Rattle.engine_ports.specs.Rose.{Rose}
@@ -12,7 +12,7 @@ use Rattle.session_model.specs.Guarantee.{Serves}
 use Rattle.daemon_core.specs.declared.daemon.Daemon.{Daemon}
 use Rattle.daemon_core.specs.Passing.{whole_pass}
 use Rattle.daemon_core.specs.Storing.{pass_of}
-use Rattle.engine_serve.specs.Running.{unstopped}
+use Rattle.engine_serve.specs.OwnClock.{unstopped}
 use Rattle.daemon_shared.specs.Worsts.{called_by, IsWorst}
 
 -- ---- one connection
@@ -33,7 +33,8 @@ pub record Life : Type 0 where
 
 -- connection k came new, and was served between two beginnings of the history; no call of it or of
 -- its standard input stands before the first or behind the second
-pub record Lived (ch : Charter) (h : List Step) (steps : Option (ℕ × ℕ)) (k : ℕ) (l : Life) : Type 0 where
+pub record Lived (ch : Charter) (h : List Step) (steps : Option (ℕ × ℕ)) (k : ℕ)
+    (l : Life) : Type 0 where
   pub new : IsNew l.came
   pub from : PassView
   pub to : PassView
@@ -71,10 +72,15 @@ module _ {A : Type 0} where
   GoOut (Some before) xs None = ⊥
   GoOut None xs (Some now) = ⊥
 
--- how many connections are taken in at most
+-- so many connections are served at most that neither their numbers nor those of their standard
+-- input, 2,147,483,648 more, meet the root's, 4,294,967,295
+abbrev pub most_connections : ℕ
+most_connections = 2147483646
+
+-- how many are taken in at most
 abbrev pub most_of : Option ℕ → ℕ
-most_of None = 2147483646
-most_of (Some limit) = min limit 2147483646
+most_of None = most_connections
+most_of (Some limit) = min limit most_connections
 
 -- why no more are taken in: so many came, or none is to come; the door failed; memory was refused
 abbrev pub Halts : Worst → ℕ → ℕ → DoorView → DoorView → Type 0

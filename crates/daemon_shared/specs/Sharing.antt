@@ -1,4 +1,4 @@
--- What a pass on a shared daemon stands for, and what one turn of it makes (own: one daemon, several passes).
+-- What a pass on a shared daemon stands for, and what a turn of it makes (own).
 use Rattle.std.specs.Prelude.{ℕ, ◌≡◌, ◌++◌, ◌∷◌, [], false, List, map, Option, Some, None}
 use Rattle.std.specs.List.{filter}
 use Rattle.engine_text.specs.declared.call.Call.{Call}
@@ -61,7 +61,8 @@ abbrev pub MayMeet : Opening → ℕ → List Step → Option Call → Type 0
 MayMeet o k h c = MayAsk (charter_by o) k h c × AreBuilt c
 
 -- a turn in the history h made its own steps, and gave this answer
-pub record Makes (o : Opening) (k handed : ℕ) (c : Option Call) (a : Turned) (h h' : List Step) : Type 0 where
+pub record Makes (o : Opening) (k handed : ℕ) (c : Option Call) (a : Turned)
+    (h h' : List Step) : Type 0 where
   pub own : List Step
   pub is : h' ≡ h ++ own
   -- all calls among them are its own

@@ -4,7 +4,7 @@ ghost use Rattle.machine_model.specs.History.{greatest_moment};
 ghost use Rattle.daemon_core.specs.Storing.{charter_of};
 ghost use Rattle.session_model.specs.declared.ending.Worst as Worst;
 ghost use Rattle.std.specs.Thread.{IsSend};
-ghost use Rattle.daemon_shared.specs.Inside.{told_by, CanServe, Served};
+ghost use Rattle.daemon_shared.specs.Sessions.{told_by, CanServe, Served};
 ghost use Rattle.daemon_shared.specs.Running.{most_of, RunsDaemon};
 
 use crate::gate::Held;
@@ -52,8 +52,8 @@ pub fn run_daemon<R: Threads + Wait + Sync, D: Door>(
             >
                 requires send { IsSend D.From.row × IsSend D.Into.row × IsSend D.Time.row }
                 requires may { CanServe (λ p. p) room.lock.table.shared.table_id begun }
-                ensures { Served (λ p. p) (told_by D.From.gives D.Into.takes D.Time.times) D.Past.tells
-                    steps begun result }
+                ensures { Served (λ p. p) (told_by D.From.gives D.Into.takes D.Time.times)
+                    D.Past.tells steps begun result }
             { session(&room, alloc, steps, begun) };
             let held = Held { door };
             let (worst, root, Held { door: back }) = serve_all(

@@ -1,7 +1,7 @@
 // A door that is lent, which the threads' scope holds by value.
 ghost use Rattle.std.specs.Prelude.{◌≡◌, ◌<◌, ℕ};
 ghost use Rattle.engine_ports.specs.Door.{DoorView, AcceptSays, LeaveSays};
-ghost use Rattle.daemon_shared.specs.Inside.{told_by};
+ghost use Rattle.daemon_shared.specs.Sessions.{told_by};
 
 use engine_ports::{Arrival, Clock, Door, Parting, Sink, Source};
 

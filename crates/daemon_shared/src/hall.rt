@@ -5,7 +5,7 @@ ghost use Rattle.session_model.specs.Pass.{IsConnection};
 ghost use Rattle.turnstile.specs.Plays.{Learned};
 ghost use Rattle.turnstile.specs.Turns.{IsPass};
 ghost use Rattle.turnstile.specs.Views.{joined};
-ghost use Rattle.daemon_shared.specs.Inside.{SharedSeat, told_by, Served, IsRoot, IsNewcomer};
+ghost use Rattle.daemon_shared.specs.Sessions.{SharedSeat, told_by, Served, IsRoot, IsNewcomer};
 ghost use Rattle.daemon_shared.specs.Sharing.{author_of, IsKept};
 
 use engine_ports::{Clock, Parting, Sink, Source};
@@ -47,7 +47,8 @@ pub struct Kept<Q, F, I, T> {
 
 impl<Q: Seated, F: Source, I: Sink, T: Clock, P: Parting<F, I, T>> Promise<Ended<Q, P>>
     for Kept<Q, F, I, T> {
-    ghost kept_by = { λ p r. Served Q.seat (told_by F.gives I.takes T.times) P.tells p.steps p.began.value r };
+    ghost kept_by = { λ p r. Served Q.seat (told_by F.gives I.takes T.times) P.tells p.steps
+        p.began.value r };
 }
 
 /// One daemon, of which passes are admitted, and into whose root they are joined.

@@ -1,11 +1,12 @@
-//! The shared daemon: one daemon value behind a turnstile, and a session of each connection that comes,
-//! in a thread of its own.
+//! The shared daemon: one daemon value behind a turnstile, and a session of each connection that
+//! comes, in a thread of its own.
 #![tactic(auto)]
 
 mod daemon_run;
 mod gate;
 mod hall;
 mod one_daemon;
+mod pairing;
 mod room;
 mod running;
 mod serving;
@@ -14,4 +15,7 @@ mod worsts;
 
 pub use daemon_run::run_daemon;
 pub use one_daemon::{OneDaemon, Opening, open};
+pub use pairing::Pairs;
+pub use room::serve_by;
 pub use shared::{Shared, TurnJob};
+pub use worsts::called_by;

@@ -9,8 +9,8 @@ use engine_text::{NoMemory, Step};
 use std::alloc::Global;
 use turnstile::{Chronicle, Pass, Turnstile};
 
-/// What no turn of a daemon changes: the seed of ids, the moment of the opening in milliseconds, and
-/// the greatest number of calls.
+/// What no turn of a daemon changes: the seed of ids, the moment of the opening in milliseconds,
+/// and the greatest number of calls.
 pub struct Opening {
     pub seed: [u8; 32],
     pub moment: u64,

@@ -2,7 +2,7 @@
 ghost use Rattle.std.specs.Prelude.{◌≡◌, ◌<◌, IsTrue};
 ghost use Rattle.engine_ports.specs.Door.{outside};
 ghost use Rattle.session_model.specs.Pass.{IsNumber, IsConnection};
-ghost use Rattle.daemon_shared.specs.Inside.{told_by, CanServe, Served};
+ghost use Rattle.daemon_shared.specs.Sessions.{told_by, CanServe, Served};
 ghost use Rattle.daemon_shared.specs.Running.{ServesBy};
 
 use crate::hall::{Begun, Ended, Hall, Seated};
@@ -45,7 +45,7 @@ impl<'a, R: Wait + Sync> Hall for Room<'a, R> {
 
 /// Serves a connection by its clock, or by one of its own that begins at a moment, in milliseconds,
 /// and adds a step at each reading.
-fn serve_by<R: Wait, U: Turns, F: Source, I: Sink, T: Clock>(
+pub fn serve_by<R: Wait, U: Turns, F: Source, I: Sink, T: Clock>(
     rt: &R,
     turns: &mut U,
     alloc: Global,

@@ -1,7 +1,9 @@
 // Connections that are being served.
 ghost use Rattle.std.specs.Prelude.{◌≡◌, ◌<◌, ◌≤◌, ℕ, ◌∷◌, [], length, IfOk, IfErr};
 ghost use Rattle.session_model.specs.Pass.{IsConnection};
-ghost use Rattle.daemon_shared.specs.Inside.{told_by, IsRoot, Declines, Admits, Served, begun_of, HasClause, IsRunning, AllRunning, ClosesOne, Closes};
+ghost use Rattle.daemon_shared.specs.Running.{most_connections};
+ghost use Rattle.daemon_shared.specs.Sessions.{told_by, IsRoot, Declines, Admits, Served};
+ghost use Rattle.daemon_shared.specs.Threads.{begun_of, HasClause, IsRunning, AllRunning, ClosesOne, Closes};
 
 use crate::gate::Gate;
 use crate::hall::{Begun, Ended, Hall, Kept, Seated};
@@ -80,13 +82,13 @@ fn close_one<R: Threads, H: Hall, G: Gate>(
 ) -> Ending
     requires root { IsRoot (H.table hall.now) (H.Pass.seat root.old).me.0.charter
         (H.Pass.seat root.old).me.0.next (H.Pass.seat root.old) }
-    requires running { (n : ℕ) × (n < 2147483646) × IsRunning H.Pass.seat
+    requires running { (n : ℕ) × IsConnection n × IsRunning H.Pass.seat
         (told_by G.From.gives G.Into.takes G.Time.times) G.Past.tells steps (H.table hall.now)
         (H.Pass.seat root.old).me.0.charter n one }
     requires owed { 0 < (G.opens gate.old).owed }
     ensures closes { ClosesOne H.Pass.seat (told_by G.From.gives G.Into.takes G.Time.times)
-        G.Past.tells steps (H.table hall.now) one result (H.Pass.seat root.old) (H.Pass.seat root.new)
-        (G.opens gate.old) (G.opens gate.new) }
+        G.Past.tells steps (H.table hall.now) one result (H.Pass.seat root.old)
+        (H.Pass.seat root.new) (G.opens gate.old) (G.opens gate.new) }
     ensures same { G.which gate.new ≡ G.which gate.old }
 {
     let Ended {
@@ -100,7 +102,8 @@ fn close_one<R: Threads, H: Hall, G: Gate>(
     ending
 }
 
-/// Closes the sessions, each in its turn, and answers the worst that one of them or `why` calls for.
+/// Closes the sessions, each in its turn, and answers the worst that one of them or `why` calls
+/// for.
 pub fn close_all<R: Threads, H: Hall, G: Gate>(
     rt: &R,
     hall: &H,
@@ -112,14 +115,14 @@ pub fn close_all<R: Threads, H: Hall, G: Gate>(
 ) -> Worst
     requires root { IsRoot (H.table hall.now) (H.Pass.seat root.old).me.0.charter
         (length running.items) (H.Pass.seat root.old) }
-    requires few { length running.items ≤ 2147483646 }
+    requires few { length running.items ≤ most_connections }
     requires running { AllRunning H.Pass.seat (told_by G.From.gives G.Into.takes G.Time.times)
         G.Past.tells steps (H.table hall.now) (H.Pass.seat root.old).me.0.charter 0 running.items }
     requires owed { length running.items ≤ (G.opens gate.old).owed }
-    ensures root { IsRoot (H.table hall.now) (H.Pass.seat root.old).me.0.charter (length running.items)
-        (H.Pass.seat root.new) }
-    ensures closes { Closes H.Pass.seat (told_by G.From.gives G.Into.takes G.Time.times) G.Past.tells
-        steps (H.Pass.seat root.new).me.0 running.items why result (G.opens gate.old)
+    ensures root { IsRoot (H.table hall.now) (H.Pass.seat root.old).me.0.charter
+        (length running.items) (H.Pass.seat root.new) }
+    ensures closes { Closes H.Pass.seat (told_by G.From.gives G.Into.takes G.Time.times)
+        G.Past.tells steps (H.Pass.seat root.new).me.0 running.items why result (G.opens gate.old)
         (G.opens gate.new) }
     ensures same { G.which gate.new ≡ G.which gate.old }
 {

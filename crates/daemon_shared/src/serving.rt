@@ -1,7 +1,9 @@
 // The connections of a door, each served in a thread of its own.
 ghost use Rattle.std.specs.Prelude.{◌≡◌, ◌≤◌};
 ghost use Rattle.std.specs.Thread.{IsSend};
-ghost use Rattle.daemon_shared.specs.Inside.{told_by, IsRoot, CanServe, Served, ServesAll};
+ghost use Rattle.daemon_shared.specs.Running.{most_connections};
+ghost use Rattle.daemon_shared.specs.Sessions.{told_by, IsRoot, CanServe, Served};
+ghost use Rattle.daemon_shared.specs.Threads.{ServesAll};
 ghost use Rattle.daemon_shared.specs.declared.hall.Begun.{Begun};
 ghost use Rattle.daemon_shared.specs.declared.hall.Ended.{Ended};
 
@@ -15,8 +17,8 @@ use std::sync::Wait;
 use std::thread;
 use std::thread::Threads;
 
-/// Takes connections in until no more are to come or `most` came, serves each in a thread of its own,
-/// and leaves each to the door. Where a thread is refused, the session runs in this one.
+/// Takes connections in until no more are to come or `most` came, serves each in a thread of its
+/// own, and leaves each to the door. Where a thread is refused, the session runs in this one.
 pub fn serve_all<
     R: Threads + Wait + Sync,
     H: Hall,
@@ -33,9 +35,9 @@ pub fn serve_all<
     most: u32,
 ) -> (Worst, H::Pass, G)
     requires root { IsRoot (H.table hall.now) (H.Pass.seat root).me.0.charter 0 (H.Pass.seat root) }
-    requires most { most ≤ 2147483646 }
-    requires may { (b : Begun H.Pass G.From G.Into G.Time) → CanServe H.Pass.seat (H.table hall.now) b
-        → S.pre serve.now b }
+    requires most { most ≤ most_connections }
+    requires may { (b : Begun H.Pass G.From G.Into G.Time) → CanServe H.Pass.seat
+        (H.table hall.now) b → S.pre serve.now b }
     requires serves { (b : Begun H.Pass G.From G.Into G.Time) (r : Ended H.Pass G.Past) → S.post
         serve.now b r → Served H.Pass.seat (told_by G.From.gives G.Into.takes G.Time.times)
         G.Past.tells steps b r }
@@ -52,7 +54,7 @@ pub fn serve_all<
                 G.Time.row }
             requires root { IsRoot (H.table hall.now) (H.Pass.seat root).me.0.charter 0
                 (H.Pass.seat root) }
-            requires most { most ≤ 2147483646 }
+            requires most { most ≤ most_connections }
             requires may { (b : Begun H.Pass G.From G.Into G.Time) → CanServe H.Pass.seat
                 (H.table hall.now) b → S.pre serve.now b }
             requires serves { (b : Begun H.Pass G.From G.Into G.Time) (r : Ended H.Pass G.Past)

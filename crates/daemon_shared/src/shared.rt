@@ -34,7 +34,8 @@ impl<'c> Job<OneDaemon> for TurnJob<'c> {
 
     ghost may_meet = { λ j o h. MayMeet o j.conn h (option_map (λ c. c.now) j.call) };
 
-    ghost may_answer = { λ j o h k a i. Makes o j.conn j.handed (option_map (λ c. c.now) j.call) a h k };
+    ghost may_answer = { λ j o h k a i.
+        Makes o j.conn j.handed (option_map (λ c. c.now) j.call) a h k };
 
     fn run(&mut self, value: &mut OneDaemon) -> Turned {
         value
@@ -45,9 +46,9 @@ impl<'c> Job<OneDaemon> for TurnJob<'c> {
 
 /// Turns on a shared daemon, by one pass.
 pub struct Shared<'a, R> {
-    rt: &'a R,
-    lock: &'a Turnstile<OneDaemon>,
-    pass: Pass<OneDaemon>,
+    pub(crate) rt: &'a R,
+    pub(crate) lock: &'a Turnstile<OneDaemon>,
+    pub(crate) pass: Pass<OneDaemon>,
     ghost ours: { pass.table_id ≡ lock.now.table.shared.table_id },
     ghost idle: { length pass.me.1 ≡ 0 },
     ghost live: { pass.me.0.spent ≡ false },

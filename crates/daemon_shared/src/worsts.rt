@@ -5,16 +5,17 @@ ghost use Rattle.daemon_shared.specs.Worsts.{called_by, rank_of, worse_of};
 
 use session_model::{Ending, Worst};
 
-/// How many connections are taken in at most.
-const MOST: u32 = 2_147_483_646;
+/// How many connections are taken in at most: so neither their numbers nor those of their standard
+/// input, 2,147,483,648 more, meet the root's, 4,294,967,295.
+const MOST_CONNECTIONS: u32 = 2_147_483_646;
 
 /// How many connections are taken in at most, where a limit is set too.
 pub fn most_of(limit: Option<u32>) -> u32
     ensures { result ≡ most_of limit }
 {
     match limit {
-        Some(limit) => limit.min(MOST),
-        None => MOST,
+        Some(limit) => limit.min(MOST_CONNECTIONS),
+        None => MOST_CONNECTIONS,
     }
 }
 

@@ -1,6 +1,7 @@
 use Rattle.std.proofs.Common.{◌≡◌, length}
 use Rattle.std.specs.Vec.Iter.{into_iter_items, into_iter_len}
-use Rattle.daemon_shared.specs.Inside.{told_by, Closing}
+use Rattle.daemon_shared.specs.Sessions.{told_by}
+use Rattle.daemon_shared.specs.Threads.{Closing}
 use Rattle.daemon_shared.proofs.running.close_all.Given as goal
 
 abbrev pub invariant-loop-one : goal.invariant-loop-one

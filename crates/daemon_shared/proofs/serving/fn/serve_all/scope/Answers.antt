@@ -1,5 +1,5 @@
 use Rattle.std.proofs.Common.{rules, refl, ◌∙◌, ◌++◌, ◌∷◌, [], sym, ap, subst, arith}
-use Rattle.daemon_shared.specs.Inside.{Served, told_by}
+use Rattle.daemon_shared.specs.Sessions.{Served, told_by}
 use Rattle.daemon_shared.proofs.RunLemmas.{begins_more, stops_full, stops_short, stops_declined, root_here, running_here, few_here, owed_here, serves_all, went_there, stayed_here, root_now, can_serve, begins_new, roomy}
 use Rattle.daemon_shared.proofs.serving.fn.serve_all.scope.Goals as goal
 use Rattle.daemon_shared.proofs.serving.fn.serve_all.scope.Goals.{in-Ok-spawn_with, in-Err-spawn_with, else-loop-number-test, then-loop-number-test+then-is_err, then-loop-number-test+else-is_err+in-Err}

@@ -1,6 +1,7 @@
 use Rattle.std.proofs.Common.{◌≡◌}
 use Rattle.session_model.specs.declared.ending.Worst.TheVariants as worst
-use Rattle.daemon_shared.specs.Inside.{told_by, Begins}
+use Rattle.daemon_shared.specs.Sessions.{told_by}
+use Rattle.daemon_shared.specs.Threads.{Begins}
 use Rattle.daemon_shared.proofs.serving.fn.serve_all.scope.Given as goal
 
 abbrev pub invariant-loop-number : goal.invariant-loop-number
