@@ -1,1 +1,3 @@
 pub mod ListenLemmas
+pub mod SessionLemmas
+pub mod StandardFacts

@@ -1,1 +1,5 @@
+pub mod Opening
+pub mod Statuses
+pub mod Running
 pub mod Listening
+pub mod Program

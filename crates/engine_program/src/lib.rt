@@ -2,6 +2,10 @@
 #![tactic(auto)]
 
 mod listening;
+mod opening;
 mod program;
+mod running;
+mod status;
+mod telling;
 
 pub use program::run_engined;

@@ -1,9 +1,11 @@
 // The program `engined`.
-ghost use Rattle.std.specs.Prelude.{◌≡◌};
 ghost use Rattle.engine_ports.specs.Door.{outside};
-ghost use Rattle.engine_program.specs.Listening.{RunsProgram};
+ghost use Rattle.engine_program.specs.Program.{RunsProgram};
 
-use crate::listening::{address_of, listen, status_by};
+use crate::listening::{address_of, listen};
+use crate::running::run_session;
+use crate::status::status_by;
+use crate::telling::{NOT_BUILT, USAGE, tell};
 use engine_line::{Work, read_line};
 use engine_ports::{Clock, Door, Sink, Source};
 use engine_text::Text;
@@ -12,8 +14,7 @@ use std::alloc::Global;
 use std::sync::Wait;
 use std::thread::Threads;
 
-/// Runs `engined` with the words after the program's name, and answers its status. A line that
-/// doesn't listen is read once more by the call that runs it: that is a few words, at the start.
+/// Runs `engined` with the words after the program's name, and answers its status.
 pub fn run_engined<R: Threads + Wait + Sync, S: Source, K: Sink, C: Clock, D: Door>(
     rt: &R,
     alloc: Global,
@@ -32,15 +33,14 @@ pub fn run_engined<R: Threads + Wait + Sync, S: Source, K: Sink, C: Clock, D: Do
         return status_by(Worst::NoMemory);
     };
     match line {
-        None => engine_serve::run_engined(rt, alloc, words, source, sink, clock, door),
+        None => tell(sink, USAGE),
         Some(line) => match line.work {
+            Work::Stdio => run_session(rt, alloc, line, source, sink, clock),
             Work::Listen(port) => match address_of(alloc, port) {
                 Ok(addr) => listen(rt, alloc, line, &addr, clock, door),
                 Err(_) => status_by(Worst::NoMemory),
             },
-            Work::Stdio | Work::Drill(_) => {
-                engine_serve::run_engined(rt, alloc, words, source, sink, clock, door)
-            }
+            Work::Drill(_) => tell(sink, NOT_BUILT),
         },
     }
 }

@@ -3,12 +3,13 @@ ghost use Rattle.std.specs.Prelude.{◌<◌};
 
 use crate::scenario::{Coming, Scenario};
 use engine_ports::{MemSink, MemSource, NoDoor, NoMemory, StepClock};
-use engine_serve::run_engined;
+use engine_program::run_engined;
 use engine_text::Text;
 use std::fs;
 use std::io::{self, Write};
 use std::rt::Files;
 use std::sync::Wait;
+use std::thread::Threads;
 
 /// The moment at which the clock of the outside stands, in milliseconds since 1970.
 const MOMENT: u64 = 1_700_000_000_000;
@@ -21,7 +22,7 @@ struct Ran {
 }
 
 // Runs the daemon over these bytes, at most `cut` of them at once.
-fn run_over<R: Wait + AllocGlobal>(
+fn run_over<R: Threads + Wait + Sync + AllocGlobal>(
     rt: &R,
     words: &[Text],
     bytes: &[u8],
@@ -60,7 +61,7 @@ fn tell_ran(rt: &impl Print, ran: Result<Ran, NoMemory>) -> io::Result<()> {
 }
 
 // Tells how many of the cut inputs end with status 3 and nothing written, and each that doesn't.
-fn tell_cuts<R: Wait + AllocGlobal + Print>(
+fn tell_cuts<R: Threads + Wait + Sync + AllocGlobal + Print>(
     rt: &R,
     words: &[Text],
     bytes: &[u8],
@@ -84,7 +85,10 @@ fn tell_cuts<R: Wait + AllocGlobal + Print>(
 }
 
 /// Runs a scenario and tells what came of it.
-pub fn tell<R: Wait + AllocGlobal + Files + Print>(rt: &R, scenario: &Scenario) -> io::Result<()> {
+pub fn tell<R: Threads + Wait + Sync + AllocGlobal + Files + Print>(
+    rt: &R,
+    scenario: &Scenario,
+) -> io::Result<()> {
     let words = scenario.words.as_slice();
     let name = scenario.name.as_str();
     let bytes = fs::read(rt, name)?;

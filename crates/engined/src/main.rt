@@ -12,8 +12,8 @@ use std::process::ExitCode;
 /// The status where memory was refused.
 const NO_MEMORY: u8 = 6;
 
-/// The words after the program's name, or none without memory. Where a word isn't UTF-8 there are no
-/// words, which is no line of the program.
+/// The words after the program's name, or none without memory. Where a word isn't UTF-8 there are
+/// no words, which is no line of the program.
 fn words(rt: &HostRuntime) -> Option<Vec<Text>> {
     let mut words = Vec::new(rt.alloc());
     match env::args(rt) {

@@ -2,7 +2,7 @@ use Rattle.std.proofs.Common.{◌≡◌, ℕ, [], subst}
 use Rattle.std.specs.Result.{IfOk}
 use Rattle.daemon_core.specs.Passing.{whole_pass}
 use Rattle.daemon_core.specs.Storing.{charter_of, pass_of}
-use Rattle.engine_serve.proofs.program.daemon_of.Goals as goal
+use Rattle.engine_program.proofs.running.daemon_of.Goals as goal
 
 pub returns : goal.returns
 returns c =

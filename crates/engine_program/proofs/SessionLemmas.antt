@@ -1,0 +1,16 @@
+-- A session that found no memory, by either clock.
+use Rattle.std.proofs.Common.{◌≡◌, ℕ, Option, Some, None, refl}
+use Rattle.std.specs.Prelude.{IsTrue}
+use Rattle.engine_ports.specs.Door.{Outside}
+use Rattle.machine_model.specs.History.{IsLegal}
+use Rattle.session_model.specs.declared.ending.Ending.TheVariants.{NoMemory}
+use Rattle.session_model.specs.Pass.{PassView}
+use Rattle.engine_serve.specs.OwnClock.{unstopped}
+use Rattle.engine_serve.proofs.ServeLemmas.{ended_unread}
+use Rattle.daemon_shared.specs.Running.{ServesBy}
+
+-- nothing was read or written
+pub unread : (steps : Option (ℕ × ℕ)) (k : ℕ) (p : PassView) (o : Outside) → IsTrue p.pair → IsLegal p.charter p.seen
+    → ServesBy steps k NoMemory p p o o
+unread None k p o pair legal = ended_unread k p o.source o.sink o.clock pair legal
+unread (Some stepping) k p o pair legal = (refl, ended_unread k p o.source o.sink unstopped pair legal)

@@ -1,0 +1,49 @@
+-- What running `engined` says, by the words after the program's name (own).
+use Rattle.std.specs.Prelude.{ℕ, ◌≡◌, ◌⊎◌, List, Option, Some, None, Result, codes}
+use Rattle.engine_ports.specs.Sink.{SinkView, WriteSays}
+use Rattle.engine_ports.specs.Door.{Outside, DoorView}
+use Rattle.engine_ports.specs.declared.ports.Failed.{Failed}
+use Rattle.engine_line.specs.Lines.{line_of}
+use Rattle.engine_line.specs.declared.line.Line.{Line}
+use Rattle.engine_line.specs.declared.line.Work.{Work}
+use Rattle.engine_line.specs.declared.line.Work.TheVariants.{Stdio, Listen, Drill}
+use Rattle.session_model.specs.declared.ending.Worst.TheVariants.{NoMemory}
+use Rattle.engine_program.specs.Statuses.{status_by}
+use Rattle.engine_program.specs.Running.{RunsSession}
+use Rattle.engine_program.specs.Listening.{ListenSays}
+
+-- what is written where the words aren't a line, and where the line asks for what isn't built yet
+abbrev pub usage_line : List ℕ
+usage_line = codes "usage: engined --stdio | --listen ADDR | --drill N [--seed HEX] [--clock START:STEP] [--connections N] [--journal N]\n"
+
+abbrev pub not_built_line : List ℕ
+not_built_line = codes "not built\n"
+
+-- the text is written, or its write failed
+pub record Tells (text : List ℕ) (status : ℕ) (u u' : SinkView) : Type 0 where
+  pub status_is : status ≡ 2
+  pub written : Result (Unit {0}) Failed
+  pub sink : WriteSays written text u u'
+
+-- and nothing is read, and the clock isn't asked
+abbrev pub OnlyTells : List ℕ → ℕ → Outside → Outside → Type 0
+OnlyTells text status o o' =
+    Tells text status o.sink o'.sink × (o'.source ≡ o.source) × (o'.clock ≡ o.clock)
+
+-- a line that listens takes connections in; for every other, and for no line, the door is as before
+abbrev pub RunsWork : Work → Line → ℕ → Outside → Outside → DoorView → DoorView → Type 0
+RunsWork Stdio line status o o' d d' = RunsSession line status o o' × (d' ≡ d)
+RunsWork (Listen port) line status o o' d d' = ListenSays line status o o' d d'
+RunsWork (Drill count) line status o o' d d' = OnlyTells not_built_line status o o' × (d' ≡ d)
+
+abbrev pub RunsLine : Option Line → ℕ → Outside → Outside → DoorView → DoorView → Type 0
+RunsLine None status o o' d d' = OnlyTells usage_line status o o' × (d' ≡ d)
+RunsLine (Some line) status o o' d d' = RunsWork line.work line status o o' d d'
+
+-- memory was refused for the line or the address: nothing is read, written, asked or bound
+abbrev pub WantsMemory : ℕ → Outside → Outside → DoorView → DoorView → Type 0
+WantsMemory status o o' d d' = (status ≡ status_by NoMemory) × (o' ≡ o) × (d' ≡ d)
+
+abbrev pub RunsProgram : List (List ℕ) → ℕ → Outside → Outside → DoorView → DoorView → Type 0
+RunsProgram words status o o' d d' =
+    WantsMemory status o o' d d' ⊎ RunsLine (line_of words) status o o' d d'

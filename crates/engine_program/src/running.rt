@@ -1,0 +1,51 @@
+// A line that serves one connection.
+ghost use Rattle.std.specs.Prelude.{◌≡◌, ◌≤◌, [], IfOk};
+ghost use Rattle.machine_model.specs.History.{greatest_moment};
+ghost use Rattle.engine_ports.specs.Door.{outside};
+ghost use Rattle.daemon_core.specs.Passing.{whole_pass};
+ghost use Rattle.daemon_core.specs.Storing.{pass_of};
+ghost use Rattle.engine_program.specs.Opening.{charter_by, StartsWithin};
+ghost use Rattle.engine_program.specs.Running.{RunsSession};
+
+use crate::opening::{opening_by, steps_of};
+use crate::status::status_by;
+use daemon_core::{Alone, Daemon};
+use daemon_shared::{called_by, serve_by};
+use engine_line::Line;
+use engine_ports::{Clock, Sink, Source};
+use engine_text::NoMemory;
+use session_model::Worst;
+use std::alloc::Global;
+use std::sync::Wait;
+
+/// A daemon without history, as the line sets it, opened at a moment.
+fn daemon_of(alloc: Global, line: Line, opening: u64) -> Result<Daemon, NoMemory>
+    requires { opening ≤ greatest_moment }
+    ensures { IfOk result (λ d. whole_pass d ≡ pass_of (charter_by line opening) []) }
+{
+    Daemon::new(alloc, line.seed, opening, u64::from(line.entries))
+}
+
+/// Serves one connection with a new daemon, by the line's clock or by the handed one.
+pub fn run_session<W: Wait, S: Source, K: Sink, C: Clock>(
+    rt: &W,
+    alloc: Global,
+    line: Line,
+    source: &mut S,
+    sink: &mut K,
+    clock: &mut C,
+) -> u8
+    requires { StartsWithin line }
+    ensures { RunsSession line result
+        (outside (S.gives source.old) (K.takes sink.old) (C.times clock.old))
+        (outside (S.gives source.new) (K.takes sink.new) (C.times clock.new)) }
+{
+    let opening = opening_by(line.clock, clock);
+    let Ok(daemon) = daemon_of(alloc, line, opening) else {
+        return status_by(Worst::NoMemory);
+    };
+    let mut turns = Alone::new(daemon);
+    let steps = steps_of(line.clock);
+    let ending = serve_by(rt, &mut turns, alloc, 0, steps, source, sink, clock);
+    status_by(called_by(ending))
+}
