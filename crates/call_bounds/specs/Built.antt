@@ -4,26 +4,15 @@ use Rattle.engine_text.specs.declared.call.Call.{Call}
 
 -- Whether a call is built: all are but these.
 abbrev pub is_built : Call → Bool
-is_built (Call.Stop target wait signal) = false
-is_built (Call.Restart target wait signal) = false
 is_built (Call.Rename target name) = false
-is_built (Call.Wait target until) = false
 is_built (Call.Remove target force) = false
 is_built (Call.Logs target ask) = false
 is_built (Call.Attach target ask) = false
-is_built (Call.ExecCreate target words stdin out err) = false
 is_built (Call.ExecStart id detach) = false
-is_built (Call.ExecInspect id) = false
-is_built (Call.VolumeCreate name labels) = false
-is_built (Call.VolumeInspect name) = false
-is_built (Call.VolumeRemove name) = false
-is_built (Call.VolumeList filter) = false
 is_built (Call.Events since until filter) = false
 is_built Call.JournalRead = false
 is_built (Call.Feed owner run bytes) = false
 is_built (Call.FeedEnd owner run) = false
-is_built (Call.Take ticket) = false
-is_built (Call.Drop ticket) = false
 is_built _ = true
 
 -- Of no call, and of a call that is built.

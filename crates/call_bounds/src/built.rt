@@ -9,26 +9,15 @@ pub fn is_built(call: &Call) -> bool
     ensures { result ≡ spec.is_built call.now }
 {
     match call {
-        Call::Stop { .. } => false,
-        Call::Restart { .. } => false,
         Call::Rename { .. } => false,
-        Call::Wait { .. } => false,
         Call::Remove { .. } => false,
         Call::Logs { .. } => false,
         Call::Attach { .. } => false,
-        Call::ExecCreate { .. } => false,
         Call::ExecStart { .. } => false,
-        Call::ExecInspect { .. } => false,
-        Call::VolumeCreate { .. } => false,
-        Call::VolumeInspect { .. } => false,
-        Call::VolumeRemove { .. } => false,
-        Call::VolumeList { .. } => false,
         Call::Events { .. } => false,
         Call::JournalRead => false,
         Call::Feed { .. } => false,
         Call::FeedEnd { .. } => false,
-        Call::Take { .. } => false,
-        Call::Drop { .. } => false,
         _ => true,
     }
 }

@@ -2,7 +2,7 @@
 use super::tables::cut;
 use api_routes::{Class, DirectAnswer, DirectKind, Routes};
 use engine_ports::MemSource;
-use engine_text::{Call, CreateSpec, Filter, FilterKey, FilterRow, NoMemory};
+use engine_text::{Call, CreateSpec, Filter, FilterKey, FilterRow, NoMemory, Signal};
 use http_edge::{Next, RequestReader};
 use std::alloc::Global;
 use std::test::Fail;
@@ -38,13 +38,11 @@ GET /nothing/%ff  404 message page not found
 POST /containers//start  404 message page not found
 POST /containers/%ff/start  400 message bad path
 GET /containers/a/start  404 message page not found
-POST /containers/a/restart  501 message not built
-DELETE /containers/create  501 message not built";
+GET /containers/create/logs?stdout=1  501 message not built";
 
 const QUERIES: &str = "\
 POST /containers/a/stop?t=-2  400 message bad t
 POST /containers/a/stop?t=2147484  400 message bad t
-POST /containers/a/stop?t=2147483&signal=2  501 message not built
 POST /containers/a/restart?signal=32  400 message Invalid signal: 32
 POST /containers/a/kill?signal=NOPE  400 message Invalid signal: NOPE
 POST /containers/a/rename  400 message Invalid container name ()
@@ -60,8 +58,7 @@ GET /containers/a/logs?stderr=1&until=12345678901  400 message bad time
 GET /containers/a/logs?stdout=1&since=5.&tail=all  501 message not built
 GET /events?since=  400 message bad time
 GET /volumes?filters=[]  400 message invalid filter
-DELETE /containers/a?link=1  400 message links are left out
-DELETE /containers/a?link=No  501 message not built";
+DELETE /containers/a?link=1  400 message links are left out";
 
 const ORDERS: &str = "\
 POST /containers/create?name=a { 400 message bad JSON
@@ -248,6 +245,58 @@ fn a_start_is_asked_of_the_container_that_its_path_names(rt: HostRuntime) -> Res
 fn an_inspect_is_asked_of_the_container_that_its_path_names(rt: HostRuntime) -> Result<(), Fail> {
     let call = asked(rt.alloc(), "GET", "/containers/%2Fweb/json", "")?;
     assert!(rt; is_inspect(&call, "/web"));
+    Ok(())
+}
+
+// Whether a call is a stop of the container of this reference, with these seconds and this signal.
+fn is_stop(call: &Option<Call>, reference: &str, seconds: i32, sent: Signal) -> bool {
+    match call {
+        Some(Call::Stop { target, wait, signal }) => {
+            target.is(reference) && *wait == Some(seconds) && *signal == Some(sent)
+        }
+        _ => false,
+    }
+}
+
+#[test]
+fn a_stop_has_the_seconds_and_the_signal_of_its_query(rt: HostRuntime) -> Result<(), Fail> {
+    let call = asked(rt.alloc(), "POST", "/containers/a/stop?t=2147483&signal=2", "")?;
+    assert!(rt; is_stop(&call, "a", 2_147_483, Signal { number: 2 }));
+    Ok(())
+}
+
+// Whether a call is a restart of the container of this reference, by its own signal and seconds.
+fn is_plain_restart(call: &Option<Call>, reference: &str) -> bool {
+    match call {
+        Some(Call::Restart { target, wait, signal }) => {
+            target.is(reference) && wait.is_none() && signal.is_none()
+        }
+        _ => false,
+    }
+}
+
+#[test]
+fn a_restart_without_a_query_is_by_the_container_alone(rt: HostRuntime) -> Result<(), Fail> {
+    let call = asked(rt.alloc(), "POST", "/containers/a/restart", "")?;
+    assert!(rt; is_plain_restart(&call, "a"));
+    Ok(())
+}
+
+// Whether a call is a removal of the container of this reference, by force or not.
+fn is_removal(call: &Option<Call>, reference: &str, forced: bool) -> bool {
+    match call {
+        Some(Call::Remove { target, force }) => target.is(reference) && *force == forced,
+        _ => false,
+    }
+}
+
+#[test]
+fn a_removal_is_asked_of_the_container_that_its_path_names(rt: HostRuntime) -> Result<(), Fail> {
+    let alloc = rt.alloc();
+    let plain = asked(alloc, "DELETE", "/containers/create", "")?;
+    let forced = asked(alloc, "DELETE", "/containers/a?link=No&force=1", "")?;
+    assert!(rt; is_removal(&plain, "create", false));
+    assert!(rt; is_removal(&forced, "a", true));
     Ok(())
 }
 
