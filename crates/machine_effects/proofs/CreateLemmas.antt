@@ -219,8 +219,8 @@ made_as name labels n t e f = ap (λ (k : List ℕ). new_volume k labels t) e �
 -- ---- none of them stands
 
 new_stands : (vs : List Volume) (n : List ℕ) (b : Bool) → stands vs n ≡ b → not b ≡ true → stands vs n ≡ false
-new_stands vs n true e no = absurd (cc)
-new_stands vs n false e no = e
+new_stands vs n true e fails = absurd (cc)
+new_stands vs n false e fails = e
 
 named_as : (t : ℕ) (ks : List (List ℕ)) → map (λ (v : Volume). v.name) (map (made_of t) ks) ≡ ks
 named_as t [] = refl
@@ -243,12 +243,12 @@ same_placed v [] = refl
 same_placed v (w ∷ ws) = ap (λ l. match_ordering (slice_cmp nat_cmp v.name w.name) (v ∷ w ∷ ws) (v ∷ w ∷ ws) (w ∷ l)) (same_placed v ws)
 
 created_by : (o : Option Volume) (r : Made) (v : Volume) (vs new : List Volume) → is_there o ≡ false → r ≡ table.creation o → new ≡ table.after_creation r v vs → new ≡ placed v vs
-created_by None r v vs new no answer is = is ∙ (ap (λ q. table.after_creation q v vs) answer ∙ same_placed v vs)
-created_by (Some w) r v vs new no answer is = absurd (cc)
+created_by None r v vs new fails answer is = is ∙ (ap (λ q. table.after_creation q v vs) answer ∙ same_placed v vs)
+created_by (Some w) r v vs new fails answer is = absurd (cc)
 
 -- one that doesn't stand is made
 pub created : (r : Made) (v : Volume) (vs new : List Volume) → stands vs v.name ≡ false → r ≡ table.creation (find (named v.name) vs) → new ≡ table.after_creation r v vs → new ≡ placed v vs
-created r v vs new no answer is = created_by (find (named v.name) vs) r v vs new no answer is
+created r v vs new fails answer is = created_by (find (named v.name) vs) r v vs new fails answer is
 
 ordered_length : (o : Ordering) (v w : Volume) (ws ps : List Volume) → length ps ≡ length ws + 1 → length (match_ordering o (v ∷ w ∷ ws) (v ∷ w ∷ ws) (w ∷ ps)) ≡ length (w ∷ ws) + 1
 ordered_length Less v w ws ps e = omega arith

@@ -3,7 +3,7 @@ use Rattle.std.proofs.Common.{◌≡◌, ℕ, ◌+◌, ◌==◌, Bool, true, fal
 use Rattle.engine_text.specs.declared.container.Container.{Container}
 use Rattle.engine_text.specs.declared.container.Life.{Life}
 use Rattle.engine_text.specs.declared.log.LogRecord.{LogRecord}
-use Rattle.engine_text.specs.declared.log.Stream.{Stream}
+use Rattle.engine_text.specs.declared.script.Stream.{Stream}
 use Rattle.container_table.specs.Logs.{IsLifeOf, recorded}
 use Rattle.container_table.specs.Tables.{Holdings, numbered, relived}
 use Rattle.container_table.proofs.LifeLemmas.{changed_twice}

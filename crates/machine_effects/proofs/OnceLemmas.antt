@@ -66,14 +66,14 @@ length_filter p (x ∷ xs) = let e = length_either (p x) x (filter p xs) (length
 
 one_other : (p : Name → Bool) (name x : Name) (xs : List Name) (b : Bool) → same_bytes name x ≡ b → p name ≡ false → filter p (others name xs) ≡ filter p xs
     → filter p (if not b then x ∷ others name xs else others name xs) ≡ filter p (x ∷ xs)
-one_other p name x xs true same no e =
-    let gone : p x ≡ false = ap p (sym ((bytes_decides name x).0 same)) ∙ no in e ∙ sym (ap (λ b. if b then x ∷ filter p xs else filter p xs) gone)
-one_other p name x xs false same no e = ap (λ l. if p x then x ∷ l else l) e
+one_other p name x xs true same fails e =
+    let gone : p x ≡ false = ap p (sym ((bytes_decides name x).0 same)) ∙ fails in e ∙ sym (ap (λ b. if b then x ∷ filter p xs else filter p xs) gone)
+one_other p name x xs false same fails e = ap (λ l. if p x then x ∷ l else l) e
 
 -- a name that doesn't pass is none of those that pass
 others_pass : (p : Name → Bool) (name : Name) (xs : List Name) → p name ≡ false → filter p (others name xs) ≡ filter p xs
-others_pass p name [] no = refl
-others_pass p name (x ∷ xs) no = one_other p name x xs (same_bytes name x) refl no (others_pass p name xs no)
+others_pass p name [] fails = refl
+others_pass p name (x ∷ xs) fails = one_other p name x xs (same_bytes name x) refl fails (others_pass p name xs fails)
 
 once_step : (p : Name → Bool) (x : Name) (xs : List Name) (b : Bool) → p x ≡ b → once (filter p xs) ≡ filter p (once xs) → once (if b then x ∷ filter p xs else filter p xs) ≡ filter p (x ∷ others x (once xs))
 once_step p x xs true e same =
@@ -92,8 +92,8 @@ all_once P [] all = tt
 all_once P (x ∷ xs) all = (all.0, all_filter P (λ n. not (same_bytes x n)) (once xs) (all_once P xs all.1))
 
 not_same : (a b : Name) (t : Bool) → same_bytes a b ≡ t → not t ≡ true → a ≢ b
-not_same a b true e no = absurd (cc)
-not_same a b false e no = differs a b e
+not_same a b true e fails = absurd (cc)
+not_same a b false e fails = differs a b e
 
 all_imp : {A : Type 0} (P Q : A → Type 0) → ((x : A) → P x → Q x) → (xs : List A) → AllByRecursion P xs → AllByRecursion Q xs
 all_imp P Q f [] all = tt
@@ -102,7 +102,7 @@ all_imp P Q f (x ∷ xs) all = (f x all.0, all_imp P Q f xs all.1)
 pub distinct_once : (xs : List Name) → AreDistinct (once xs)
 distinct_once [] = tt
 distinct_once (x ∷ xs) = (
-  all_imp (λ n. not (same_bytes x n) ≡ true) (λ n. x ≢ n) (λ n no. not_same x n (same_bytes x n) refl no) (others x (once xs)) (passed (λ n. not (same_bytes x n)) (once xs)),
+  all_imp (λ n. not (same_bytes x n) ≡ true) (λ n. x ≢ n) (λ n fails. not_same x n (same_bytes x n) refl fails) (others x (once xs)) (passed (λ n. not (same_bytes x n)) (once xs)),
   distinct_filter (λ n. not (same_bytes x n)) (once xs) (distinct_once xs),
 )
 
@@ -116,13 +116,13 @@ length_once (x ∷ xs) =
 
 any_either : (p : Name → Bool) (name x : Name) (xs : List Name) (b : Bool) → same_bytes name x ≡ b → p name ≡ false → list_any p (others name xs) ≡ list_any p xs
     → list_any p (if not b then x ∷ others name xs else others name xs) ≡ (p x || list_any p xs)
-any_either p name x xs true same no e =
-    let gone : p x ≡ false = ap p (sym ((bytes_decides name x).0 same)) ∙ no in e ∙ sym (ap (λ b. b || list_any p xs) gone)
-any_either p name x xs false same no e = ap (λ b. p x || b) e
+any_either p name x xs true same fails e =
+    let gone : p x ≡ false = ap p (sym ((bytes_decides name x).0 same)) ∙ fails in e ∙ sym (ap (λ b. b || list_any p xs) gone)
+any_either p name x xs false same fails e = ap (λ b. p x || b) e
 
 any_others : (p : Name → Bool) (name : Name) (xs : List Name) → p name ≡ false → list_any p (others name xs) ≡ list_any p xs
-any_others p name [] no = refl
-any_others p name (x ∷ xs) no = any_either p name x xs (same_bytes name x) refl no (any_others p name xs no)
+any_others p name [] fails = refl
+any_others p name (x ∷ xs) fails = any_either p name x xs (same_bytes name x) refl fails (any_others p name xs fails)
 
 any_step : (p : Name → Bool) (x : Name) (xs : List Name) (b : Bool) → p x ≡ b → list_any p (once xs) ≡ list_any p xs → (b || list_any p (others x (once xs))) ≡ (b || list_any p xs)
 any_step p x xs true e same = refl

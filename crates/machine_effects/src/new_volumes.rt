@@ -54,15 +54,13 @@ fn note_missing(
     if is_known(volumes, made.as_slice(), mount.volume.as_str()) {
         return Ok(());
     }
-    let volume = Volume {
+    made.reserve(1)?;
+    made.push_reserved(Volume {
         name: mount.volume.copy(alloc)?,
         labels: Pairs::new(alloc),
         created: moment,
-    };
-    match made.push(volume) {
-        Ok(()) => Ok(()),
-        Err(_) => Err(NoMemory),
-    }
+    });
+    Ok(())
 }
 
 /// The volumes of these mounts that don't stand, each once, made at the moment.
