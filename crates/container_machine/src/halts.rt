@@ -84,7 +84,16 @@ pub fn prepare(
     let script = program(alloc, &h.container.life.words, h.container.life.starts + 1)?;
     let code = tables.signal_code(number, sent, true);
     let mut events = Vec::new(alloc);
-    tables.tell_kill(alloc, sent.number, code, goal, h, &script, moment, &mut events)?;
+    tables.tell_kill(
+        alloc,
+        sent.number,
+        code,
+        goal,
+        h,
+        &script,
+        moment,
+        &mut events,
+    )?;
     let kit = tables.kit(alloc, number, script)?;
     let ticket = tables.next_ticket();
     Ok(Prepared {

@@ -124,7 +124,11 @@ impl Machine {
             Call::Start { target } => {
                 calls::start::prepare(&self.tables, alloc, moment, target.as_str())
             }
-            Call::Stop { target, wait, signal } => {
+            Call::Stop {
+                target,
+                wait,
+                signal,
+            } => {
                 let target = target.as_str();
                 calls::stop::prepare(&self.tables, alloc, conn, moment, target, *wait, *signal)
             }

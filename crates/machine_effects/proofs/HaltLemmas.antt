@@ -1,5 +1,8 @@
 -- What stands behind the mark and the deadline of a stop or a restart, and behind the begin of a ticket.
-use Rattle.std.proofs.Common.{◌≡◌, ℕ, ◌+◌, ◌<◌, ◌≤◌, ℤ, pos, negsuc, Bool, true, false, List, [], ◌∷◌, refl, ap, sym, ◌∙◌, subst, arith, length, suc, if◌then◌else◌}
+use Rattle.std.proofs.Common.{◌≡◌, ℕ, ◌+◌, ◌*◌, ◌<◌, ◌≤◌, ℤ, pos, negsuc, Bool, true, false, List, [], ◌∷◌, refl, ap, sym, ◌∙◌, subst, arith, length, suc, if◌then◌else◌}
+use Rattle.std.proofs.lemmas.Int.{to_z-of_z}
+use mir.Syntax.{w32}
+use mir.Val.{SFits, of_z, to_z}
 use Rattle.container_table.specs.Lists.{placed}
 use Rattle.container_table.specs.Timers.{cleared, is_listed_before, is_timer, with_timer}
 use Rattle.engine_text.specs.declared.step.DueAction.{DueAction}
@@ -46,6 +49,10 @@ settle_timers n kit room ts s h few = record {
 }
 
 -- ---- the mark and the deadline
+
+-- seconds that are passed on are the same
+pub set_as : (z : ℤ) (n : ℕ) (s t : State) → SFits w32 z → s ≡ t → set_deadline (to_z w32 (of_z w32 z)) n s ≡ set_deadline z n t
+set_as z n s t fits e = ap (λ k. set_deadline k n s) (to_z-of_z w32 z fits) ∙ ap (set_deadline z n) e
 
 settle_mark : (halting : Halting) (n : ℕ) (kit : Kit) (room : Room) (s : State) → CanSettle n kit room s → CanSettle n kit room (change_life n (mark_of halting) s)
 settle_mark Halting.Stop n kit room s h = settle_renew n kit room Mark.Stopping s h

@@ -6,28 +6,28 @@ use Rattle.machine_model.specs.History.{greatest_moment}
 use Rattle.machine_effects.specs.Fit.{AreTimely, CanSettle}
 use Rattle.machine_effects.specs.Halts.{mark_of}
 use Rattle.machine_effects.specs.Memory.{Room}
-use Rattle.machine_effects.proofs.HaltLemmas.{halted_died, halted_state, settle_deadline, timely_deadline}
+use Rattle.machine_effects.proofs.HaltLemmas.{halted_died, halted_state, set_as, settle_deadline, timely_deadline}
 use Rattle.machine_effects.proofs.tables.Tables.halt.Goals as goal
 
 pub meet_signal-requires-clause-timely : goal.meet_signal-requires-clause-timely
 meet_signal-requires-clause-timely c =
-    subst (λ (z : State). AreTimely z) (sym (c.set_deadline.ensures.state ∙ ap (set_deadline c.args.seconds c.args.number) (c.renew.ensures.state ∙ ap (λ f. change_life c.args.number f c.args.self.now.state) c.mark.ensures)))
+    subst (λ (z : State). AreTimely z) (sym (c.set_deadline.ensures.state ∙ set_as c.args.seconds c.args.number _ _ c.ranges.seconds (c.renew.ensures.state ∙ ap (λ f. change_life c.args.number f c.args.self.now.state) c.mark.ensures)))
     (timely_deadline c.args.seconds c.args.halting c.args.number c.args.self.now.state c.requires.may.timely)
 
 pub meet_signal-requires-clause-fit : goal.meet_signal-requires-clause-fit
 meet_signal-requires-clause-fit c =
     subst (λ (r : Room). CanSettle c.args.number c.args.kit r c.set_deadline.new.self.state) (sym (c.set_deadline.ensures.room ∙ c.renew.ensures.room))
-    (subst (λ (z : State). CanSettle c.args.number c.args.kit c.args.self.now.room z) (sym (c.set_deadline.ensures.state ∙ ap (set_deadline c.args.seconds c.args.number) (c.renew.ensures.state ∙ ap (λ f. change_life c.args.number f c.args.self.now.state) c.mark.ensures)))
+    (subst (λ (z : State). CanSettle c.args.number c.args.kit c.args.self.now.room z) (sym (c.set_deadline.ensures.state ∙ set_as c.args.seconds c.args.number _ _ c.ranges.seconds (c.renew.ensures.state ∙ ap (λ f. change_life c.args.number f c.args.self.now.state) c.mark.ensures)))
     (settle_deadline c.args.seconds c.args.halting c.args.number c.args.kit c.args.self.now.room c.args.self.now.state c.requires.may.fit c.requires.may.deadline))
 
 pub returns-clause-state : goal.returns-clause-state
 returns-clause-state c =
     c.meet_signal.ensures.state
-    ∙ (ap (λ (z : State). (meet_signal c.args.sent.number c.args.number z).state) (c.set_deadline.ensures.state ∙ ap (set_deadline c.args.seconds c.args.number) (c.renew.ensures.state ∙ ap (λ f. change_life c.args.number f c.args.self.now.state) c.mark.ensures))
+    ∙ (ap (λ (z : State). (meet_signal c.args.sent.number c.args.number z).state) (c.set_deadline.ensures.state ∙ set_as c.args.seconds c.args.number _ _ c.ranges.seconds (c.renew.ensures.state ∙ ap (λ f. change_life c.args.number f c.args.self.now.state) c.mark.ensures))
     ∙ halted_state c.args.halting c.args.seconds c.args.sent.number c.args.number c.args.self.now.state)
 
 pub returns-clause-died : goal.returns-clause-died
 returns-clause-died c =
     c.meet_signal.ensures.died
-    ∙ (ap (λ (z : State). (meet_signal c.args.sent.number c.args.number z).died) (c.set_deadline.ensures.state ∙ ap (set_deadline c.args.seconds c.args.number) (c.renew.ensures.state ∙ ap (λ f. change_life c.args.number f c.args.self.now.state) c.mark.ensures))
+    ∙ (ap (λ (z : State). (meet_signal c.args.sent.number c.args.number z).died) (c.set_deadline.ensures.state ∙ set_as c.args.seconds c.args.number _ _ c.ranges.seconds (c.renew.ensures.state ∙ ap (λ f. change_life c.args.number f c.args.self.now.state) c.mark.ensures))
     ∙ halted_died c.args.halting c.args.seconds c.args.sent.number c.args.number c.args.self.now.state)
