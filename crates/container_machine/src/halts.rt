@@ -28,8 +28,10 @@ pub fn perform(
     kit: Kit,
 ) -> Option<Death>
     requires { CanStop number sent kit tables.old }
-    ensures state { tables.new.state ≡ (halt_effect conn number halting seconds sent.number tables.old.state).state }
-    ensures died { deaths result ≡ (halt_effect conn number halting seconds sent.number tables.old.state).died }
+    ensures state { tables.new.state
+        ≡ (halt_effect conn number halting seconds sent.number tables.old.state).state }
+    ensures died { deaths result
+        ≡ (halt_effect conn number halting seconds sent.number tables.old.state).died }
     ensures room { tables.new.room ≡ tables.old.room }
 {
     tables.begin_ticket(conn, number, halting.asked());
@@ -75,7 +77,8 @@ pub fn prepare(
     requires starts { h.now.container.life.starts < 2 ^ 63 }
     requires kept { IsConsistent tables.now.state }
     ensures { IfOk result (λ p. Makes p moment tables.now.state
-        (begins conn (container_in h.now) (asked_of halting) (spec.halt (mark_of halting) wait signal (container_in h.now)))) }
+        (begins conn (container_in h.now) (asked_of halting)
+        (spec.halt (mark_of halting) wait signal (container_in h.now)))) }
 {
     let number = h.container.number;
     let sent = signal_used(signal, h);
