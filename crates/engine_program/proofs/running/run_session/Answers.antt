@@ -22,7 +22,7 @@ returns-in_default g c =
       ending = NoMemory;
       status_is = c.status_by.ensures;
       pass = pass_of ch [];
-      serves = unread (steps_of c.args.line.clock) 0 (pass_of ch []) _ refl ((seed_length, c.opening_by-opening.ensures.moment), tt);
+      serves = unread (steps_of c.args.line.clock) 0 (pass_of ch []) _ _ _ refl ((seed_length, c.opening_by-opening.ensures.moment), tt);
       whole = inr (refl, refl);
     }
 
