@@ -1,21 +1,19 @@
 -- What the calls of execs make.
-use Rattle.std.proofs.Common.{◌≡◌, ℕ, Bool, List, [], ◌∷◌, ◌++◌, Option, Some, None, ap, sym, ◌∙◌, subst}
-use Rattle.std.specs.Prelude.{codes, find}
-use Rattle.engine_text.specs.Texts.{same_bytes}
+use Rattle.std.proofs.Common.{◌≡◌, ℕ, Bool, List, [], ◌∷◌, ◌++◌, Option, Some, None, refl, ap, sym, ◌∙◌, subst}
+use Rattle.std.specs.Prelude.{codes}
 use Rattle.engine_text.specs.declared.container.Container.{Container}
 use Rattle.engine_text.specs.declared.event.Action.{Action}
 use Rattle.engine_text.specs.declared.event.Event.{Event}
 use Rattle.engine_text.specs.declared.exec.Exec.{Exec}
 use Rattle.engine_text.specs.declared.reply.Reply.TheVariants.{Answer}
 use Rattle.machine_model.specs.Calls.ExecCreate.{created, new_exec, with_exec}
-use Rattle.machine_model.specs.Chain.{Died, tell, tell_of, with_found}
+use Rattle.machine_model.specs.Chain.{tell, with_found}
 use Rattle.machine_model.specs.EventTexts.{exec_event}
 use Rattle.machine_model.specs.State.{State, container_numbered}
 use Rattle.machine_model.specs.Step.{at_moment}
 use Rattle.machine_effects.specs.Held.{output_in}
 use Rattle.machine_effects.specs.NewExecs.{empty_output}
 use Rattle.machine_effects.specs.declared.held.HeldOutput.{HeldOutput}
-use Rattle.machine_effects.proofs.DiedLemmas.{none_tell}
 use Rattle.machine_effects.proofs.SettleLemmas.{tell_still}
 use Rattle.container_machine.specs.Calls.Execs.{add_exec}
 use Rattle.container_machine.specs.Making.{Makes}
@@ -27,8 +25,12 @@ use Rattle.container_machine.specs.declared.prepared.Prepared.{Prepared}
 pub added_state : (x : Exec) (s : State) → with_exec x s ≡ (add_exec x s).state
 added_state x s = sym (tell_still (exec_event Action.ExecCreate x.id) x.container (with_exec x s))
 
+none_found : (o : Option Container) (event : Container → ℕ → Event) (s : State) → [] ≡ (with_found o (λ (c : Container) (z : State). tell (event c z.clock ∷ []) z) s).died
+none_found None event s = refl
+none_found (Some c) event s = refl
+
 pub none_added : (x : Exec) (s : State) → [] ≡ (add_exec x s).died
-none_added x s = sym (none_tell (exec_event Action.ExecCreate x.id) x.container (with_exec x s))
+none_added x s = none_found (container_numbered x.container (with_exec x s)) (exec_event Action.ExecCreate x.id) (with_exec x s)
 
 -- the container is found, so the event is told of it
 added_told : (x : Exec) (s : State) (c : Container) → container_numbered x.container s ≡ Some c → (add_exec x s).events ≡ exec_event Action.ExecCreate x.id c s.clock ∷ []

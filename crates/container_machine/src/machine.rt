@@ -96,7 +96,7 @@ impl Machine {
                     out: *out,
                     err: *err,
                 };
-                calls::execs::create::prepare(&self.tables, alloc, moment, target.as_str(), asked)
+                calls::execs::create::prepare(&self.tables, alloc, moment, target.as_str(), &asked)
             }
             Call::ExecInspect { id } => {
                 calls::execs::inspect::prepare(&self.tables, alloc, moment, id.as_str())
@@ -137,7 +137,7 @@ impl Machine {
                 calls::unpause::prepare(&self.tables, alloc, moment, target.as_str())
             }
             Call::VolumeCreate { name, labels } => {
-                calls::volumes::create::prepare(&self.tables, alloc, moment, name, labels)
+                calls::volumes::create::prepare(&self.tables, alloc, moment, name.as_str(), labels)
             }
             Call::VolumeInspect { name } => {
                 calls::volumes::inspect::prepare(&self.tables, alloc, moment, name.as_str())
@@ -146,7 +146,7 @@ impl Machine {
                 calls::volumes::list::prepare(&self.tables, alloc, moment, filter)
             }
             Call::VolumeRemove { name } => {
-                calls::volumes::remove::prepare(&self.tables, alloc, moment, name)
+                calls::volumes::remove::prepare(&self.tables, alloc, moment, name.as_str())
             }
             Call::Wait { target, until } => {
                 let target = target.as_str();

@@ -43,9 +43,9 @@ fn created_text(alloc: Global, id: &Text) -> Result<Text, NoMemory>
     join(alloc, "{\"Id\":\"", id.as_str(), "\"}")
 }
 
-fn new_exec(tables: &Tables, alloc: Global, h: &Held, asked: ExecAsk<'_>) -> Result<Exec, NoMemory>
+fn new_exec(tables: &Tables, alloc: Global, h: &Held, asked: &ExecAsk<'_>) -> Result<Exec, NoMemory>
     ensures { IfOk result (λ x. x ≡ spec.new_exec (container_in h.now)
-        asked.words.now asked.stdin asked.out asked.err tables.now.state) }
+        asked.now.words.now asked.now.stdin asked.now.out asked.now.err tables.now.state) }
 {
     Ok(Exec {
         number: tables.next_number(),
@@ -67,11 +67,11 @@ fn prepare_new(
     alloc: Global,
     moment: u64,
     h: &Held,
-    asked: ExecAsk<'_>,
+    asked: &ExecAsk<'_>,
 ) -> Result<Prepared, NoMemory>
     requires { container_numbered h.now.container.number tables.now.state ≡ Some (container_in h.now) }
     ensures { IfOk result (λ p. Makes p moment tables.now.state (λ s. spec.created
-        (spec.new_exec (container_in h.now) asked.words.now asked.stdin asked.out asked.err s)
+        (spec.new_exec (container_in h.now) asked.now.words.now asked.now.stdin asked.now.out asked.now.err s)
         (container_in h.now) s)) }
 {
     let exec = new_exec(tables, alloc, h, asked)?;
@@ -93,12 +93,12 @@ fn prepare_by_status(
     alloc: Global,
     moment: u64,
     h: &Held,
-    asked: ExecAsk<'_>,
+    asked: &ExecAsk<'_>,
 ) -> Result<Prepared, NoMemory>
     requires { container_numbered h.now.container.number tables.now.state ≡ Some (container_in h.now) }
     ensures { IfOk result (λ p. Makes p moment tables.now.state
         (spec.if_running h.now.container.life.status (container_in h.now) (λ s. spec.created
-        (spec.new_exec (container_in h.now) asked.words.now asked.stdin asked.out asked.err s)
+        (spec.new_exec (container_in h.now) asked.now.words.now asked.now.stdin asked.now.out asked.now.err s)
         (container_in h.now) s))) }
 {
     let id = h.container.id.as_str();
@@ -137,10 +137,10 @@ pub fn prepare(
     alloc: Global,
     moment: u64,
     target: &str,
-    asked: ExecAsk<'_>,
+    asked: &ExecAsk<'_>,
 ) -> Result<Prepared, NoMemory>
     ensures { IfOk result (λ p. Makes p moment tables.now.state
-        (spec.exec_create_outcome target.now asked.words.now asked.stdin asked.out asked.err)) }
+        (spec.exec_create_outcome target.now asked.now.words.now asked.now.stdin asked.now.out asked.now.err)) }
 {
     match look(tables, alloc, moment, target)? {
         Looked::Stands(h) => prepare_by_status(tables, alloc, moment, h, asked),

@@ -26,12 +26,12 @@ pub fn perform(tables: &mut Tables, name: Text, labels: Pairs)
 }
 
 // What the volume will be.
-fn new_text(alloc: Global, moment: u64, name: &Text, labels: &Pairs) -> Result<Text, NoMemory>
+fn new_text(alloc: Global, moment: u64, name: &str, labels: &Pairs) -> Result<Text, NoMemory>
     requires { moment ≤ 9_000_000_000_000 }
     ensures { IfOk result (λ t. t ≡ volume_body (new_volume name.now labels.now moment)) }
 {
     let view = VolumeView {
-        name: name.as_str(),
+        name,
         labels,
         created: moment,
     };
@@ -43,7 +43,7 @@ fn prepare_new(
     tables: &Tables,
     alloc: Global,
     moment: u64,
-    name: &Text,
+    name: &str,
     labels: &Pairs,
 ) -> Result<Prepared, NoMemory>
     requires until { moment ≤ 9_000_000_000_000 }
@@ -51,10 +51,10 @@ fn prepare_new(
     ensures { IfOk result (λ p. Makes p moment tables.now.state (spec.by_standing None name.now labels.now)) }
 {
     let body = new_text(alloc, moment, name, labels)?;
+    let own = Text::of(alloc, name)?;
     let mut events = Vec::new(alloc);
-    let event = volume_event(alloc, Action::Create, name, moment)?;
+    let event = volume_event(alloc, Action::Create, &own, moment)?;
     add(&mut events, event)?;
-    let own = name.copy(alloc)?;
     let pairs = labels.copy(alloc)?;
     Ok(Prepared {
         moment,
@@ -72,7 +72,7 @@ pub fn prepare(
     tables: &Tables,
     alloc: Global,
     moment: u64,
-    name: &Text,
+    name: &str,
     labels: &Pairs,
 ) -> Result<Prepared, NoMemory>
     requires until { moment ≤ 9_000_000_000_000 }
@@ -80,7 +80,7 @@ pub fn prepare(
     ensures { IfOk result (λ p. Makes p moment tables.now.state
         (spec.volume_create_outcome name.now labels.now)) }
 {
-    match tables.volume(name.as_str()) {
+    match tables.volume(name) {
         Some(volume) => show(alloc, moment, 201, volume),
         None => prepare_new(tables, alloc, moment, name, labels),
     }

@@ -38,17 +38,17 @@ fn prepare_unused(
     tables: &Tables,
     alloc: Global,
     moment: u64,
-    name: &Text,
+    name: &str,
 ) -> Result<Prepared, NoMemory>
     requires stands { IsSome (volume_named name.now tables.now.state) }
     requires unused { spec.is_in_use name.now tables.now.state ≡ false }
     ensures { IfOk result (λ p. Makes p moment tables.now.state (done (spec.remove_volume name.now))) }
 {
+    let own = Text::of(alloc, name)?;
     let mut events = Vec::new(alloc);
-    let event = volume_event(alloc, Action::Destroy, name, moment)?;
+    let event = volume_event(alloc, Action::Destroy, &own, moment)?;
     add(&mut events, event)?;
     let body = Text::new(alloc);
-    let own = name.copy(alloc)?;
     Ok(Prepared {
         moment,
         reply: Reply::Answer { status: 204, body },
@@ -62,14 +62,14 @@ fn prepare_standing(
     tables: &Tables,
     alloc: Global,
     moment: u64,
-    name: &Text,
+    name: &str,
 ) -> Result<Prepared, NoMemory>
     requires { IsSome (volume_named name.now tables.now.state) }
     ensures { IfOk result (λ p. Makes p moment tables.now.state
         (λ s. spec.unless_in_use (spec.is_in_use name.now s) name.now s)) }
 {
-    if tables.is_used(name.as_str()) {
-        return refuse_used(alloc, moment, name.as_str());
+    if tables.is_used(name) {
+        return refuse_used(alloc, moment, name);
     }
     prepare_unused(tables, alloc, moment, name)
 }
@@ -79,12 +79,12 @@ pub fn prepare(
     tables: &Tables,
     alloc: Global,
     moment: u64,
-    name: &Text,
+    name: &str,
 ) -> Result<Prepared, NoMemory>
     ensures { IfOk result (λ p. Makes p moment tables.now.state (spec.volume_remove_outcome name.now)) }
 {
-    match tables.volume(name.as_str()) {
+    match tables.volume(name) {
         Some(_) => prepare_standing(tables, alloc, moment, name),
-        None => refuse_missing(alloc, moment, name.as_str()),
+        None => refuse_missing(alloc, moment, name),
     }
 }

@@ -9,4 +9,4 @@ use Rattle.container_machine.proofs.calls.execs.create.prepare.Goals as goal
 pub returns-in-Refused : goal.returns-in-Refused
 returns-in-Refused c =
     let l : IsLooked (Looked.Refused c.in-Refused.prepared) c.args.moment c.args.target.now c.args.tables.now.state = subst (λ (l : Looked). IsLooked l c.args.moment c.args.target.now c.args.tables.now.state) c.in-Refused.is c.in_ok-h.ensures in
-    l (λ (d : Container). if_running d.life.status d (λ (s : State). created (new_exec d c.args.asked.words.now c.args.asked.stdin c.args.asked.out c.args.asked.err s) d s))
+    l (λ (d : Container). if_running d.life.status d (λ (s : State). created (new_exec d c.args.asked.now.words.now c.args.asked.now.stdin c.args.asked.now.out c.args.asked.now.err s) d s))
