@@ -4,7 +4,7 @@ use Rattle.engine_text.specs.declared.ticket.Ticket.{Ticket}
 use Rattle.machine_model.specs.Tickets.{ticket_numbered}
 use Rattle.machine_effects.specs.Held.{ticket_in}
 use Rattle.machine_effects.specs.Memory.{Memory}
-use Rattle.machine_effects.proofs.FoundLemmas.{find_in_map}
+use Rattle.machine_effects.proofs.ListLemmas.{find_in_map}
 use Rattle.machine_effects.proofs.tables.Tables.ticket.Goals as goal
 
 pub returns : goal.returns
