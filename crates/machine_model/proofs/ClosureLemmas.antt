@@ -43,7 +43,7 @@ use Rattle.machine_model.specs.Effects.Meet.{stepped}
 use Rattle.machine_model.specs.Calls.ExecStart.{started, exec_room}
 use Rattle.machine_model.proofs.Costs.CostLemmas.{IsPriced, write_part}
 use Rattle.machine_model.proofs.Costs.EffectLemmas.{costs_due}
-use Rattle.machine_model.proofs.Costs.CallLemmas.{call_costs}
+use Rattle.machine_model.proofs.Costs.CallLemmas.{call_costs, ends_any}
 use Rattle.engine_text.specs.declared.call.Call.{Call}
 use Rattle.engine_text.specs.declared.event.Event.{Event}
 use Rattle.engine_text.specs.declared.owner.Owner.TheVariants.{Container as OfContainer, Exec as OfExec}
@@ -146,7 +146,7 @@ writes k (Ended code) owner s = k.on_still s
 writes k (Wrote stream payload) (OfContainer n) s = k.on_log s n stream payload
 writes k (Wrote stream payload) (OfExec n) s = k.on_output s n stream payload
 
-pub priced : {R : State → Effect → Type 0} → IsClosed R → IsPriced ⊥ (λ x s e. R s e)
+pub priced : {R : State → Effect → Type 0} → IsClosed R → IsPriced ⊥ (λ n. Unit {0}) (λ x s e. R s e)
 priced {R} k = record {
   on_still = k.on_still;
   on_after = λ x y s a b first second. k.on_after s a b first second;
@@ -177,7 +177,7 @@ priced {R} k = record {
   on_destroyed = k.on_destroyed;
   on_begun = k.on_begun;
   on_time_out = k.on_time_out;
-  on_end_ticket = k.on_end_ticket;
+  on_end_ticket = λ s n ends. k.on_end_ticket s n;
   on_volumes = k.on_made_volume;
   on_gone_volume = k.on_gone_volume;
   on_made = λ s name spec few free stand. k.on_made s name spec free stand;
@@ -187,7 +187,7 @@ priced {R} k = record {
 
 -- what every call and every due step runs through
 pub runs_call : {R : State → Effect → Type 0} → IsClosed R → (c : Call) (connection : ℕ) (s : State) → R s (outcome_of c connection s).effect
-runs_call {R} k c connection s = call_costs (λ x s e. R s e) (priced k) c connection s (λ p. absurd p) (λ p. absurd p)
+runs_call {R} k c connection s = call_costs (λ x s e. R s e) (priced k) c connection s (λ p. absurd p) (λ p. absurd p) (ends_any c)
 
 pub runs_due : {R : State → Effect → Type 0} → IsClosed R → (d : DueAction) (s : State) → R s (due_effect d s)
 runs_due k d s = (costs_due (priced k) d).holds s

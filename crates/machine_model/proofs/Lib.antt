@@ -36,4 +36,5 @@ pub mod Costs
 pub mod Kept
 pub mod Consistent
 pub mod Laws
+pub mod StandingLemmas
 pub mod LawFacts

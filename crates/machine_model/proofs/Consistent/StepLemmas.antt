@@ -23,7 +23,7 @@ use Rattle.machine_model.proofs.Fits.StepLemmas.{mains_step}
 use Rattle.machine_model.proofs.Costs.CostLemmas.{Cost, IsMost, most_of}
 use Rattle.machine_model.proofs.Costs.EffectLemmas.{due_cost, costs_due}
 use Rattle.machine_model.proofs.Costs.AnswerLemmas.{full}
-use Rattle.machine_model.proofs.Costs.CallLemmas.{call_costs}
+use Rattle.machine_model.proofs.Costs.CallLemmas.{call_costs, ends_any}
 use Rattle.machine_model.proofs.Kept.CountLemmas.{Counted, counted_priced}
 use Rattle.machine_model.proofs.Kept.EventLemmas.{Few, Paid, paid_priced, paid_for}
 use Rattle.machine_model.proofs.Kept.TimeLemmas.{Times, KeepsTimes, times_priced}
@@ -87,7 +87,7 @@ feed_same s t owner bytes Live = refl
 feed_same s t owner bytes Over = refl
 feed_same s t owner bytes Coming = refl
 
-same_ready : (s : State) (t : ℕ) (c : Call) → is_ready (at_moment t s) c ≡ is_ready s c
+pub same_ready : (s : State) (t : ℕ) (c : Call) → is_ready (at_moment t s) c ≡ is_ready s c
 same_ready s t (Call.Take ticket) = refl
 same_ready s t (Call.Feed owner run bytes) = feed_same s t owner bytes (run_state owner run (at_moment t s)) ∙ ap (λ r. feed_is_ready r s owner bytes) (run_same s t owner run)
 same_ready s t (Call.FeedEnd owner run) = ap feed_end_is_ready (run_same s t owner run)
@@ -110,9 +110,9 @@ form_call s connection t c lawful h =
     let e : Effect = (outcome_of c connection m).effect in
     let opens = call_opens s connection t c lawful.1 h in
     let ready : IsTrue (is_ready m c) = subst IsTrue (sym (same_ready s t c)) opens.ready in
-    let counted : Counted full m e = call_costs Counted counted_priced c connection m (λ p. lawful.0) (λ p. ready) in
-    let all = form_after s t 1 full e (omega arith) (most_of full full refl) counted (call_costs Paid paid_priced c connection m (λ p. lawful.0) (λ p. ready)) (call_costs KeepsTimes times_priced c connection m (λ p. lawful.0) (λ p. ready))
-    (runs_call execs_closed c connection m) (call_costs KeepsPast past_priced c connection m (λ p. lawful.0) (λ p. ready)) (call_later s connection t c lawful.1) opens.times opens.clock (call_steps s connection t c lawful.1 h.counts counted.tickets) h in
+    let counted : Counted full m e = call_costs Counted counted_priced c connection m (λ p. lawful.0) (λ p. ready) (ends_any c) in
+    let all = form_after s t 1 full e (omega arith) (most_of full full refl) counted (call_costs Paid paid_priced c connection m (λ p. lawful.0) (λ p. ready) (ends_any c)) (call_costs KeepsTimes times_priced c connection m (λ p. lawful.0) (λ p. ready) (ends_any c))
+    (runs_call execs_closed c connection m) (call_costs KeepsPast past_priced c connection m (λ p. lawful.0) (λ p. ready) (ends_any c)) (call_later s connection t c lawful.1) opens.times opens.clock (call_steps s connection t c lawful.1 h.counts counted.tickets) h in
     record {
       names = names_step s (Step.Call connection t c) (number_fits (finished 1 e).state all.0) h.names;
       mains = mains_step s (Step.Call connection t c) (consistent s h) (fresh_of s h.names h.execs) h.mains;

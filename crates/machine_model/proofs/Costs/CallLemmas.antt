@@ -61,12 +61,12 @@ use Rattle.std.proofs.Common.{◌≡◌, Some, None}
 
 -- ---- create
 
-missing_by : {P : Type 0} (R : Cost → State → Effect → Type 0) → IsPriced P R → (o : Option Volume) (name : List ℕ) (s : State) → volume_named name s ≡ o → R (tells 1) s (unless_it_stands o name s)
+missing_by : {P : Type 0} {E : ℕ → Type 0} (R : Cost → State → Effect → Type 0) → IsPriced P E R → (o : Option Volume) (name : List ℕ) (s : State) → volume_named name s ≡ o → R (tells 1) s (unless_it_stands o name s)
 missing_by R k None name s e =
     k.on_after none (tells 1) s _ _ (k.on_volumes s name [] e) (k.on_told (record s { volumes = create.placed (create.new_volume name [] s.clock) s.volumes }) (volume_event Action.Create name s.clock) refl)
 missing_by R k (Some v) name s e = costs_nothing (tells 1) k s
 
-missing : {P : Type 0} (R : Cost → State → Effect → Type 0) → IsPriced P R → (ms : List Mount) → Costs R (tells (length ms)) (each make_missing ms)
+missing : {P : Type 0} {E : ℕ → Type 0} (R : Cost → State → Effect → Type 0) → IsPriced P E R → (ms : List Mount) → Costs R (tells (length ms)) (each make_missing ms)
 missing R k [] = costs_still k
 missing R k (m ∷ ms) =
     let first : Costs R (tells 1) (make_missing m) = record { holds = λ s. missing_by R k (volume_named m.volume s) m.volume s refl } in
@@ -83,7 +83,7 @@ add_cost = record { told = 17; spawns = 0; makes = 1; asks = 0; retries = 0 }
 abbrev then_add : Container → State → Effect
 then_add c = and_then (change (with_new c)) (λ s. tell (plain_event Action.Create c s.clock ∷ []) s)
 
-adds : {P : Type 0} (R : Cost → State → Effect → Type 0) → IsPriced P R → (name : List ℕ) (spec : CreateSpec) (s : State) → (P → length spec.mounts ≤ 16) → holder name s.containers ≡ None → R add_cost s (add (new_container name spec s) s)
+adds : {P : Type 0} {E : ℕ → Type 0} (R : Cost → State → Effect → Type 0) → IsPriced P E R → (name : List ℕ) (spec : CreateSpec) (s : State) → (P → length spec.mounts ≤ 16) → holder name s.containers ≡ None → R add_cost s (add (new_container name spec s) s)
 adds R k name spec s few free =
     let c : Container = new_container name spec s in
     let a : Effect = each make_missing spec.mounts s in
@@ -99,11 +99,11 @@ adds R k name spec s few free =
 pub few_mounts : (spec : CreateSpec) → is_create spec ≡ true → length spec.mounts ≤ 16
 few_mounts spec e = leb-true (length spec.mounts) 16 (both_true _ _ (both_true _ _ e).1).0
 
-create_holder : {P : Type 0} (R : Cost → State → Effect → Type 0) → IsPriced P R → (o : Option Container) (name : List ℕ) (spec : CreateSpec) (s : State) → (P → length spec.mounts ≤ 16) → holder name s.containers ≡ o → R full s (create.by_holder o name spec s).effect
+create_holder : {P : Type 0} {E : ℕ → Type 0} (R : Cost → State → Effect → Type 0) → IsPriced P E R → (o : Option Container) (name : List ℕ) (spec : CreateSpec) (s : State) → (P → length spec.mounts ≤ 16) → holder name s.containers ≡ o → R full s (create.by_holder o name spec s).effect
 create_holder R k (Some other) name spec s few e = idle R k s
 create_holder R k None name spec s few e = k.on_more add_cost full s _ (λ p. most_of add_cost full refl) (adds R k name spec s few e)
 
-create_image : {P : Type 0} (R : Cost → State → Effect → Type 0) → IsPriced P R → (b : Bool) (spec : CreateSpec) (s : State) → (P → length spec.mounts ≤ 16) → R full s (create.by_image b spec s).effect
+create_image : {P : Type 0} {E : ℕ → Type 0} (R : Cost → State → Effect → Type 0) → IsPriced P E R → (b : Bool) (spec : CreateSpec) (s : State) → (P → length spec.mounts ≤ 16) → R full s (create.by_image b spec s).effect
 create_image R k true spec s few =
     let name : List ℕ = chosen_name spec.name s.next_number s.containers in
     create_holder R k (holder name s.containers) name spec s few refl
@@ -111,7 +111,7 @@ create_image R k false spec s few = idle R k s
 
 -- ---- execs
 
-running_by : {P : Type 0} (R : Cost → State → Effect → Type 0) → IsPriced P R → (u : Status) (c : Container) (f : State → Outcome) (s : State) → R full s (f s).effect → R full s (if_running u c f s).effect
+running_by : {P : Type 0} {E : ℕ → Type 0} (R : Cost → State → Effect → Type 0) → IsPriced P E R → (u : Status) (c : Container) (f : State → Outcome) (s : State) → R full s (f s).effect → R full s (if_running u c f s).effect
 running_by R k Status.Running c f s one = one
 running_by R k Status.Created c f s one = idle R k s
 running_by R k Status.Exited c f s one = idle R k s
@@ -120,7 +120,7 @@ running_by R k Status.Restarting c f s one = idle R k s
 running_by R k Status.Removing c f s one = idle R k s
 running_by R k Status.Dead c f s one = idle R k s
 
-exec_made : {P : Type 0} (R : Cost → State → Effect → Type 0) → IsPriced P R → (c : Container) (words : List (List ℕ)) (stdin out err : Bool) (s : State) → container_numbered c.number s ≡ Some c
+exec_made : {P : Type 0} {E : ℕ → Type 0} (R : Cost → State → Effect → Type 0) → IsPriced P E R → (c : Container) (words : List (List ℕ)) (stdin out err : Bool) (s : State) → container_numbered c.number s ≡ Some c
     → R full s (exec_create.created (exec_create.new_exec c words stdin out err s) c s).effect
 exec_made R k c words stdin out err s found =
     let x : Exec = exec_create.new_exec c words stdin out err s in
@@ -129,7 +129,7 @@ exec_made R k c words stdin out err s found =
     (k.on_after (record { told = 0; spawns = 0; makes = 1; asks = 0; retries = 0 }) (tells 1) s (still (exec_create.with_exec x s)) _ (k.on_made_exec s c words stdin out err found)
     ((costs_tell k (exec_event Action.ExecCreate x.id) c.number (λ c t. refl)).holds (exec_create.with_exec x s)))
 
-exec_ran : {P : Type 0} (R : Cost → State → Effect → Type 0) → IsPriced P R → (id : List ℕ) (detach : Bool) (x : Exec) (o : Option Program) (s : State) → find (λ y. same_bytes y.id id) s.execs ≡ Some x → x.started ≡ false → IsShortProgram o
+exec_ran : {P : Type 0} {E : ℕ → Type 0} (R : Cost → State → Effect → Type 0) → IsPriced P E R → (id : List ℕ) (detach : Bool) (x : Exec) (o : Option Program) (s : State) → find (λ y. same_bytes y.id id) s.execs ≡ Some x → x.started ≡ false → IsShortProgram o
     → R full s (if_program o x.words (replies (exec_start.start_reply detach x) (exec_start.spawn_exec o detach x)) s).effect
 exec_ran R k id detach x None s found fresh short = idle R k s
 exec_ran R k id detach x (Some p) s found fresh short =
@@ -138,35 +138,35 @@ exec_ran R k id detach x (Some p) s found fresh short =
     k.on_more cost full s _ (λ p. most_of cost full refl)
     (k.on_after begin (tells 1) s _ _ (k.on_start_exec s id x p (x.stdin && not detach) found fresh short) ((costs_tell k (exec_event Action.ExecStart x.id) x.container (λ c t. refl)).holds _))
 
-exec_unless : {P : Type 0} (R : Cost → State → Effect → Type 0) → IsPriced P R → (b : Bool) (id : List ℕ) (detach : Bool) (x : Exec) (c : Container) (s : State) → x.started ≡ b → find (λ y. same_bytes y.id id) s.execs ≡ Some x
+exec_unless : {P : Type 0} {E : ℕ → Type 0} (R : Cost → State → Effect → Type 0) → IsPriced P E R → (b : Bool) (id : List ℕ) (detach : Bool) (x : Exec) (c : Container) (s : State) → x.started ≡ b → find (λ y. same_bytes y.id id) s.execs ≡ Some x
     → R full s (exec_start.unless_started b id (if_running c.life.status c (exec_start.run detach x)) s).effect
 exec_unless R k true id detach x c s e found = idle R k s
 exec_unless R k false id detach x c s e found = running_by R k c.life.status c (exec_start.run detach x) s (exec_ran R k id detach x (program_of x.words 1) s found e (program_short x.words 1))
 
-exec_both : {P : Type 0} (R : Cost → State → Effect → Type 0) → IsPriced P R → (o : Option Container) (id : List ℕ) (f : Container → State → Outcome) (s : State) → ((c : Container) → R full s (f c s).effect)
+exec_both : {P : Type 0} {E : ℕ → Type 0} (R : Cost → State → Effect → Type 0) → IsPriced P E R → (o : Option Container) (id : List ℕ) (f : Container → State → Outcome) (s : State) → ((c : Container) → R full s (f c s).effect)
     → R full s (exec_start.with_both o id f s).effect
 exec_both R k None id f s one = idle R k s
 exec_both R k (Some c) id f s one = one c
 
-exec_found : {P : Type 0} (R : Cost → State → Effect → Type 0) → IsPriced P R → (o : Option Exec) (id : List ℕ) (f : Exec → Container → State → Outcome) (s : State) → find (λ y. same_bytes y.id id) s.execs ≡ o
+exec_found : {P : Type 0} {E : ℕ → Type 0} (R : Cost → State → Effect → Type 0) → IsPriced P E R → (o : Option Exec) (id : List ℕ) (f : Exec → Container → State → Outcome) (s : State) → find (λ y. same_bytes y.id id) s.execs ≡ o
     → ((x : Exec) (c : Container) → find (λ y. same_bytes y.id id) s.execs ≡ Some x → R full s (f x c s).effect) → R full s (exec_start.with_exec o id f s).effect
 exec_found R k None id f s e one = idle R k s
 exec_found R k (Some x) id f s e one = exec_both R k (container_numbered x.container s) id (f x) s (λ c. one x c e)
 
 -- ---- volumes
 
-volume_standing : {P : Type 0} (R : Cost → State → Effect → Type 0) → IsPriced P R → (o : Option Volume) (name : List ℕ) (labels : List Pair) (s : State) → volume_named name s ≡ o → R full s (volumes.by_standing o name labels s).effect
+volume_standing : {P : Type 0} {E : ℕ → Type 0} (R : Cost → State → Effect → Type 0) → IsPriced P E R → (o : Option Volume) (name : List ℕ) (labels : List Pair) (s : State) → volume_named name s ≡ o → R full s (volumes.by_standing o name labels s).effect
 volume_standing R k (Some v) name labels s e = idle R k s
 volume_standing R k None name labels s e =
     k.on_more (tells 1) full s _ (λ p. most_of (tells 1) full refl)
     (k.on_after none (tells 1) s _ _ (k.on_volumes s name labels e) (k.on_told (record s { volumes = create.placed (create.new_volume name labels s.clock) s.volumes }) (volume_event Action.Create name s.clock) refl))
 
-volume_found : {P : Type 0} (R : Cost → State → Effect → Type 0) → IsPriced P R → (o : Option Volume) (name : List ℕ) (f : Volume → State → Outcome) (s : State) → ((v : Volume) → R full s (f v s).effect)
+volume_found : {P : Type 0} {E : ℕ → Type 0} (R : Cost → State → Effect → Type 0) → IsPriced P E R → (o : Option Volume) (name : List ℕ) (f : Volume → State → Outcome) (s : State) → ((v : Volume) → R full s (f v s).effect)
     → R full s (volumes.with_volume o name f s).effect
 volume_found R k None name f s one = idle R k s
 volume_found R k (Some v) name f s one = one v
 
-volume_unless : {P : Type 0} (R : Cost → State → Effect → Type 0) → IsPriced P R → (b : Bool) (name : List ℕ) (s : State) → volumes.is_in_use name s ≡ b → R full s (volumes.unless_in_use b name s).effect
+volume_unless : {P : Type 0} {E : ℕ → Type 0} (R : Cost → State → Effect → Type 0) → IsPriced P E R → (b : Bool) (name : List ℕ) (s : State) → volumes.is_in_use name s ≡ b → R full s (volumes.unless_in_use b name s).effect
 volume_unless R k true name s e = idle R k s
 volume_unless R k false name s e =
     k.on_more (tells 1) full s _ (λ p. most_of (tells 1) full refl)
@@ -174,70 +174,82 @@ volume_unless R k false name s e =
 
 -- ---- feeds
 
-feed_by : {P : Type 0} (R : Cost → State → Effect → Type 0) → IsPriced P R → (owner : Owner) (bytes : List ℕ) (s : State) (r : RunState) → (P → feed_is_ready r s owner bytes ≡ true) → R full s (feeds.feed_by r owner bytes s).effect
+feed_by : {P : Type 0} {E : ℕ → Type 0} (R : Cost → State → Effect → Type 0) → IsPriced P E R → (owner : Owner) (bytes : List ℕ) (s : State) (r : RunState) → (P → feed_is_ready r s owner bytes ≡ true) → R full s (feeds.feed_by r owner bytes s).effect
 feed_by R k owner bytes s Live ready =
     k.on_more none full s _ (λ p. most_of none full refl) (k.on_feed s owner bytes (λ p. leb-true (length bytes) (room_at (process_of owner s.processes)) (ready p)))
 feed_by R k owner bytes s Over ready = idle R k s
 feed_by R k owner bytes s Coming ready = idle R k s
 
-ends : {P : Type 0} (R : Cost → State → Effect → Type 0) → IsPriced P R → (owner : Owner) (s : State) → R full s (feeds.end_input owner s)
+ends : {P : Type 0} {E : ℕ → Type 0} (R : Cost → State → Effect → Type 0) → IsPriced P E R → (owner : Owner) (s : State) → R full s (feeds.end_input owner s)
 ends R k owner s = k.on_more none full s _ (λ p. most_of none full refl) (k.on_move s owner (feed_end s.clock) (λ p. feed_end_fits s.clock p))
 
-end_if : {P : Type 0} (R : Cost → State → Effect → Type 0) → IsPriced P R → (b : Bool) (owner : Owner) (s : State) → R full s (feeds.ends_if b owner s)
+end_if : {P : Type 0} {E : ℕ → Type 0} (R : Cost → State → Effect → Type 0) → IsPriced P E R → (b : Bool) (owner : Owner) (s : State) → R full s (feeds.ends_if b owner s)
 end_if R k true owner s = ends R k owner s
 end_if R k false owner s = idle R k s
 
-end_with : {P : Type 0} (R : Cost → State → Effect → Type 0) → IsPriced P R → (o : Option Container) (owner : Owner) (s : State) → R full s (feeds.ends_with o owner s)
+end_with : {P : Type 0} {E : ℕ → Type 0} (R : Cost → State → Effect → Type 0) → IsPriced P E R → (o : Option Container) (owner : Owner) (s : State) → R full s (feeds.ends_with o owner s)
 end_with R k None owner s = idle R k s
 end_with R k (Some c) owner s = end_if R k c.life.stdin_once owner s
 
-end_owner : {P : Type 0} (R : Cost → State → Effect → Type 0) → IsPriced P R → (owner : Owner) (s : State) → R full s (feeds.end_by_owner owner s)
+end_owner : {P : Type 0} {E : ℕ → Type 0} (R : Cost → State → Effect → Type 0) → IsPriced P E R → (owner : Owner) (s : State) → R full s (feeds.end_by_owner owner s)
 end_owner R k (OfExec n) s = ends R k (OfExec n) s
 end_owner R k (OfContainer n) s = end_with R k (container_numbered n s) (OfContainer n) s
 
-end_by : {P : Type 0} (R : Cost → State → Effect → Type 0) → IsPriced P R → (owner : Owner) (s : State) (r : RunState) → R full s (feeds.feed_end_by r owner s).effect
+end_by : {P : Type 0} {E : ℕ → Type 0} (R : Cost → State → Effect → Type 0) → IsPriced P E R → (owner : Owner) (s : State) (r : RunState) → R full s (feeds.feed_end_by r owner s).effect
 end_by R k owner s Live = end_owner R k owner s
 end_by R k owner s Over = idle R k s
 end_by R k owner s Coming = idle R k s
 
-ends_ticket : {P : Type 0} (R : Cost → State → Effect → Type 0) → IsPriced P R → (n : ℕ) (s : State) → R full s (change (end_ticket n) s)
-ends_ticket R k n s = k.on_more none full s _ (λ p. most_of none full refl) (k.on_end_ticket s n)
+ends_ticket : {P : Type 0} {E : ℕ → Type 0} (R : Cost → State → Effect → Type 0) → IsPriced P E R → (n : ℕ) (s : State) → E n → R full s (change (end_ticket n) s)
+ends_ticket R k n s ends = k.on_more none full s _ (λ p. most_of none full refl) (k.on_end_ticket s n ends)
 
 -- ---- every call
 
-pub call_costs : {P : Type 0} (R : Cost → State → Effect → Type 0) → IsPriced P R → (c : Call) (connection : ℕ) (s : State) → (P → IsSound c) → (P → IsTrue (is_ready s c)) → R full s (outcome_of c connection s).effect
-call_costs R k (Call.Create spec) connection s sound ready = create_image R k (is_image spec.image) spec s (λ p. few_mounts spec (sound p))
-call_costs R k (Call.Start target) connection s sound ready = at R k s target (λ c. start.by_status c.life.status c) (λ c found. start_by R k c.life.status c s)
-call_costs R k (Call.Stop target wait signal) connection s sound ready = at R k s target (λ c. stop.by_status c.life.status connection wait signal c) (λ c found. stop_by R k connection wait signal c.life.status c s found)
-call_costs R k (Call.Restart target wait signal) connection s sound ready =
+-- the ticket that a call ends, if it does, may be ended
+abbrev pub EndsOnly : (ℕ → Type 0) → Call → Type 0
+EndsOnly E (Call.Take n) = E n
+EndsOnly E (Call.Drop n) = E n
+EndsOnly E c = Unit {0}
+
+-- where any may
+pub ends_any : (c : Call) → EndsOnly (λ n. Unit {0}) c
+ends_any (Call.Take n) = tt
+ends_any (Call.Drop n) = tt
+ends_any c = tt
+
+pub call_costs : {P : Type 0} {E : ℕ → Type 0} (R : Cost → State → Effect → Type 0) → IsPriced P E R → (c : Call) (connection : ℕ) (s : State) → (P → IsSound c) → (P → IsTrue (is_ready s c)) → EndsOnly E c → R full s (outcome_of c connection s).effect
+call_costs R k (Call.Create spec) connection s sound ready ends = create_image R k (is_image spec.image) spec s (λ p. few_mounts spec (sound p))
+call_costs R k (Call.Start target) connection s sound ready ends = at R k s target (λ c. start.by_status c.life.status c) (λ c found. start_by R k c.life.status c s)
+call_costs R k (Call.Stop target wait signal) connection s sound ready ends = at R k s target (λ c. stop.by_status c.life.status connection wait signal c) (λ c found. stop_by R k connection wait signal c.life.status c s found)
+call_costs R k (Call.Restart target wait signal) connection s sound ready ends =
     at R k s target (λ c. restart.by_status c.life.status connection wait signal c) (λ c found. restart_by R k connection wait signal c.life.status c s found)
-call_costs R k (Call.Kill target signal) connection s sound ready = at R k s target (λ c. kill.by_status c.life.status signal c) (λ c found. kill_by R k c.life.status signal c s)
-call_costs R k (Call.Pause target) connection s sound ready = at R k s target (λ c. pause.by_status c.life.status c) (λ c found. pause_by R k c.life.status c s)
-call_costs R k (Call.Unpause target) connection s sound ready = at R k s target (λ c. unpause.by_status c.life.status c) (λ c found. unpause_by R k c.life.status c s)
-call_costs R k (Call.Rename target name) connection s sound ready = at R k s target (λ c. rename.by_status c.life.status (without_slash name) c) (λ c found. rename_by R k c.life.status (without_slash name) c s found)
-call_costs R k (Call.Remove target force) connection s sound ready =
+call_costs R k (Call.Kill target signal) connection s sound ready ends = at R k s target (λ c. kill.by_status c.life.status signal c) (λ c found. kill_by R k c.life.status signal c s)
+call_costs R k (Call.Pause target) connection s sound ready ends = at R k s target (λ c. pause.by_status c.life.status c) (λ c found. pause_by R k c.life.status c s)
+call_costs R k (Call.Unpause target) connection s sound ready ends = at R k s target (λ c. unpause.by_status c.life.status c) (λ c found. unpause_by R k c.life.status c s)
+call_costs R k (Call.Rename target name) connection s sound ready ends = at R k s target (λ c. rename.by_status c.life.status (without_slash name) c) (λ c found. rename_by R k c.life.status (without_slash name) c s found)
+call_costs R k (Call.Remove target force) connection s sound ready ends =
     at R k s target (λ c. remove.by_status c.life.status force connection c) (λ c found. remove_by R k c.life.status force connection c s found)
-call_costs R k (Call.Wait target until) connection s sound ready =
+call_costs R k (Call.Wait target until) connection s sound ready ends =
     at R k s target (λ c. begins connection c (Asked.Wait until) still) (λ c found. ticket R none k connection c (Asked.Wait until) still s found (costs_still k) refl)
-call_costs R k (Call.Inspect target) connection s sound ready = at R k s target _ (λ c found. idle R k s)
-call_costs R k (Call.List all limit filter) connection s sound ready = idle R k s
-call_costs R k (Call.Logs target ask) connection s sound ready = at R k s target _ (λ c found. idle R k s)
-call_costs R k (Call.Attach target ask) connection s sound ready =
+call_costs R k (Call.Inspect target) connection s sound ready ends = at R k s target _ (λ c found. idle R k s)
+call_costs R k (Call.List all limit filter) connection s sound ready ends = idle R k s
+call_costs R k (Call.Logs target ask) connection s sound ready ends = at R k s target _ (λ c found. idle R k s)
+call_costs R k (Call.Attach target ask) connection s sound ready ends =
     at R k s target _ (λ c found. top R _ k (tell_of (plain_event Action.Attach) c.number) s (costs_tell k (plain_event Action.Attach) c.number (λ c t. refl)) refl)
-call_costs R k (Call.ExecCreate target words stdin out err) connection s sound ready =
+call_costs R k (Call.ExecCreate target words stdin out err) connection s sound ready ends =
     at R k s target (λ c. if_running c.life.status c (λ s. exec_create.created (exec_create.new_exec c words stdin out err s) c s))
     (λ c found. running_by R k c.life.status c (λ s. exec_create.created (exec_create.new_exec c words stdin out err s) c s) s (exec_made R k c words stdin out err s found))
-call_costs R k (Call.ExecStart id detach) connection s sound ready =
+call_costs R k (Call.ExecStart id detach) connection s sound ready ends =
     exec_found R k (find (λ x. same_bytes x.id id) s.execs) id (λ x c. exec_start.unless_started x.started id (if_running c.life.status c (exec_start.run detach x))) s refl
     (λ x c found. exec_unless R k x.started id detach x c s refl found)
-call_costs R k (Call.ExecInspect id) connection s sound ready = exec_found R k (find (λ x. same_bytes x.id id) s.execs) id _ s refl (λ x c found. idle R k s)
-call_costs R k (Call.VolumeCreate name labels) connection s sound ready = volume_standing R k (volume_named name s) name labels s refl
-call_costs R k (Call.VolumeInspect name) connection s sound ready = volume_found R k (volume_named name s) name _ s (λ v. idle R k s)
-call_costs R k (Call.VolumeRemove name) connection s sound ready = volume_found R k (volume_named name s) name _ s (λ v. volume_unless R k (volumes.is_in_use name s) name s refl)
-call_costs R k (Call.VolumeList filter) connection s sound ready = idle R k s
-call_costs R k (Call.Events since until filter) connection s sound ready = idle R k s
-call_costs R k Call.JournalRead connection s sound ready = idle R k s
-call_costs R k (Call.Feed owner run bytes) connection s sound ready = feed_by R k owner bytes s (run_state owner run s) ready
-call_costs R k (Call.FeedEnd owner run) connection s sound ready = end_by R k owner s (run_state owner run s)
-call_costs R k (Call.Take n) connection s sound ready = ends_ticket R k n s
-call_costs R k (Call.Drop n) connection s sound ready = ends_ticket R k n s
+call_costs R k (Call.ExecInspect id) connection s sound ready ends = exec_found R k (find (λ x. same_bytes x.id id) s.execs) id _ s refl (λ x c found. idle R k s)
+call_costs R k (Call.VolumeCreate name labels) connection s sound ready ends = volume_standing R k (volume_named name s) name labels s refl
+call_costs R k (Call.VolumeInspect name) connection s sound ready ends = volume_found R k (volume_named name s) name _ s (λ v. idle R k s)
+call_costs R k (Call.VolumeRemove name) connection s sound ready ends = volume_found R k (volume_named name s) name _ s (λ v. volume_unless R k (volumes.is_in_use name s) name s refl)
+call_costs R k (Call.VolumeList filter) connection s sound ready ends = idle R k s
+call_costs R k (Call.Events since until filter) connection s sound ready ends = idle R k s
+call_costs R k Call.JournalRead connection s sound ready ends = idle R k s
+call_costs R k (Call.Feed owner run bytes) connection s sound ready ends = feed_by R k owner bytes s (run_state owner run s) ready
+call_costs R k (Call.FeedEnd owner run) connection s sound ready ends = end_by R k owner s (run_state owner run s)
+call_costs R k (Call.Take n) connection s sound ready ends = ends_ticket R k n s ends
+call_costs R k (Call.Drop n) connection s sound ready ends = ends_ticket R k n s ends

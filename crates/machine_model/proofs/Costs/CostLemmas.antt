@@ -116,8 +116,9 @@ write_part (Ended code) owner = still
 abbrev pub AreFrom : ℕ → List DueAction → Type 0
 AreFrom t ds = AllByRecursion (λ d. t ≤ d.moment) ds
 
--- each single change is one of these; P says that calls are sound and find what they wait for
-pub record IsPriced (P : Type 0) (R : Cost → State → Effect → Type 0) : Type 0 where
+-- each single change is one of these; P says that calls are sound and find what they wait for, and
+-- E which tickets may be ended
+pub record IsPriced (P : Type 0) (E : ℕ → Type 0) (R : Cost → State → Effect → Type 0) : Type 0 where
   pub on_still : (s : State) → R none s (still s)
   pub on_after : (x y : Cost) (s : State) (a b : Effect) → R x s a → R y a.state b → R (plus x y) s (after a b)
   pub on_more : (x y : Cost) (s : State) (e : Effect) → (P → IsMost x y) → R x s e → R y s e
@@ -143,7 +144,7 @@ pub record IsPriced (P : Type 0) (R : Cost → State → Effect → Type 0) : Ty
   pub on_destroyed : (s : State) (c : Container) → container_numbered c.number s ≡ Some c → R none s (still (without c s))
   pub on_begun : (s : State) (connection : ℕ) (c : Container) (asked : Asked) → container_numbered c.number s ≡ Some c → R (record { told = 0; spawns = 0; makes = 0; asks = 1; retries = 0 }) s (still (begun connection c.number asked s))
   pub on_time_out : (s : State) (c : Container) → R none s (still (time_out c s))
-  pub on_end_ticket : (s : State) (n : ℕ) → R none s (still (end_ticket n s))
+  pub on_end_ticket : (s : State) (n : ℕ) → E n → R none s (still (end_ticket n s))
   pub on_volumes : (s : State) (name : List ℕ) (labels : List Pair) → volume_named name s ≡ None → R none s (still (record s { volumes = placed (new_volume name labels s.clock) s.volumes }))
   pub on_gone_volume : (s : State) (name : List ℕ) → is_in_use name s ≡ false → R none s (still (without_volume name s))
   pub on_made : (s : State) (name : List ℕ) (spec : CreateSpec) → (P → length spec.mounts ≤ 16) → holder name s.containers ≡ None
@@ -158,13 +159,13 @@ pub record IsPriced (P : Type 0) (R : Cost → State → Effect → Type 0) : Ty
 pub record Costs (R : Cost → State → Effect → Type 0) (x : Cost) (e : State → Effect) : Type 0 where
   pub holds : (s : State) → R x s (e s)
 
-pub costs_still : {P : Type 0} {R : Cost → State → Effect → Type 0} → IsPriced P R → Costs R none still
+pub costs_still : {P : Type 0} {E : ℕ → Type 0} {R : Cost → State → Effect → Type 0} → IsPriced P E R → Costs R none still
 costs_still k = record { holds = k.on_still }
 
-pub costs_then : {P : Type 0} {R : Cost → State → Effect → Type 0} {x y : Cost} {e f : State → Effect} → IsPriced P R → Costs R x e → Costs R y f → Costs R (plus x y) (and_then e f)
+pub costs_then : {P : Type 0} {E : ℕ → Type 0} {R : Cost → State → Effect → Type 0} {x y : Cost} {e f : State → Effect} → IsPriced P E R → Costs R x e → Costs R y f → Costs R (plus x y) (and_then e f)
 costs_then {R} {x} {y} {e} {f} k first second = record { holds = λ s. k.on_after x y s (e s) (f (e s).state) (first.holds s) (second.holds (e s).state) }
 
-pub costs_most : {P : Type 0} {R : Cost → State → Effect → Type 0} {x y : Cost} {e : State → Effect} → IsPriced P R → Costs R x e → is_most x y ≡ true → Costs R y e
+pub costs_most : {P : Type 0} {E : ℕ → Type 0} {R : Cost → State → Effect → Type 0} {x y : Cost} {e : State → Effect} → IsPriced P E R → Costs R x e → is_most x y ≡ true → Costs R y e
 costs_most {R} {x} {y} {e} k one low = record { holds = λ s. k.on_more x y s (e s) (λ p. most_of x y low) (one.holds s) }
 
 pub costs_at : {R : Cost → State → Effect → Type 0} {x : Cost} (e : State → State → Effect) → ((s : State) → R x s (e s s)) → Costs R x (λ s. e s s)
@@ -173,32 +174,32 @@ costs_at e k = record { holds = k }
 from_none : (y : Cost) → IsMost none y
 from_none y = record { told = omega arith; spawns = omega arith; makes = omega arith; asks = omega arith; retries = omega arith }
 
-pub costs_nothing : {P : Type 0} {R : Cost → State → Effect → Type 0} (y : Cost) → IsPriced P R → (s : State) → R y s (still s)
+pub costs_nothing : {P : Type 0} {E : ℕ → Type 0} {R : Cost → State → Effect → Type 0} (y : Cost) → IsPriced P E R → (s : State) → R y s (still s)
 costs_nothing y k s = k.on_more none y s (still s) (λ p. from_none y) (k.on_still s)
 
-with_by : {P : Type 0} (R : Cost → State → Effect → Type 0) (x : Cost) → IsPriced P R → (f : Container → State → Effect) (n : ℕ) (s : State) (o : Option Container) → container_numbered n s ≡ o
+with_by : {P : Type 0} {E : ℕ → Type 0} (R : Cost → State → Effect → Type 0) (x : Cost) → IsPriced P E R → (f : Container → State → Effect) (n : ℕ) (s : State) (o : Option Container) → container_numbered n s ≡ o
     → ((c : Container) → container_numbered c.number s ≡ Some c → R x s (f c s)) → R x s (with_found o f s)
 with_by R x k f n s None e one = costs_nothing x k s
 with_by R x k f n s (Some c) e one = one c (subst (λ m. container_numbered m s ≡ Some c) (sym (found_number n c s.containers e)) e)
 
-pub costs_with : {P : Type 0} {R : Cost → State → Effect → Type 0} {x : Cost} {f : Container → State → Effect} → IsPriced P R → (n : ℕ)
+pub costs_with : {P : Type 0} {E : ℕ → Type 0} {R : Cost → State → Effect → Type 0} {x : Cost} {f : Container → State → Effect} → IsPriced P E R → (n : ℕ)
     → ((s : State) (c : Container) → container_numbered c.number s ≡ Some c → R x s (f c s)) → Costs R x (with_container n f)
 costs_with {R} {x} {f} k n one = record { holds = λ s. with_by R x k f n s (container_numbered n s) refl (one s) }
 
-pub costs_tell : {P : Type 0} {R : Cost → State → Effect → Type 0} → IsPriced P R → (event : Container → ℕ → Event) (n : ℕ) → ((c : Container) (t : ℕ) → (event c t).moment ≡ t) → Costs R (tells 1) (tell_of event n)
+pub costs_tell : {P : Type 0} {E : ℕ → Type 0} {R : Cost → State → Effect → Type 0} → IsPriced P E R → (event : Container → ℕ → Event) (n : ℕ) → ((c : Container) (t : ℕ) → (event c t).moment ≡ t) → Costs R (tells 1) (tell_of event n)
 costs_tell k event n at = costs_with k n (λ s c found. k.on_told s (event c s.clock) (at c s.clock))
 
-pub costs_mounts : {P : Type 0} {R : Cost → State → Effect → Type 0} → IsPriced P R → (a : Action) (n : ℕ) → Costs R (tells 16) (tell_mounts a n)
+pub costs_mounts : {P : Type 0} {E : ℕ → Type 0} {R : Cost → State → Effect → Type 0} → IsPriced P E R → (a : Action) (n : ℕ) → Costs R (tells 16) (tell_mounts a n)
 costs_mounts k a n = costs_with k n (λ s c found. k.on_mounts s a c found)
 
-pub costs_renew : {P : Type 0} {R : Cost → State → Effect → Type 0} → IsPriced P R → (n : ℕ) (f : Life → Life) → ((t : ℕ) → IsQuiet t f) → Costs R none (renew n f)
+pub costs_renew : {P : Type 0} {E : ℕ → Type 0} {R : Cost → State → Effect → Type 0} → IsPriced P E R → (n : ℕ) (f : Life → Life) → ((t : ℕ) → IsQuiet t f) → Costs R none (renew n f)
 costs_renew k n f mark = record { holds = λ s. k.on_renew s n f (mark s.clock) }
 
-pub costs_timers : {P : Type 0} {R : Cost → State → Effect → Type 0} → IsPriced P R → (g : State → List DueAction) → ((s : State) → AreFrom s.clock s.timers → AreFrom s.clock (g s))
+pub costs_timers : {P : Type 0} {E : ℕ → Type 0} {R : Cost → State → Effect → Type 0} → IsPriced P E R → (g : State → List DueAction) → ((s : State) → AreFrom s.clock s.timers → AreFrom s.clock (g s))
     → Costs R none (change (λ s. record s { timers = g s }))
 costs_timers k g keeps = record { holds = λ s. k.on_timers s (g s) (keeps s) }
 
 -- each costs nothing
-pub costs_each : {P : Type 0} {R : Cost → State → Effect → Type 0} {A : Type 0} {f : A → State → Effect} → IsPriced P R → ((x : A) → Costs R none (f x)) → (xs : List A) → Costs R none (each f xs)
+pub costs_each : {P : Type 0} {E : ℕ → Type 0} {R : Cost → State → Effect → Type 0} {A : Type 0} {f : A → State → Effect} → IsPriced P E R → ((x : A) → Costs R none (f x)) → (xs : List A) → Costs R none (each f xs)
 costs_each k one [] = costs_still k
 costs_each k one (x ∷ xs) = costs_then k (one x) (costs_each k one xs)

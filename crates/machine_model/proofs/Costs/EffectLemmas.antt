@@ -52,22 +52,22 @@ set_from moment r n t ds low h = all_placed is_listed_before (λ d. t ≤ d.mome
 abbrev pub launch_cost : Cost
 launch_cost = record { told = 17; spawns = 1; makes = 0; asks = 0; retries = 0 }
 
-program_costs : {P : Type 0} (R : Cost → State → Effect → Type 0) → IsPriced P R → (o : Option Program) (c : Container) (s : State) → container_numbered c.number s ≡ Some c → IsShortProgram o → R launch_cost s (launch_program o c s)
+program_costs : {P : Type 0} {E : ℕ → Type 0} (R : Cost → State → Effect → Type 0) → IsPriced P E R → (o : Option Program) (c : Container) (s : State) → container_numbered c.number s ≡ Some c → IsShortProgram o → R launch_cost s (launch_program o c s)
 program_costs R k None c s found short = costs_nothing launch_cost k s
 program_costs R k (Some program) c s found short =
     let rest = costs_then k (costs_mounts k Mount c.number) (costs_tell k (plain_event Start) c.number (λ c t. refl)) in
     k.on_after (record { told = 0; spawns = 1; makes = 0; asks = 0; retries = 0 }) (tells 17) s _ _ (k.on_launch s c program found short) (rest.holds _)
 
-pub costs_launch : {P : Type 0} {R : Cost → State → Effect → Type 0} → IsPriced P R → (n : ℕ) → Costs R launch_cost (launch n)
+pub costs_launch : {P : Type 0} {E : ℕ → Type 0} {R : Cost → State → Effect → Type 0} → IsPriced P E R → (n : ℕ) → Costs R launch_cost (launch n)
 costs_launch {R} k n = costs_with k n (λ s c found. program_costs R k (program_of c.life.words (c.life.starts + 1)) c s found (program_short c.life.words (c.life.starts + 1)))
 
-pub costs_launch_by_call : {P : Type 0} {R : Cost → State → Effect → Type 0} → IsPriced P R → (n : ℕ) → Costs R launch_cost (launch_by_call n)
+pub costs_launch_by_call : {P : Type 0} {E : ℕ → Type 0} {R : Cost → State → Effect → Type 0} → IsPriced P E R → (n : ℕ) → Costs R launch_cost (launch_by_call n)
 costs_launch_by_call k n =
     costs_then k (costs_renew k n afresh (λ t. record { mounts = λ l. refl; log = λ l. refl; starts = λ l. refl; restarts = λ l. omega arith; moments = λ l h. h })) (costs_launch k n)
 
 -- ---- a removal
 
-pub costs_destroy : {P : Type 0} {R : Cost → State → Effect → Type 0} → IsPriced P R → (n : ℕ) → Costs R (tells 1) (destroy n)
+pub costs_destroy : {P : Type 0} {E : ℕ → Type 0} {R : Cost → State → Effect → Type 0} → IsPriced P E R → (n : ℕ) → Costs R (tells 1) (destroy n)
 costs_destroy k n = costs_then k (costs_tell k (plain_event Destroy) n (λ c t. refl)) (costs_with {x = none} k n (λ s c found. k.on_destroyed s c found))
 
 -- ---- the end of a main process
@@ -78,7 +78,7 @@ end_cost = record { told = 36; spawns = 1; makes = 0; asks = 0; retries = 0 }
 abbrev goal_cost : Cost
 goal_cost = record { told = 19; spawns = 1; makes = 0; asks = 0; retries = 0 }
 
-costs_die : {P : Type 0} {R : Cost → State → Effect → Type 0} → IsPriced P R → (code n : ℕ) → Costs R none (die code n)
+costs_die : {P : Type 0} {E : ℕ → Type 0} {R : Cost → State → Effect → Type 0} → IsPriced P E R → (code n : ℕ) → Costs R none (die code n)
 costs_die {R} k code n =
     let gone : Costs R none (change (drop_process (OfContainer n))) = record { holds = λ s. k.on_drop s n } in
     let ends : Costs R none (λ s. renew n (ended code s.clock) s) =
@@ -87,13 +87,13 @@ costs_die {R} k code n =
     let all = costs_then k gone (costs_then k ends told) in
     record { holds = λ s. all.holds s }
 
-costs_follow : {P : Type 0} {R : Cost → State → Effect → Type 0} → IsPriced P R → (d : Decision) (n : ℕ) → Costs R none (follow d n)
+costs_follow : {P : Type 0} {E : ℕ → Type 0} {R : Cost → State → Effect → Type 0} → IsPriced P E R → (d : Decision) (n : ℕ) → Costs R none (follow d n)
 costs_follow k Stay n = costs_renew k n exited (λ t. record { mounts = λ l. refl; log = λ l. refl; starts = λ l. refl; restarts = λ l. omega arith; moments = λ l h. h })
 costs_follow k (Again delay) n =
     costs_then k (costs_renew k n (restarting delay) (λ t. record { mounts = λ l. refl; log = λ l. refl; starts = λ l. refl; restarts = λ l. omega arith; moments = λ l h. h }))
     (costs_timers k (λ s. with_timer (s.clock + delay) 3 n s.timers) (λ s h. set_from (s.clock + delay) 3 n s.clock s.timers (omega arith) h))
 
-costs_by_goal : {P : Type 0} {R : Cost → State → Effect → Type 0} → IsPriced P R → (g : Goal) (c : Container) → Costs R goal_cost (by_goal g c)
+costs_by_goal : {P : Type 0} {E : ℕ → Type 0} {R : Cost → State → Effect → Type 0} → IsPriced P E R → (g : Goal) (c : Container) → Costs R goal_cost (by_goal g c)
 costs_by_goal k Goal.Remove c = costs_most k (costs_destroy k c.number) refl
 costs_by_goal k Goal.Stop c =
     costs_most k
@@ -103,7 +103,7 @@ costs_by_goal k Goal.Restart c =
 costs_by_goal k Goal.None c =
     costs_most k (costs_at (λ s. follow (decision_at s.clock c.life) c.number) (λ s. (costs_follow k (decision_at s.clock c.life) c.number).holds s)) refl
 
-costs_by_status : {P : Type 0} {R : Cost → State → Effect → Type 0} → IsPriced P R → (u : Status) (c : Container) → Costs R goal_cost (by_status u c)
+costs_by_status : {P : Type 0} {E : ℕ → Type 0} {R : Cost → State → Effect → Type 0} → IsPriced P E R → (u : Status) (c : Container) → Costs R goal_cost (by_status u c)
 costs_by_status k Status.Dead c = record { holds = λ s. costs_nothing goal_cost k s }
 costs_by_status k Status.Created c = costs_by_goal k c.life.goal c
 costs_by_status k Status.Running c = costs_by_goal k c.life.goal c
@@ -112,13 +112,13 @@ costs_by_status k Status.Restarting c = costs_by_goal k c.life.goal c
 costs_by_status k Status.Removing c = costs_by_goal k c.life.goal c
 costs_by_status k Status.Exited c = costs_by_goal k c.life.goal c
 
-costs_decided : {P : Type 0} {R : Cost → State → Effect → Type 0} → IsPriced P R → (n : ℕ) → Costs R goal_cost (with_container n (λ c. by_status c.life.status c))
+costs_decided : {P : Type 0} {E : ℕ → Type 0} {R : Cost → State → Effect → Type 0} → IsPriced P E R → (n : ℕ) → Costs R goal_cost (with_container n (λ c. by_status c.life.status c))
 costs_decided k n = costs_with k n (λ s c found. (costs_by_status k c.life.status c).holds s)
 
-costs_end_execs : {P : Type 0} {R : Cost → State → Effect → Type 0} → IsPriced P R → (n : ℕ) → Costs R none (end_execs n)
+costs_end_execs : {P : Type 0} {E : ℕ → Type 0} {R : Cost → State → Effect → Type 0} → IsPriced P E R → (n : ℕ) → Costs R none (end_execs n)
 costs_end_execs k n = record { holds = λ s. k.on_end_execs s n }
 
-pub costs_end_main : {P : Type 0} {R : Cost → State → Effect → Type 0} → IsPriced P R → (code n : ℕ) → Costs R end_cost (end_main code n)
+pub costs_end_main : {P : Type 0} {E : ℕ → Type 0} {R : Cost → State → Effect → Type 0} → IsPriced P E R → (code n : ℕ) → Costs R end_cost (end_main code n)
 costs_end_main k code n =
     costs_then k (costs_end_execs k n)
     (costs_then k (costs_tell k (die_event code) n (λ c t. refl))
@@ -136,7 +136,7 @@ from_none x = record { told = omega arith; spawns = omega arith; makes = omega a
 none_plus : (x : Cost) → IsMost (plus none x) x
 none_plus x = record { told = omega arith; spawns = omega arith; makes = omega arith; asks = omega arith; retries = omega arith }
 
-step_at : {P : Type 0} (R : Cost → State → Effect → Type 0) (x : Cost) → IsPriced P R → (step : ℕ → Process → ProcessStep) (owner : Owner) → IsStep step → (s : State) (e : ProcessEffect)
+step_at : {P : Type 0} {E : ℕ → Type 0} (R : Cost → State → Effect → Type 0) (x : Cost) → IsPriced P E R → (step : ℕ → Process → ProcessStep) (owner : Owner) → IsStep step → (s : State) (e : ProcessEffect)
     → effect_of (step s.clock) (process_of owner s.processes) ≡ e → ((code : ℕ) → e ≡ Ended code → R x (stepped step owner s) (end_of owner code (stepped step owner s)))
     → R x s (after (still (stepped step owner s)) (by_effect e owner (stepped step owner s)))
 step_at R x k step owner is s Lives e ending =
@@ -154,7 +154,7 @@ ended_some : (f : Process → ProcessStep) (o : Option Process) (code : ℕ) →
 ended_some f None code e = absurd (cc)
 ended_some f (Some p) code e = (p, refl)
 
-pub costs_exec_step : {P : Type 0} {R : Cost → State → Effect → Type 0} → IsPriced P R → (step : ℕ → Process → ProcessStep) → IsStep step → (n : ℕ) → Costs R none (step_process step (OfExec n))
+pub costs_exec_step : {P : Type 0} {E : ℕ → Type 0} {R : Cost → State → Effect → Type 0} → IsPriced P E R → (step : ℕ → Process → ProcessStep) → IsStep step → (n : ℕ) → Costs R none (step_process step (OfExec n))
 costs_exec_step {R} k step is n = record {
   holds = λ s. step_at R none k step (OfExec n) is s (effect_of (step s.clock) (process_of (OfExec n) s.processes)) refl
       (λ code e.
@@ -163,23 +163,23 @@ costs_exec_step {R} k step is n = record {
       k.on_end_exec (stepped step (OfExec n) s) code n (f there.0) (changed_stands (OfExec n) f s.processes ∙ ap (option_map f) there.1));
 }
 
-pub costs_main_step : {P : Type 0} {R : Cost → State → Effect → Type 0} → IsPriced P R → (step : ℕ → Process → ProcessStep) → IsStep step → (n : ℕ) → Costs R end_cost (step_process step (OfContainer n))
+pub costs_main_step : {P : Type 0} {E : ℕ → Type 0} {R : Cost → State → Effect → Type 0} → IsPriced P E R → (step : ℕ → Process → ProcessStep) → IsStep step → (n : ℕ) → Costs R end_cost (step_process step (OfContainer n))
 costs_main_step {R} k step is n = record {
   holds = λ s. step_at R end_cost k step (OfContainer n) is s (effect_of (step s.clock) (process_of (OfContainer n) s.processes)) refl
       (λ code e. (costs_end_main k code n).holds (stepped step (OfContainer n) s));
 }
 
-pub costs_step : {P : Type 0} {R : Cost → State → Effect → Type 0} → IsPriced P R → (step : ℕ → Process → ProcessStep) → IsStep step → (owner : Owner) → Costs R end_cost (step_process step owner)
+pub costs_step : {P : Type 0} {E : ℕ → Type 0} {R : Cost → State → Effect → Type 0} → IsPriced P E R → (step : ℕ → Process → ProcessStep) → IsStep step → (owner : Owner) → Costs R end_cost (step_process step owner)
 costs_step k step is (OfContainer n) = costs_main_step k step is n
 costs_step k step is (OfExec n) = costs_most k (costs_exec_step k step is n) refl
 
 -- ---- thaws and signals
 
-costs_thaw_execs : {P : Type 0} {R : Cost → State → Effect → Type 0} → IsPriced P R → (n : ℕ) → Costs R none (thaw_execs n)
+costs_thaw_execs : {P : Type 0} {E : ℕ → Type 0} {R : Cost → State → Effect → Type 0} → IsPriced P E R → (n : ℕ) → Costs R none (thaw_execs n)
 costs_thaw_execs k n =
     costs_at (λ s. each (λ (x : Exec). step_process thaw (OfExec x.number)) (running_execs n s)) (λ s. (costs_each k (λ (x : Exec). costs_exec_step k thaw thaw_fits x.number) (running_execs n s)).holds s)
 
-costs_wake : {P : Type 0} {R : Cost → State → Effect → Type 0} → IsPriced P R → (n : ℕ) → Costs R (tells 1) (in_order (wake_parts n))
+costs_wake : {P : Type 0} {E : ℕ → Type 0} {R : Cost → State → Effect → Type 0} → IsPriced P E R → (n : ℕ) → Costs R (tells 1) (in_order (wake_parts n))
 costs_wake k n =
     costs_then k (costs_tell k (plain_event Unpause) n (λ c t. refl))
     (costs_then k (costs_renew k n running (λ t. record { mounts = λ l. refl; log = λ l. refl; starts = λ l. refl; restarts = λ l. omega arith; moments = λ l h. h })) (costs_then k (costs_thaw_execs k n) (costs_still k)))
@@ -187,13 +187,13 @@ costs_wake k n =
 abbrev pub meet_cost : Cost
 meet_cost = record { told = 37; spawns = 1; makes = 0; asks = 0; retries = 0 }
 
-pub costs_thaw : {P : Type 0} {R : Cost → State → Effect → Type 0} → IsPriced P R → (n : ℕ) → Costs R meet_cost (thaw_container n)
+pub costs_thaw : {P : Type 0} {E : ℕ → Type 0} {R : Cost → State → Effect → Type 0} → IsPriced P E R → (n : ℕ) → Costs R meet_cost (thaw_container n)
 costs_thaw k n = costs_then k (costs_wake k n) (costs_main_step k thaw thaw_fits n)
 
-pub costs_send : {P : Type 0} {R : Cost → State → Effect → Type 0} → IsPriced P R → (thaws : Bool) (number n : ℕ) → Costs R end_cost (send thaws number n)
+pub costs_send : {P : Type 0} {E : ℕ → Type 0} {R : Cost → State → Effect → Type 0} → IsPriced P E R → (thaws : Bool) (number n : ℕ) → Costs R end_cost (send thaws number n)
 costs_send k thaws number n = costs_main_step k (signal number thaws) (signal_fits number thaws) n
 
-costs_woken : {P : Type 0} {R : Cost → State → Effect → Type 0} → IsPriced P R → (u : Status) (n : ℕ) → Costs R (tells 1) (woken u n)
+costs_woken : {P : Type 0} {E : ℕ → Type 0} {R : Cost → State → Effect → Type 0} → IsPriced P E R → (u : Status) (n : ℕ) → Costs R (tells 1) (woken u n)
 costs_woken k Status.Paused n = costs_wake k n
 costs_woken k Status.Created n = costs_most k (costs_still k) refl
 costs_woken k Status.Running n = costs_most k (costs_still k) refl
@@ -202,7 +202,7 @@ costs_woken k Status.Removing n = costs_most k (costs_still k) refl
 costs_woken k Status.Exited n = costs_most k (costs_still k) refl
 costs_woken k Status.Dead n = costs_most k (costs_still k) refl
 
-pub costs_meet : {P : Type 0} {R : Cost → State → Effect → Type 0} → IsPriced P R → (number n : ℕ) → Costs R meet_cost (meet_signal number n)
+pub costs_meet : {P : Type 0} {E : ℕ → Type 0} {R : Cost → State → Effect → Type 0} → IsPriced P E R → (number n : ℕ) → Costs R meet_cost (meet_signal number n)
 costs_meet k number n = costs_with k n (λ s c found. (costs_then k (costs_woken k c.life.status n) (costs_send k true number n)).holds s)
 
 -- ---- a halt
@@ -211,7 +211,7 @@ least_from : (t moment : ℕ) (o : Option DueAction) → t ≤ moment → ((d : 
 least_from t moment None low h = low
 least_from t moment (Some d) low h = let other : t ≤ d.moment = h d refl in grind (arith, low, other)
 
-costs_deadline : {P : Type 0} {R : Cost → State → Effect → Type 0} → IsPriced P R → (z : ℤ) (n : ℕ) → Costs R none (change (set_deadline z n))
+costs_deadline : {P : Type 0} {E : ℕ → Type 0} {R : Cost → State → Effect → Type 0} → IsPriced P E R → (z : ℤ) (n : ℕ) → Costs R none (change (set_deadline z n))
 costs_deadline k (pos seconds) n =
     costs_timers k (λ s. with_timer (lesser (timer_of 1 n s) (s.clock + 1000 * seconds)) 1 n s.timers)
     (λ s h. set_from (lesser (timer_of 1 n s) (s.clock + 1000 * seconds)) 1 n s.clock s.timers
@@ -221,13 +221,13 @@ costs_deadline k (negsuc m) n = record { holds = k.on_still }
 abbrev pub halt_cost : Cost
 halt_cost = record { told = 38; spawns = 1; makes = 0; asks = 0; retries = 0 }
 
-pub costs_halt : {P : Type 0} {R : Cost → State → Effect → Type 0} → IsPriced P R → (mark : Life → Life) (seconds : Option ℤ) (signal : Option Signal) (c : Container) → ((t : ℕ) → IsQuiet t mark) → Costs R halt_cost (halt mark seconds signal c)
+pub costs_halt : {P : Type 0} {E : ℕ → Type 0} {R : Cost → State → Effect → Type 0} → IsPriced P E R → (mark : Life → Life) (seconds : Option ℤ) (signal : Option Signal) (c : Container) → ((t : ℕ) → IsQuiet t mark) → Costs R halt_cost (halt mark seconds signal c)
 costs_halt k mark seconds signal c is =
     costs_then k (costs_tell k (kill_event (signal_used signal c)) c.number (λ c t. refl))
     (costs_then k (costs_renew k c.number mark is)
     (costs_then k (costs_deadline k (seconds_used seconds c) c.number) (costs_meet k (signal_used signal c) c.number)))
 
-pub costs_cancel : {P : Type 0} {R : Cost → State → Effect → Type 0} → IsPriced P R → (n : ℕ) → Costs R none (cancel_restart n)
+pub costs_cancel : {P : Type 0} {E : ℕ → Type 0} {R : Cost → State → Effect → Type 0} → IsPriced P E R → (n : ℕ) → Costs R none (cancel_restart n)
 costs_cancel k n =
     costs_then k (costs_timers k (λ s. cleared 3 n s.timers) (λ s h. cleared_from 3 n s.clock s.timers h))
     (costs_renew k n cancelled (λ t. record { mounts = λ l. refl; log = λ l. refl; starts = λ l. refl; restarts = λ l. omega arith; moments = λ l h. h }))
@@ -237,21 +237,21 @@ costs_cancel k n =
 abbrev pub due_cost : Cost
 due_cost = record { told = 38; spawns = 1; makes = 0; asks = 0; retries = 1 }
 
-op_costs : {P : Type 0} (R : Cost → State → Effect → Type 0) → IsPriced P R → (s : State) (o : Option Entry) → R due_cost s (with_found o (λ (e : Entry). step_process run_due e.owner) s)
+op_costs : {P : Type 0} {E : ℕ → Type 0} (R : Cost → State → Effect → Type 0) → IsPriced P E R → (s : State) (o : Option Entry) → R due_cost s (with_found o (λ (e : Entry). step_process run_due e.owner) s)
 op_costs R k s None = costs_nothing due_cost k s
 op_costs R k s (Some e) = (costs_most {y = due_cost} k (costs_step k run_due due_fits e.owner) refl).holds s
 
-costs_stop_deadline : {P : Type 0} {R : Cost → State → Effect → Type 0} → IsPriced P R → (n : ℕ) → Costs R halt_cost (stop_deadline n)
+costs_stop_deadline : {P : Type 0} {E : ℕ → Type 0} {R : Cost → State → Effect → Type 0} → IsPriced P E R → (n : ℕ) → Costs R halt_cost (stop_deadline n)
 costs_stop_deadline k n =
     costs_then k (costs_timers k (λ s. cleared 1 n s.timers) (λ s h. cleared_from 1 n s.clock s.timers h)) (costs_then k (costs_tell k (kill_event 9) n (λ c t. refl)) (costs_meet k 9 n))
 
-costs_removal_deadline : {P : Type 0} {R : Cost → State → Effect → Type 0} → IsPriced P R → (n : ℕ) → Costs R none (removal_deadline n)
+costs_removal_deadline : {P : Type 0} {E : ℕ → Type 0} {R : Cost → State → Effect → Type 0} → IsPriced P E R → (n : ℕ) → Costs R none (removal_deadline n)
 costs_removal_deadline k n =
     costs_then k (costs_timers k (λ s. cleared 2 n s.timers) (λ s h. cleared_from 2 n s.clock s.timers h))
     (costs_then k (costs_renew k n died (λ t. record { mounts = λ l. refl; log = λ l. refl; starts = λ l. refl; restarts = λ l. omega arith; moments = λ l h. h }))
     (costs_with {x = none} k n (λ s c found. k.on_time_out s c)))
 
-costs_restart_timer : {P : Type 0} {R : Cost → State → Effect → Type 0} → IsPriced P R → (n : ℕ) → Costs R (record { told = 17; spawns = 1; makes = 0; asks = 0; retries = 1 }) (restart_timer n)
+costs_restart_timer : {P : Type 0} {E : ℕ → Type 0} {R : Cost → State → Effect → Type 0} → IsPriced P E R → (n : ℕ) → Costs R (record { told = 17; spawns = 1; makes = 0; asks = 0; retries = 1 }) (restart_timer n)
 costs_restart_timer {R} k n =
     let again : Costs R (record { told = 0; spawns = 0; makes = 0; asks = 0; retries = 1 }) (renew n restarted) = record { holds = λ s. k.on_retry s n } in
     costs_then k (costs_timers k (λ s. cleared 3 n s.timers) (λ s h. cleared_from 3 n s.clock s.timers h)) (costs_then k again (costs_launch k n))
@@ -260,7 +260,7 @@ by_test : {R : Cost → State → Effect → Type 0} {x : Cost} {e f : State →
 by_test true one other = one
 by_test false one other = other
 
-pub costs_due : {P : Type 0} {R : Cost → State → Effect → Type 0} → IsPriced P R → (d : DueAction) → Costs R due_cost (due_effect d)
+pub costs_due : {P : Type 0} {E : ℕ → Type 0} {R : Cost → State → Effect → Type 0} → IsPriced P E R → (d : DueAction) → Costs R due_cost (due_effect d)
 costs_due {R} k d =
     let op : Costs R due_cost (op_effect d.number) =
     costs_at (λ s. with_found (find (λ e. owner_number e.owner == d.number) s.processes) (λ (e : Entry). step_process run_due e.owner))

@@ -72,7 +72,7 @@ past_written s owner f (Ended code) h = h
 past_written s (OfExec n) f (Wrote stream payload) h = h
 past_written s (OfContainer n) f (Wrote stream payload) h = (past_updated s.clock n (λ name. name) (logged stream payload s.clock) s.containers (λ l past. past) h.0, h.1)
 
-pub past_priced : IsPriced (Unit {0}) KeepsPast
+pub past_priced : IsPriced (Unit {0}) (λ n. Unit {0}) KeepsPast
 past_priced = record {
   on_still = λ s h. h;
   on_after = λ x y s a b first second h. second (first h);
@@ -94,7 +94,7 @@ past_priced = record {
   on_destroyed = λ s c there h. (all_removed (λ (d : Container). IsPast s.clock d.life) (λ d. d.number == c.number) s.containers h.0, h.1);
   on_begun = λ s connection c asked there h. h;
   on_time_out = λ s c h. h;
-  on_end_ticket = λ s n h. h;
+  on_end_ticket = λ s n ends h. h;
   on_volumes = λ s name labels free h. (h.0, all_placed (λ (v : Volume). v.created ≤ s.clock) (new_volume name labels s.clock) s.volumes (omega arith) h.1);
   on_gone_volume = λ s name unused h. (h.0, all_removed (λ (v : Volume). v.created ≤ s.clock) (λ v. same_bytes v.name name) s.volumes h.1);
   on_made = λ s name spec most free stand h. (all_append (λ (c : Container). IsPast s.clock c.life) s.containers _ h.0 ((omega arith, tt, tt), tt), h.1);

@@ -140,7 +140,7 @@ raised : (P Q : Container → Type 0) (p : Container → Bool) (f : Container �
 raised P Q p f k m [] h = tt
 raised P Q p f k m (x ∷ xs) h = raised_by P Q (p x) x (f x) xs (update_first p f xs) (k x) (m x) h.0 (all_weaken P Q k xs h.1) (raised P Q p f k m xs h.1)
 
-pub counted_priced : IsPriced (Unit {0}) Counted
+pub counted_priced : IsPriced (Unit {0}) (λ n. Unit {0}) Counted
 counted_priced = record {
   on_still = λ s. counted_by none s s [] [] refl refl (omega arith) refl refl refl refl refl (λ b h. h) (λ b h. h);
   on_after = counted_after;
@@ -218,7 +218,7 @@ counted_priced = record {
     calls = refl;
   };
   on_time_out = λ s c. counted_by none s _ [] [] refl refl (mapped_least _ s.tickets) refl refl refl refl refl (λ b h. h) (λ b h. h);
-  on_end_ticket = λ s n. counted_by none s _ [] [] refl refl (removed_least (λ t. t.number == n) s.tickets) refl refl refl refl refl (λ b h. h) (λ b h. h);
+  on_end_ticket = λ s n ends. counted_by none s _ [] [] refl refl (removed_least (λ t. t.number == n) s.tickets) refl refl refl refl refl (λ b h. h) (λ b h. h);
   on_volumes = λ s name labels free. counted_by none s _ [] [] refl refl (omega arith) refl refl refl refl refl (λ b h. h) (λ b h. h);
   on_gone_volume = λ s name unused. counted_by none s _ [] [] refl refl (omega arith) refl refl refl refl refl (λ b h. h) (λ b h. h);
   on_made = λ s name spec few free stand. record {

@@ -183,7 +183,7 @@ below_more ns next h = all_weaken (λ k. k < next) (λ k. k < next + 1) (λ k lo
 all_mapped_filtered : (p : Exec → Bool) (P : ℕ → Type 0) (xs : List Exec) → AllByRecursion P (map (λ x. x.number) xs) → AllByRecursion P (map (λ x. x.number) (filter p xs))
 all_mapped_filtered p P xs h = all_mapped P (λ (x : Exec). x.number) (filter p xs) (all_filtered (λ (x : Exec). P x.number) p xs (all_of_mapped P (λ (x : Exec). x.number) xs h))
 
-pub paid_priced : IsPriced (Unit {0}) Paid
+pub paid_priced : IsPriced (Unit {0}) (λ n. Unit {0}) Paid
 paid_priced = record {
   on_still = λ s few. (few, omega arith);
   on_after = λ x y s a b first second few.
@@ -226,7 +226,7 @@ paid_priced = record {
   );
   on_begun = λ s connection c asked there few. (few, omega arith);
   on_time_out = λ s c few. (few, omega arith);
-  on_end_ticket = λ s n few. (few, omega arith);
+  on_end_ticket = λ s n ends few. (few, omega arith);
   on_volumes = λ s name labels free few. (few, omega arith);
   on_gone_volume = λ s name unused few. (few, omega arith);
   on_made = λ s name spec most free stand few. (

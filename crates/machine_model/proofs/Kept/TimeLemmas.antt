@@ -76,7 +76,7 @@ fed bytes t (Some q) p e fits low =
     let more : size (feed bytes t p) ≡ size p + length bytes = feed_size bytes t p in
     omega (arith, room, more, low)
 
-pub times_priced : IsPriced (Unit {0}) KeepsTimes
+pub times_priced : IsPriced (Unit {0}) (λ n. Unit {0}) KeepsTimes
 times_priced = record {
   on_still = λ s h. h;
   on_after = λ x y s a b first second h. second (first h);
@@ -104,7 +104,7 @@ times_priced = record {
   on_destroyed = λ s c there h. h;
   on_begun = λ s connection c asked there h. h;
   on_time_out = λ s c h. h;
-  on_end_ticket = λ s n h. h;
+  on_end_ticket = λ s n ends h. h;
   on_volumes = λ s name labels free h. h;
   on_gone_volume = λ s name unused h. h;
   on_made = λ s name spec most free stand h. h;
