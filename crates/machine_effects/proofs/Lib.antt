@@ -32,3 +32,4 @@ pub mod NameLemmas
 pub mod IdLemmas
 pub mod NewExecLemmas
 pub mod VolumeLemmas
+pub mod ForceLemmas

@@ -13,6 +13,7 @@ pub mod NewVolumes
 pub mod Ops
 pub mod Outputs
 pub mod Places
+pub mod Removing
 pub mod Rooms
 pub mod Running
 pub mod Settled

@@ -11,6 +11,8 @@ mod halt;
 mod launch;
 mod meet;
 mod op;
+mod remove;
+mod rename;
 mod settle;
 mod ticket;
 mod volumes;

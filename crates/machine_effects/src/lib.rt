@@ -35,7 +35,7 @@ mod tickets;
 pub use container_table::Held;
 pub use containers::Containers;
 pub use death::Death;
-pub use events::{exec_event, kill_event, plain_event, volume_event};
+pub use events::{exec_event, kill_event, plain_event, rename_event, volume_event};
 pub use execs::Execs;
 pub use foretell::{add, tell_launch};
 pub use foretell_calls::tell_again;

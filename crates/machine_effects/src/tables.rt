@@ -349,6 +349,7 @@ impl Tables {
     pub fn make_room(&mut self, alloc: Global) -> Result<(), NoMemory>
         ensures state { self.new.state ≡ self.old.state }
         ensures room { OnOk result (HasRoom self.new) }
+        ensures tickets { self.new.room.tickets ≡ self.old.room.tickets }
         ensures moments { self.new.room.moments ≡ self.old.room.moments }
     {
         if self.scratch.reserve(self.execs.len()).is_err() {

@@ -1,14 +1,24 @@
 // The removal of a container.
-ghost use Rattle.std.specs.Prelude.{◌≡◌};
+ghost use Rattle.std.specs.Prelude.{◌≡◌, OnOk};
 ghost use Rattle.machine_model.specs.Effects.Destroy.{destroy};
 ghost use Rattle.machine_effects.specs.Fit.{CanRemove};
+ghost use Rattle.machine_effects.specs.Removing.{HasRemovalRoom};
 
 use crate::held::Fate;
 use crate::kit::Kit;
 use crate::tables::Tables;
-use engine_text::{KeptLogs, OwnedLog, OwnedLogs, Owner, Removed};
+use engine_text::{KeptLogs, NoMemory, OwnedLog, OwnedLogs, Owner, Removed};
 
 impl Tables {
+    /// Makes room for one removal more, and for what is kept of it.
+    pub fn make_removal_room(&mut self) -> Result<(), NoMemory>
+        ensures state { self.new.state ≡ self.old.state }
+        ensures room { OnOk result (HasRemovalRoom self.new) }
+        ensures moments { self.new.room.moments ≡ self.old.room.moments }
+    {
+        self.removals.reserve()
+    }
+
     /// The container is gone; what is kept of it goes into the kit's lists.
     pub fn destroy(&mut self, number: u64, kit: Kit)
         requires { CanRemove number kit self.old.room self.old.state }
