@@ -8,6 +8,8 @@ pub mod ListedLemmas
 pub mod MakeLemmas
 pub mod ReadyLemmas
 pub mod CommitLemmas
+pub mod RemoveLemmas
+pub mod RenameLemmas
 pub mod RestartLemmas
 pub mod StartLemmas
 pub mod StopLemmas

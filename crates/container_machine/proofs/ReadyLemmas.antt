@@ -1,5 +1,5 @@
 -- A call that is made ready may be committed.
-use Rattle.std.proofs.Common.{◌≡◌, ℕ, ◌+◌, ◌<◌, ◌≤◌, ◌^◌, List, [], ◌∷◌, Option, refl, ap, sym, ◌∙◌, subst, arith, length}
+use Rattle.std.proofs.Common.{◌≡◌, ℕ, ◌+◌, ◌<◌, ◌≤◌, ◌^◌, List, [], ◌∷◌, Option, None, refl, ap, sym, ◌∙◌, subst, arith, length}
 use Rattle.std.specs.List.{AllByRecursion}
 use Rattle.engine_text.specs.Scripts.{Program}
 use Rattle.engine_text.specs.declared.call.Call.{Call}
@@ -11,8 +11,10 @@ use Rattle.machine_model.specs.Call.{outcome_of}
 use Rattle.machine_model.specs.Consistency.{IsConsistent}
 use Rattle.machine_model.specs.History.{IsLawful, greatest_moment}
 use Rattle.machine_model.specs.Step.{at_moment, call_outcome}
-use Rattle.machine_effects.specs.Fit.{AreFew, AreTimely, CanSettle, IsScriptOf}
+use Rattle.machine_effects.specs.Fit.{AreFew, AreTimely, CanRemove, CanSettle, IsScriptOf}
+use Rattle.machine_effects.specs.Kits.{IsKitOf}
 use Rattle.machine_effects.specs.Memory.{Memory, HasRoom, standing}
+use Rattle.machine_effects.specs.Removing.{HasRemovalRoom}
 use Rattle.machine_effects.specs.declared.kit.Kit.{Kit}
 use Rattle.machine_effects.proofs.ListLemmas.{All-imp}
 use Rattle.container_machine.specs.Calls.Start.{CanStart}
@@ -42,6 +44,10 @@ settles n kit t m serves k until room = record {
   execs = room.execs;
   timers = room.timers;
 }
+
+-- the container may be removed
+removes : (n : ℕ) (kit : Kit) (t : ℕ) (m : Memory) → IsKitOf n None m.state kit → HasRemovalRoom m → CanRemove n kit m.room (at_moment t m.state)
+removes n kit t m of room = record { removed = room.removed; kept = room.kept; numbers = of.numbers; empty = of.empty; logs = of.logs }
 
 -- the container may be launched
 starts : (n : ℕ) (script : Option Program) (t : ℕ) (m : Memory) → IsScriptOf n script m.state → IsConsistent m.state → HasRoom m → CanStart n script (standing t m)
@@ -84,6 +90,15 @@ fits (Plan.Kill n sent last kit) t m brings k at room = record {
 }
 fits (Plan.KillRestarting n sent) t m brings k at room = tt
 fits (Plan.Pause n) t m brings k at room = room.execs
+fits (Plan.Remove n kit) t m brings k at room = removes n kit t m brings room
+fits (Plan.RemoveRestarting n kit) t m brings k at room = removes n kit t m brings room
+fits (Plan.RemoveForced connection n kit) t m brings k at room = record {
+  begin = record { room = room.ticket; number = omega (arith, k.numbers.next_ticket, k.counts.steps) };
+  timely = timely t m.state at;
+  fit = settles n kit t m brings k at.until room.end;
+  spare = room.end.spare;
+}
+fits (Plan.Rename n name) t m brings k at room = brings
 fits (Plan.Restart n script) t m brings k at room = starts n script t m brings k room
 fits (Plan.RestartRestarting n script) t m brings k at room = starts n script t m brings k room
 fits (Plan.Start n script) t m brings k at room = starts n script t m brings k room

@@ -2,6 +2,8 @@ pub mod Create
 pub mod Execs
 pub mod Kill
 pub mod List
+pub mod Remove
+pub mod Rename
 pub mod Restart
 pub mod Start
 pub mod Stop

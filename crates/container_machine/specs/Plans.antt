@@ -8,21 +8,27 @@ use Rattle.machine_model.specs.Calls.Pause.{pause}
 use Rattle.machine_model.specs.Calls.Restart.{launch_again}
 use Rattle.machine_model.specs.Calls.Take.{end_ticket}
 use Rattle.machine_model.specs.Calls.Volumes.{remove_volume}
-use Rattle.machine_effects.specs.Fit.{IsScriptOf, exec_numbers, outputs_of}
+use Rattle.machine_effects.specs.Fit.{CanRemove, IsScriptOf, exec_numbers, outputs_of}
 use Rattle.machine_effects.specs.Halts.{HasHaltRoom}
 use Rattle.machine_effects.specs.Held.{container_in, output_in}
+use Rattle.machine_effects.specs.Kits.{IsKitOf}
 use Rattle.machine_effects.specs.Memory.{Memory, HasRoom}
 use Rattle.machine_effects.specs.NewExecs.{CanAddExec, HasExecRoom, empty_output}
 use Rattle.machine_effects.specs.NewVolumes.{CanAdd, HasAddRoom}
+use Rattle.machine_effects.specs.Removing.{HasForceRoom, HasRemovalRoom}
 use Rattle.machine_effects.specs.Tickets.{CanBegin}
 use Rattle.machine_effects.specs.declared.kit.Kit.{Kit}
+use Rattle.machine_model.specs.Effects.Destroy.{destroy}
 use Rattle.machine_model.specs.Effects.Launch.{launch_by_call}
 use Rattle.machine_model.specs.Effects.Meet.{thaw_container}
+use Rattle.machine_model.specs.Names.{holder}
 use Rattle.container_machine.specs.Calls.Create.{IsNew}
 use Rattle.container_machine.specs.Calls.Execs.{add_exec}
 use Rattle.container_machine.specs.Calls.Restart.{restart_restarting_effect}
 use Rattle.container_machine.specs.Calls.Start.{CanStart}
 use Rattle.container_machine.specs.Calls.Kill.{kill_effect, kill_restarting_effect, CanKill}
+use Rattle.container_machine.specs.Calls.Remove.{CanForce, force_effect, give_up_effect}
+use Rattle.container_machine.specs.Calls.Rename.{rename_effect}
 use Rattle.container_machine.specs.Calls.Stop.{CanStop, halt_effect, stop_restarting_effect}
 use Rattle.container_machine.specs.Calls.Unpause.{CanThaw}
 use Rattle.container_machine.specs.Calls.Volumes.{CanMakeVolume, CanRemoveVolume, HasVolumeRoom}
@@ -39,6 +45,10 @@ plan_effect (Plan.Halt connection n halting sent seconds kit) = halt_effect conn
 plan_effect (Plan.Kill n sent last kit) = kill_effect n sent last
 plan_effect (Plan.KillRestarting n sent) = kill_restarting_effect n sent
 plan_effect (Plan.Pause n) = pause n
+plan_effect (Plan.Remove n kit) = destroy n
+plan_effect (Plan.RemoveForced connection n kit) = force_effect connection n
+plan_effect (Plan.RemoveRestarting n kit) = give_up_effect n
+plan_effect (Plan.Rename n name) = rename_effect n name
 plan_effect (Plan.Restart n script) = launch_again n
 plan_effect (Plan.RestartRestarting n script) = restart_restarting_effect n
 plan_effect (Plan.Start n script) = launch_by_call n
@@ -58,6 +68,10 @@ Fits (Plan.Halt connection n halting sent seconds kit) m = CanStop n sent kit m
 Fits (Plan.Kill n sent last kit) m = CanKill n sent kit m
 Fits (Plan.KillRestarting n sent) m = ⊤
 Fits (Plan.Pause n) m = length m.state.execs ≤ m.room.scratch
+Fits (Plan.Remove n kit) m = CanRemove n kit m.room m.state
+Fits (Plan.RemoveForced connection n kit) m = CanForce n kit m
+Fits (Plan.RemoveRestarting n kit) m = CanRemove n kit m.room m.state
+Fits (Plan.Rename n name) m = holder name m.state.containers ≡ None
 Fits (Plan.Restart n script) m = CanStart n script m
 Fits (Plan.RestartRestarting n script) m = CanStart n script m
 Fits (Plan.Start n script) m = CanStart n script m
@@ -77,6 +91,10 @@ HasRoomFor (Plan.Halt connection n halting sent seconds kit) m = HasHaltRoom m
 HasRoomFor (Plan.Kill n sent last kit) m = HasRoom m
 HasRoomFor (Plan.KillRestarting n sent) m = ⊤
 HasRoomFor (Plan.Pause n) m = HasRoom m
+HasRoomFor (Plan.Remove n kit) m = HasRemovalRoom m
+HasRoomFor (Plan.RemoveForced connection n kit) m = HasForceRoom m
+HasRoomFor (Plan.RemoveRestarting n kit) m = HasRemovalRoom m
+HasRoomFor (Plan.Rename n name) m = ⊤
 HasRoomFor (Plan.Restart n script) m = HasRoom m
 HasRoomFor (Plan.RestartRestarting n script) m = HasRoom m
 HasRoomFor (Plan.Start n script) m = HasRoom m
@@ -103,6 +121,10 @@ Brings (Plan.Halt connection n halting sent seconds kit) t s = Serves n kit s ×
 Brings (Plan.Kill n sent last kit) t s = Serves n kit s × (sent.number < 32)
 Brings (Plan.KillRestarting n sent) t s = ⊤
 Brings (Plan.Pause n) t s = ⊤
+Brings (Plan.Remove n kit) t s = IsKitOf n None s kit
+Brings (Plan.RemoveForced connection n kit) t s = Serves n kit s
+Brings (Plan.RemoveRestarting n kit) t s = IsKitOf n None s kit
+Brings (Plan.Rename n name) t s = holder name s.containers ≡ None
 Brings (Plan.Restart n script) t s = IsScriptOf n script s
 Brings (Plan.RestartRestarting n script) t s = IsScriptOf n script s
 Brings (Plan.Start n script) t s = IsScriptOf n script s

@@ -5,6 +5,8 @@ pub mod inspect;
 pub mod kill;
 pub mod list;
 pub mod pause;
+pub mod remove;
+pub mod rename;
 pub mod restart;
 pub mod start;
 pub mod stop;

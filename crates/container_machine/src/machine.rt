@@ -113,6 +113,12 @@ impl Machine {
             Call::Pause { target } => {
                 calls::pause::prepare(&self.tables, alloc, moment, target.as_str())
             }
+            Call::Remove { target, force } => {
+                calls::remove::prepare(&self.tables, alloc, conn, moment, target.as_str(), *force)
+            }
+            Call::Rename { target, name } => {
+                calls::rename::prepare(&self.tables, alloc, moment, target.as_str(), name.as_str())
+            }
             Call::Restart {
                 target,
                 wait,
@@ -192,6 +198,10 @@ impl Machine {
             Plan::KillRestarting { .. } => Ok(()),
             Plan::Kill { .. } => self.tables.make_room(alloc),
             Plan::Pause { .. } => self.tables.make_room(alloc),
+            Plan::Remove { .. } => self.tables.make_removal_room(),
+            Plan::RemoveForced { .. } => self.tables.make_force_room(alloc),
+            Plan::RemoveRestarting { .. } => self.tables.make_removal_room(),
+            Plan::Rename { .. } => Ok(()),
             Plan::Restart { .. } => self.tables.make_room(alloc),
             Plan::RestartRestarting { .. } => self.tables.make_room(alloc),
             Plan::Start { .. } => self.tables.make_room(alloc),

@@ -43,6 +43,23 @@ pub enum Plan {
     Pause {
         number: u64,
     },
+    Remove {
+        number: u64,
+        kit: Kit,
+    },
+    RemoveForced {
+        conn: u32,
+        number: u64,
+        kit: Kit,
+    },
+    RemoveRestarting {
+        number: u64,
+        kit: Kit,
+    },
+    Rename {
+        number: u64,
+        name: Text,
+    },
     Restart {
         number: u64,
         script: Option<Script>,
@@ -117,6 +134,21 @@ pub fn perform(tables: &mut Tables, plan: Plan) -> Option<Death>
         }
         Plan::Pause { number } => {
             calls::pause::perform(tables, number);
+            None
+        }
+        Plan::Remove { number, kit } => {
+            calls::remove::perform(tables, number, kit);
+            None
+        }
+        Plan::RemoveForced { conn, number, kit } => {
+            calls::remove::perform_forced(tables, conn, number, kit)
+        }
+        Plan::RemoveRestarting { number, kit } => {
+            calls::remove::perform_given_up(tables, number, kit);
+            None
+        }
+        Plan::Rename { number, name } => {
+            calls::rename::perform(tables, number, name);
             None
         }
         Plan::Restart { number, script } => {

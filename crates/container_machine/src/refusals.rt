@@ -93,6 +93,25 @@ pub fn not_running(alloc: Global, id: &str) -> Result<Text, NoMemory>
     join(alloc, "Container ", id, " is not running")
 }
 
+/// A rename to the name that the container has.
+pub fn same_name(alloc: Global) -> Result<Text, NoMemory>
+    ensures { IfOk result (λ t. t ≡ spec.same_name) }
+{
+    Text::of(alloc, "same name")
+}
+
+/// A container that runs isn't removed without force.
+pub fn running_removal(alloc: Global, id: &str) -> Result<Text, NoMemory>
+    ensures { IfOk result (λ t. t ≡ spec.running_removal id.now) }
+{
+    join(
+        alloc,
+        "You cannot remove a running container ",
+        id,
+        ". Stop the container before attempting removal or force remove",
+    )
+}
+
 /// The removal of a container took too long.
 pub fn removal_timed_out(alloc: Global, id: &str) -> Result<Text, NoMemory>
     ensures { IfOk result (λ t. t ≡ spec.removal_timed_out id.now) }

@@ -1,0 +1,145 @@
+-- A removal that is made ready is the removal's outcome.
+use Rattle.std.proofs.Common.{◌≡◌, ℕ, ◌+◌, Bool, true, false, List, [], ◌∷◌, ◌++◌, Option, Some, None, refl, ap, sym, ◌∙◌, subst}
+use Rattle.std.specs.Prelude.{Result, Ok, Err, IfOk}
+use Rattle.engine_text.specs.Scripts.{Program}
+use Rattle.engine_text.specs.declared.container.Container.{Container}
+use Rattle.engine_text.specs.declared.container.Goal.{Goal}
+use Rattle.engine_text.specs.declared.event.Action.{Action}
+use Rattle.engine_text.specs.declared.event.Event.{Event}
+use Rattle.engine_text.specs.declared.memory.NoMemory.{NoMemory}
+use Rattle.engine_text.specs.declared.owner.Owner.{Owner}
+use Rattle.engine_text.specs.declared.reply.Reply.TheVariants.{Answer, Begun}
+use Rattle.engine_text.specs.declared.ticket.Asked.{Asked}
+use Rattle.proc_kernel.specs.Catalogue.{program_of}
+use Rattle.proc_kernel.specs.Foretelling.{code_at}
+use Rattle.proc_kernel.specs.Processes.{signal}
+use Rattle.proc_kernel.specs.Tables.{process_of}
+use Rattle.machine_model.specs.Calls.Remove.{kill_to_remove, remove_dead}
+use Rattle.machine_model.specs.Consistency.{IsConsistent}
+use Rattle.machine_model.specs.Effects.Cancel.{cancel_restart}
+use Rattle.machine_model.specs.Effects.Destroy.{destroy}
+use Rattle.machine_model.specs.EventTexts.{plain_event}
+use Rattle.machine_model.specs.Outcome.{Outcome, done, message_text}
+use Rattle.machine_model.specs.Refusals.{being_removed}
+use Rattle.machine_model.specs.State.{State, container_numbered, is_live}
+use Rattle.machine_model.specs.Step.{at_moment}
+use Rattle.machine_model.specs.Tickets.{begins, begun}
+use Rattle.machine_effects.specs.Fit.{AreTimely, CanRemove, CanSettle}
+use Rattle.machine_effects.specs.Kits.{IsKitOf}
+use Rattle.machine_effects.specs.Memory.{Room}
+use Rattle.machine_effects.specs.ToldKill.{aimed, told_kill}
+use Rattle.machine_effects.specs.declared.kit.Kit.{Kit}
+use Rattle.machine_effects.proofs.CallToldLemmas.{destroy_told, remove_restarting_told}
+use Rattle.machine_effects.proofs.DiedLemmas.{none_destroy}
+use Rattle.machine_effects.proofs.HaltLemmas.{settle_begun, timely_begun}
+use Rattle.machine_effects.proofs.KillToldLemmas.{kill_begun, kill_to_remove_told, once_begun}
+use Rattle.machine_effects.proofs.SettleLemmas.{remove_alike}
+use Rattle.container_machine.specs.Calls.Remove.{give_up_effect}
+use Rattle.container_machine.specs.Making.{IsAnswer, Makes}
+use Rattle.container_machine.specs.Plans.{plan_effect, Brings}
+use Rattle.container_machine.specs.declared.plan.Plan.{Plan}
+use Rattle.container_machine.specs.declared.prepared.Prepared.{Prepared}
+use Rattle.container_machine.proofs.MakeLemmas.{once_at, serves}
+use Rattle.container_machine.proofs.StartLemmas.{made_answer}
+
+-- ---- the effects
+
+-- no main process ends in it
+pub none_gone : (n : ℕ) (s : State) → [] ≡ (destroy n s).died
+none_gone n s = sym (none_destroy n s)
+
+pub none_given_up : (n : ℕ) (s : State) → [] ≡ (give_up_effect n s).died
+none_given_up n s = sym (none_destroy n (cancel_restart n s).state)
+
+-- what a removal needs stays where its restart is given up
+pub removes_cancelled : (n : ℕ) (kit : Kit) (room other : Room) (s z : State) → CanRemove n kit room s → z ≡ (cancel_restart n s).state → other ≡ room → CanRemove n kit other z
+removes_cancelled n kit room other s z h is same =
+    subst (λ (r : Room). CanRemove n kit r z) (sym same)
+    (subst (λ (y : State). CanRemove n kit room y) (sym is)
+    (remove_alike n kit room s (cancel_restart n s).state (record { removed = refl; kept = refl; numbers = refl; outputs = refl }) h))
+
+-- ---- what is made ready
+
+one_told : (empty out told : List Event) (e d : Event) → empty ≡ [] → out ≡ empty ++ e ∷ [] → e ≡ d → told ≡ d ∷ [] → out ≡ told
+one_told empty out told e d h1 h2 h3 h4 = h2 ∙ (ap (λ l. l ++ e ∷ []) h1 ∙ (ap (λ x. x ∷ []) h3 ∙ sym h4))
+
+pub makes_gone : (p : Prepared) (t : ℕ) (s : State) (c : Container) (kit : Kit) (empty : List Event) (e : Event) → container_numbered c.number s ≡ Some c
+    → p.moment ≡ t → p.plan ≡ Plan.Remove c.number kit → IsKitOf c.number None s kit → p.reply ≡ Answer 204 [] → empty ≡ [] → p.events.items ≡ empty ++ e ∷ [] → e ≡ plain_event Action.Destroy c t
+    → Makes p t s (done (destroy c.number))
+makes_gone p t s c kit empty e found moment plan of reply h1 h2 h3 =
+    let z : State = at_moment t s in
+    record {
+      moment = moment;
+      effect = ap (λ q. plan_effect q z) plan;
+      events = one_told empty p.events.items (destroy c.number z).events e (plain_event Action.Destroy c t) h1 h2 h3 (destroy_told c.number z c found);
+      reply = reply;
+      brings = subst (λ q. Brings q t s) (sym plan) of;
+    }
+
+pub makes_given_up : (p : Prepared) (t : ℕ) (s : State) (c : Container) (kit : Kit) (empty : List Event) (e : Event) → container_numbered c.number s ≡ Some c
+    → p.moment ≡ t → p.plan ≡ Plan.RemoveRestarting c.number kit → IsKitOf c.number None s kit → p.reply ≡ Answer 204 [] → empty ≡ [] → p.events.items ≡ empty ++ e ∷ [] → e ≡ plain_event Action.Destroy c t
+    → Makes p t s (done (give_up_effect c.number))
+makes_given_up p t s c kit empty e found moment plan of reply h1 h2 h3 =
+    let z : State = at_moment t s in
+    record {
+      moment = moment;
+      effect = ap (λ q. plan_effect q z) plan;
+      events = one_told empty p.events.items (give_up_effect c.number z).events e (plain_event Action.Destroy c t) h1 h2 h3 (remove_restarting_told c.number z c found);
+      reply = reply;
+      brings = subst (λ q. Brings q t s) (sym plan) of;
+    }
+
+-- ---- of a dead container
+
+-- the outcome goes by whether a process is left
+made_dead : (p : Prepared) (t : ℕ) (s : State) (c : Container) (live : Bool) → live ≡ is_live (Owner.Container c.number) s → Makes p t s (remove_dead live c)
+    → Makes p t s (λ z. remove_dead (is_live (Owner.Container c.number) z) c z)
+made_dead p t s c live is h =
+    let z : State = at_moment t s in
+    let same : remove_dead live c z ≡ remove_dead (is_live (Owner.Container c.number) s) c z = ap (λ b. remove_dead b c z) is in
+    record {
+      moment = h.moment;
+      effect = h.effect ∙ ap (λ (o : Outcome). o.effect) same;
+      events = h.events ∙ ap (λ (o : Outcome). o.effect.events) same;
+      reply = h.reply ∙ ap (λ (o : Outcome). o.reply) same;
+      brings = h.brings;
+    }
+
+pub dead_refused : (r : Result Prepared NoMemory) (t : ℕ) (s : State) (c : Container) → true ≡ is_live (Owner.Container c.number) s → IfOk r (λ p. IsAnswer t 409 (message_text (being_removed c.id)) p)
+    → IfOk r (λ p. Makes p t s (λ z. remove_dead (is_live (Owner.Container c.number) z) c z))
+dead_refused (Ok p) t s c is h = made_dead p t s c true is (made_answer p t s (remove_dead true c) 409 (message_text (being_removed c.id)) h (λ z. refl))
+dead_refused (Err e) t s c is h = tt
+
+pub dead_gone : (r : Result Prepared NoMemory) (t : ℕ) (s : State) (c : Container) → false ≡ is_live (Owner.Container c.number) s → IfOk r (λ p. Makes p t s (done (destroy c.number)))
+    → IfOk r (λ p. Makes p t s (λ z. remove_dead (is_live (Owner.Container c.number) z) c z))
+dead_gone (Ok p) t s c is h = made_dead p t s c false is h
+dead_gone (Err e) t s c is h = tt
+
+-- ---- of a container that lives
+
+pub forced_timely : (connection n : ℕ) (s z : State) → z ≡ begun connection n Asked.Remove s → AreTimely s → AreTimely z
+forced_timely connection n s z is h = subst (λ (y : State). AreTimely y) (sym is) (timely_begun connection n Asked.Remove s h)
+
+pub forced_fit : (connection n : ℕ) (kit : Kit) (room other : Room) (s z : State) → z ≡ begun connection n Asked.Remove s → other ≡ room → CanSettle n kit room s → CanSettle n kit other z
+forced_fit connection n kit room other s z is same h =
+    subst (λ (r : Room). CanSettle n kit r z) (sym same) (subst (λ (y : State). CanSettle n kit room y) (sym is) (settle_begun n kit room connection n Asked.Remove s h))
+
+pub makes_forced : (p : Prepared) (connection t : ℕ) (s : State) (c : Container) (script : Option Program) (code : Option ℕ) (kit : Kit) (empty : List Event)
+    → IsConsistent s → container_numbered c.number s ≡ Some c → script ≡ program_of c.life.words (c.life.starts + 1)
+    → ((u : ℕ) → code ≡ code_at (signal 9 true u) (process_of (Owner.Container c.number) s.processes))
+    → p.moment ≡ t → p.plan ≡ Plan.RemoveForced connection c.number kit → IsKitOf c.number script s kit → p.reply ≡ Begun s.next_ticket
+    → empty ≡ [] → p.events.items ≡ empty ++ told_kill 9 code (aimed Goal.Remove c) script (at_moment t s)
+    → Makes p t s (begins connection c Asked.Remove (kill_to_remove c.number))
+makes_forced p connection t s c script code kit empty k found named is moment plan of reply none events =
+    let z : State = at_moment t s in
+    let y : State = begun connection c.number Asked.Remove z in
+    let told : (kill_to_remove c.number y).events ≡ told_kill 9 code (aimed Goal.Remove c) script z =
+    kill_to_remove_told c.number y c script code found named (once_begun connection c.number Asked.Remove z (once_at t s k)) (is t)
+    ∙ kill_begun connection c.number Asked.Remove 9 code (aimed Goal.Remove c) script z in
+    record {
+      moment = moment;
+      effect = ap (λ q. plan_effect q z) plan;
+      events = events ∙ (ap (λ l. l ++ told_kill 9 code (aimed Goal.Remove c) script z) none ∙ sym told);
+      reply = reply;
+      brings = subst (λ q. Brings q t s) (sym plan) (serves c.number s c script kit found named of);
+    }
