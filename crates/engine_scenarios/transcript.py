@@ -131,9 +131,9 @@ def shown(n, name, words, status, code=0, pid=0, started=NEVER, finished=NEVER, 
         "HostConfig": {"AutoRemove": False, "RestartPolicy": {"MaximumRetryCount": policy[1], "Name": policy[0]}},
         "Id": id_of(n), "Image": "engine/tools:latest", "Mounts": list(mounts), "Name": f"/{name}", "Path": words[0],
         "RestartCount": restarts,
-        "State": {"Dead": False, "Error": "", "ExitCode": code, "FinishedAt": finished, "OOMKilled": False,
+        "State": {"Dead": status == "dead", "Error": "", "ExitCode": code, "FinishedAt": finished, "OOMKilled": False,
                   "Paused": status == "paused", "Pid": pid, "Restarting": status == "restarting",
-                  "Running": status in ("running", "paused", "restarting"), "StartedAt": started, "Status": status}}))
+                  "Running": pid != 0 or status == "restarting", "StartedAt": started, "Status": status}}))
 
 
 def item(n, name, words, status, text, labels=None, mounts=()):
@@ -394,6 +394,56 @@ scenario("restart_given_up", [create("web", body=with_policy(FAILS, ("always", 0
                               post("/containers/web/kill?signal=15"), get("/containers/web/json")],
          [created(0), answer(204), answer(204),
           shown(0, "web", FAILS, "exited", code=1, started=NOW, finished=NOW, policy=("always", 0))])
+
+# a rename, with a slash or without, to a name that is free; the old name is free then
+ALWAYS = ("always", 0)
+SAME_NAME = message(400, "same name")
+scenario("rename", [create("web", LONG), create("db"), post("/containers/web/rename?name=web"),
+                    post("/containers/web/rename?name=%2Fweb"), post("/containers/web/rename?name=db"),
+                    post("/containers/web/rename?name=%2Fdb"), post("/containers/web/rename"),
+                    post("/containers/web/rename?name=%2Ff"), post("/containers/web/rename?name=front"),
+                    get("/containers/web/json"), get("/containers/front/json"), get("/containers/json?all=1"), create("web"),
+                    post("/containers/nobody/rename?name=other"), post(f"/containers/{id_of(0)}/rename?name=%2Fback-1"),
+                    get("/containers/%2Fback-1/json"), filtered({"name": ["front"], "status": ["created"]}),
+                    filtered({"name": ["back"], "status": ["created"]})],
+         [created(0), created(1), SAME_NAME, SAME_NAME, conflict("db", 1), conflict("db", 1),
+          message(400, "Invalid container name ()"), message(400, "Invalid container name (/f)"), answer(204),
+          message(404, "No such container: web"), shown(0, "front", LONG, "created"),
+          listed(item(1, "db", ["hello"], "created", "Created"), item(0, "front", LONG, "created", "Created")), created(2),
+          message(404, "No such container: nobody"), answer(204), shown(0, "back-1", LONG, "created"), listed(),
+          listed(item(0, "back-1", LONG, "created", "Created"))], comings=("pieces=1", "pieces=4096"))
+scenario("rename_states", [create("web", LONG), post("/containers/web/start"), post("/containers/web/rename?name=up"),
+                           post("/containers/up/pause"), post("/containers/up/rename?name=held"), get("/containers/held/json"),
+                           post("/containers/held/kill"), post("/containers/held/rename?name=ended"),
+                           get("/containers/ended/json"), create("job", body=with_policy(FAILS, ALWAYS)),
+                           post("/containers/job/start"), post("/containers/job/rename?name=again"), get("/containers/again/json"),
+                           get("/containers/json")],
+         [created(0), answer(204), answer(204), answer(204), answer(204),
+          shown(0, "held", LONG, "paused", pid=1001, started=NOW), answer(204), answer(204),
+          shown(0, "ended", LONG, "exited", code=137, started=NOW, finished=NOW), created(1), answer(204), answer(204),
+          shown(1, "again", FAILS, "restarting", code=1, started=NOW, finished=NOW, policy=ALWAYS),
+          listed(item(1, "again", FAILS, "restarting", "Restarting (1)"))])
+
+# a removal: at once of what doesn't live; its name, its id and its number's place are free then
+RUNNING = message(409, f"You cannot remove a running container {id_of(0)}. "
+                       "Stop the container before attempting removal or force remove")
+scenario("remove", [create("web", LONG), create("db"), get("/containers/db", "DELETE"), get("/containers/db/json"),
+                    get("/containers/db", "DELETE"), create("db"), post("/containers/web/start"), get("/containers/web", "DELETE"),
+                    post("/containers/web/pause"), get("/v1.43/containers/web?force=0&v=1", "DELETE"),
+                    post("/containers/web/kill"), get("/v1.43/containers/web?v=1", "DELETE"), get("/containers/json?all=1"),
+                    get(f"/containers/{id_of(0)}/json"), post("/containers/db/rename?name=web"), get("/containers/web/json"),
+                    create(), get("/containers/anon-3?force=1&link=0", "DELETE"), get("/containers/json?all=1"),
+                    get("/containers/web?link=1", "DELETE")],
+         [created(0), created(1), answer(204), message(404, "No such container: db"), message(404, "No such container: db"),
+          created(2), answer(204), RUNNING, answer(204), RUNNING, answer(204), answer(204),
+          listed(item(2, "db", ["hello"], "created", "Created")), message(404, f"No such container: {id_of(0)}"), answer(204),
+          shown(2, "web", ["hello"], "created"), created(3), answer(204),
+          listed(item(2, "web", ["hello"], "created", "Created")), message(400, "links are left out")],
+         comings=("pieces=1", "pieces=4096"))
+scenario("remove_restarting", [create("web", body=with_policy(FAILS, ALWAYS)), post("/containers/web/start"),
+                               get("/containers/web", "DELETE"), get("/containers/web?force=1", "DELETE"),
+                               get("/containers/json?all=1"), create("web"), get("/containers/web/json")],
+         [created(0), answer(204), RUNNING, answer(204), listed(), created(1), shown(1, "web", ["hello"], "created")])
 
 # volumes of mounts, and standard input that nobody feeds
 BINDS = compact({"Image": "engine/tools", "HostConfig": {"Binds": ["data:/srv:ro", "data:/copy"], "Mounts": [
