@@ -445,6 +445,31 @@ scenario("remove_restarting", [create("web", body=with_policy(FAILS, ALWAYS)), p
                                get("/containers/json?all=1"), create("web"), get("/containers/web/json")],
          [created(0), answer(204), RUNNING, answer(204), listed(), created(1), shown(1, "web", ["hello"], "created")])
 
+# with force what lives is killed, and the answer comes when it is gone
+FORCE = get("/containers/web?force=1", "DELETE")
+NO_WEB = message(404, "No such container: web")
+scenario("remove_by_force", [create("web", LONG), post("/containers/web/start"), FORCE, get("/containers/web/json"),
+                             create("web", LONG), post("/containers/web/start"), post("/containers/web/pause"), FORCE,
+                             get("/containers/json?all=1"), create("web")],
+         [created(0), answer(204), answer(204), NO_WEB, created(1), answer(204), answer(204), answer(204), listed(), created(2)])
+# an op that can't be interrupted outlasts the ten seconds: the container is dead, and goes once its process has ended
+LASTS = ["stuck", "30000"]
+
+
+def second(n):
+    return f"2023-11-14T22:13:{20 + n:02}.000000000Z"
+
+
+scenario("removal_timed_out", [create("web", LASTS), post("/containers/web/start"), FORCE, get("/containers/web/json"), FORCE,
+                               get("/containers/web/json"), post("/containers/web/rename?name=other"),
+                               post("/containers/web/start"), get("/containers/web", "DELETE"), get("/containers/web/json")],
+         [created(0), answer(204), message(409, f"removal of container {id_of(0)} timed out"),
+          shown(0, "web", LASTS, "dead", pid=1001, started=second(5)),
+          message(409, f"removal of container {id_of(0)} is already in progress"),
+          shown(0, "web", LASTS, "dead", code=137, started=second(5), finished=second(35)),
+          message(409, f"Container {id_of(0)} is dead"), message(409, f"Container {id_of(0)} is dead"), answer(204), NO_WEB],
+         words="--stdio --clock 1700000000000:5000")
+
 # volumes of mounts, and standard input that nobody feeds
 BINDS = compact({"Image": "engine/tools", "HostConfig": {"Binds": ["data:/srv:ro", "data:/copy"], "Mounts": [
     {"Type": "volume", "Source": "logs", "Target": "/logs"}]}})
