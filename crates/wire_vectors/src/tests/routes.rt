@@ -290,13 +290,17 @@ fn is_removal(call: &Option<Call>, reference: &str, forced: bool) -> bool {
     }
 }
 
+// Whether a target asks for such a removal.
+fn removes(alloc: Global, target: &str, reference: &str, forced: bool) -> Result<bool, NoMemory> {
+    let call = asked(alloc, "DELETE", target, "")?;
+    Ok(is_removal(&call, reference, forced))
+}
+
 #[test]
-fn a_removal_is_asked_of_the_container_that_its_path_names(rt: HostRuntime) -> Result<(), Fail> {
+fn a_removal_is_with_force_where_its_query_says_so(rt: HostRuntime) -> Result<(), Fail> {
     let alloc = rt.alloc();
-    let plain = asked(alloc, "DELETE", "/containers/create", "")?;
-    let forced = asked(alloc, "DELETE", "/containers/a?link=No&force=1", "")?;
-    assert!(rt; is_removal(&plain, "create", false));
-    assert!(rt; is_removal(&forced, "a", true));
+    assert!(rt; removes(alloc, "/containers/create", "create", false)?);
+    assert!(rt; removes(alloc, "/containers/a?link=No&force=1&v=1", "a", true)?);
     Ok(())
 }
 
