@@ -9,8 +9,6 @@ pub fn is_built(call: &Call) -> bool
     ensures { result ≡ spec.is_built call.now }
 {
     match call {
-        Call::Rename { .. } => false,
-        Call::Remove { .. } => false,
         Call::Logs { .. } => false,
         Call::Attach { .. } => false,
         Call::ExecStart { .. } => false,
