@@ -45,14 +45,15 @@ untouched n f (c ∷ cs) e =
 pub recorded_is : (n : ℕ) (r : LogRecord) (stream : Stream) (payload : List ℕ) (moment : ℕ) (c : Container) (cs : List Container) → find (λ d. d.number == n) cs ≡ Some c
     → r ≡ record_of c.life.starts stream payload moment → recorded n r cs ≡ with_life n (logged stream payload moment) cs
 recorded_is n r stream payload moment c [] found e = refl
-recorded_is n r stream payload moment c (d ∷ ds) found e = go (d.number == n) found
+recorded_is n r stream payload moment c (d ∷ ds) found e = go (d.number == n) found (λ f. recorded_is n r stream payload moment c ds f e)
   where
     added : Container → LogRecord → Container
     added x y = record x { life = record x.life { log = x.life.log ++ y ∷ [] } }
 
     go : (b : Bool) → (if b then Some d else find (λ x. x.number == n) ds) ≡ Some c
+        → (find (λ x. x.number == n) ds ≡ Some c → recorded n r ds ≡ with_life n (logged stream payload moment) ds)
         → (if b then added d r ∷ ds else d ∷ recorded n r ds) ≡ (if b then renewed (logged stream payload moment) d ∷ ds else d ∷ with_life n (logged stream payload moment) ds)
-    go true f =
+    go true f rest =
         let same : d ≡ c = cc in
         ap (λ y. added d y ∷ ds) (e ∙ ap (λ (x : Container). record_of x.life.starts stream payload moment) (sym same))
-    go false f = ap (λ l. d ∷ l) (recorded_is n r stream payload moment c ds f e)
+    go false f rest = ap (λ l. d ∷ l) (rest f)

@@ -23,7 +23,7 @@ returns c =
     let found : numbered c.args.number table.containers ≡ Some (container_in c.in-Some.h.now) =
     ap (λ (r : ContainerRows). numbered c.args.number r.containers) c.self.view_is ∙ sym c.in-Some.ensures in
     let is : c.swap_life-2.new.self ≡ record table { containers = with_life c.args.number (launched_at c.args.pid c.args.moment) table.containers } =
-    swapped c.args.number (launched_at c.args.pid c.args.moment) (launched_log c.args.moment c.args.pid) _ c.swap_life.new.life c.begin.new.life table c.swap_life.new.self c.swap_life-2.new.self
+    swapped c.args.number (launched_at c.args.pid c.args.moment) (launched_log c.args.moment c.args.pid) c.blank_life-life.result c.swap_life.new.life c.begin.new.life table c.swap_life.new.self c.swap_life-2.new.self
     c.swap_life.ensures.rest c.swap_life.ensures.life
     (next_start c.args.number c.args.moment c.args.pid c.swap_life.new.life c.begin.new.life (container_in c.in-Some.h.now) table.containers found c.swap_life.ensures.life c.begin.ensures)
     c.swap_life-2.ensures.rest in

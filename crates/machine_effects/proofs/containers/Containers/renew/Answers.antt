@@ -10,7 +10,7 @@ pub returns : goal.returns
 returns c =
     let table : Holdings = c.self.inside.table in
     let is : c.swap_life-2.new.self ≡ record table { containers = with_life c.args.number (marked c.args.noted) table.containers } =
-    swapped c.args.number (marked c.args.noted) (mark_log c.args.noted) _ c.swap_life.new.life c.note.new.life table c.swap_life.new.self c.swap_life-2.new.self
+    swapped c.args.number (marked c.args.noted) (mark_log c.args.noted) c.blank_life-life.result c.swap_life.new.life c.note.new.life table c.swap_life.new.self c.swap_life-2.new.self
     c.swap_life.ensures.rest c.swap_life.ensures.life c.note.ensures c.swap_life-2.ensures.rest in
     record {
       containers = ap (λ (h : Holdings). h.containers) is ∙ ap (λ (r : ContainerRows). with_life c.args.number (marked c.args.noted) r.containers) c.self.view_is;
