@@ -15,6 +15,7 @@ mod prepared;
 mod refusals;
 mod texts;
 mod volume_filters;
+mod waiting;
 
 pub use due::PreparedDue;
 pub use machine::{Machine, ask};

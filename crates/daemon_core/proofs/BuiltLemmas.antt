@@ -1,7 +1,7 @@
--- What the calls that are built do: they stand at their moment, are answered whole, and may be made behind what is due.
-use Rattle.std.proofs.Common.{◌≡◌, ℕ, List, [], ◌∷◌, refl, subst, Bool, true, false, ◌&&◌, ◌||◌, ◌==◌, arith}
+-- What the calls that are built do: they stand at their moment, begin no stream, and may be made behind what is due.
+use Rattle.std.proofs.Common.{◌≡◌, ◌⊎◌, inl, inr, ℕ, List, [], ◌∷◌, refl, subst, sym, ◌∙◌, Bool, true, false, ◌&&◌, ◌||◌, ◌==◌, not, Option, Some, None, find, arith}
 use Rattle.std.specs.Prelude.{IsTrue, IsFalse, nat_le, nat_lt}
-use Rattle.std.specs.List.{list_any, list_all}
+use Rattle.std.specs.List.{AllByRecursion, list_any, list_all}
 use Rattle.std.proofs.lemmas.Bool.{false≢true}
 use Rattle.std.proofs.lemmas.Bool.Decides.{nat_tests}
 use Rattle.http.specs.StatusCode.{IsStatusCode}
@@ -10,22 +10,26 @@ use Rattle.engine_text.specs.declared.call.Call.TheVariants as call
 use Rattle.engine_text.specs.declared.reply.Reply.{Reply}
 use Rattle.engine_text.specs.declared.reply.Reply.TheVariants as reply
 use Rattle.engine_text.specs.declared.step.Step.{Step}
+use Rattle.engine_text.specs.declared.ticket.Ticket.{Ticket}
 use Rattle.machine_model.specs.State.{State}
 use Rattle.machine_model.specs.Step.{at_moment}
-use Rattle.machine_model.specs.Statuses.{statuses_of, is_among, is_reply_of, gives_ticket, gives_log, gives_events, gives_journal, is_feed, ends_ticket}
+use Rattle.machine_model.specs.Statuses.{statuses_of, ticket_statuses, is_among, is_reply_of, gives_log, gives_events, gives_journal, is_feed, ends_ticket}
 use Rattle.call_bounds.specs.Soundness.{IsSound}
-use Rattle.machine_model.specs.Ready.{is_ready}
+use Rattle.machine_model.specs.Ready.{is_given, is_ready, ticket_is_ready}
+use Rattle.machine_model.specs.Tickets.{ticket_numbered}
+use Rattle.machine_model.specs.Calls.Take.{ticket_reply, reply_of as taken}
 use Rattle.machine_model.specs.Room.{HasRoom}
 use Rattle.machine_model.specs.History.{Charter, after_step, state_from, state_after, opening_state, reply_of, IsLawful, IsTimely, is_due, has_steps, is_drop}
 use Rattle.machine_model.proofs.ClosureLemmas.{runs_call}
 use Rattle.machine_model.proofs.MomentLemmas.{stamped_closed}
-use Rattle.machine_model.proofs.ObeyLemmas.{HaveReplies}
+use Rattle.machine_model.proofs.ObeyLemmas.{HaveReplies, IsTicketReply, found_all}
 use Rattle.machine_model.proofs.CallLemmas.{obeys}
 use Rattle.machine_model.proofs.ReplyLemmas.{replies_from}
 use Rattle.session_model.specs.Moments.{ComesTo}
 use Rattle.call_bounds.specs.Built.{is_built}
-use Rattle.daemon_core.specs.Whole.{IsAnswer}
-use Rattle.daemon_core.specs.Storing.{IsClear}
+use Rattle.session_model.specs.Turning.{GivesNoTicket, IsNotReady}
+use Rattle.daemon_core.specs.Whole.{IsAnswer, IsPlain}
+use Rattle.daemon_core.specs.Storing.{HoldsTicket, IsClear, is_open}
 
 -- ---- any call
 
@@ -73,13 +77,6 @@ are_codes : (c : Call) → list_all is_code (statuses_of c) ≡ true
 are_codes (call.Take ticket) = refl
 are_codes c = refl
 
-no_ticket : (c : Call) → IsTrue (is_built c) → IsTrue (gives_ticket c) → ⊥
-no_ticket (call.Stop target wait signal) built h = false≢true built
-no_ticket (call.Restart target wait signal) built h = false≢true built
-no_ticket (call.Remove target force) built h = false≢true built
-no_ticket (call.Wait target until) built h = false≢true built
-no_ticket c built h = false≢true h
-
 no_log : (c : Call) → IsTrue (is_built c) → IsTrue (gives_log c) → ⊥
 no_log (call.Logs target ask) built h = false≢true built
 no_log (call.Attach target ask) built h = false≢true built
@@ -99,45 +96,72 @@ no_feed (call.Feed owner run bytes) built h = false≢true built
 no_feed (call.FeedEnd owner run) built h = false≢true built
 no_feed c built h = false≢true h
 
-no_end : (c : Call) → IsTrue (is_built c) → IsTrue (ends_ticket c) → ⊥
-no_end (call.Take ticket) built h = false≢true built
-no_end (call.Drop ticket) built h = false≢true built
-no_end c built h = false≢true h
+plain_reply : (c : Call) (r : Reply) → IsTrue (is_built c) → IsTrue (is_reply_of c r) → IsPlain r
+plain_reply c (reply.Answer status body) built h = is_one (statuses_of c) status (are_codes c) h
+plain_reply c (reply.Begun ticket) built h = tt
+plain_reply c (reply.LogStream spec) built h = no_log c built h
+plain_reply c (reply.EventStream first until filter) built h = no_events c built h
+plain_reply c (reply.JournalStream count) built h = no_journal c built h
+plain_reply c (reply.Fed taken) built h = no_feed c built h
+plain_reply c reply.Dropped built h = tt
 
-whole_reply : (c : Call) (r : Reply) → IsTrue (is_built c) → IsTrue (is_reply_of c r) → IsAnswer r
-whole_reply c (reply.Answer status body) built h = is_one (statuses_of c) status (are_codes c) h
-whole_reply c (reply.Begun ticket) built h = no_ticket c built h
-whole_reply c (reply.LogStream spec) built h = no_log c built h
-whole_reply c (reply.EventStream first until filter) built h = no_events c built h
-whole_reply c (reply.JournalStream count) built h = no_journal c built h
-whole_reply c (reply.Fed taken) built h = no_feed c built h
-whole_reply c reply.Dropped built h = no_end c built h
+-- a call that is built begins no stream and feeds none
+pub built_answers : (c : Call) → IsTrue (is_built c) → (s : State) → HaveReplies s → (k t : ℕ) → IsPlain (reply_of s k t c)
+built_answers c built s have k t = plain_reply c (reply_of s k t c) built ((obeys c k (at_moment t s)).reply have)
 
--- a call that is built is answered whole
-pub built_answers : (c : Call) → IsTrue (is_built c) → (s : State) → HaveReplies s → (k t : ℕ) → IsAnswer (reply_of s k t c)
-built_answers c built s have k t = whole_reply c (reply_of s k t c) built ((obeys c k (at_moment t s)).reply have)
+-- and where it neither gives nor ends a ticket it is answered whole
+whole_reply : (c : Call) (r : Reply) → IsPlain r → GivesNoTicket r → IsFalse (ends_ticket c) → IsTrue (is_reply_of c r) → IsAnswer r
+whole_reply c (reply.Answer status body) plain gives none h = plain
+whole_reply c (reply.Begun ticket) plain gives none h = gives
+whole_reply c (reply.LogStream spec) plain gives none h = plain
+whole_reply c (reply.EventStream first until filter) plain gives none h = plain
+whole_reply c (reply.JournalStream count) plain gives none h = plain
+whole_reply c (reply.Fed taken) plain gives none h = plain
+whole_reply c reply.Dropped plain gives none h = false≢true (sym none ∙ h)
 
--- ---- what it isn't, and when it may be made
+pub built_whole : (c : Call) → IsTrue (is_built c) → IsFalse (ends_ticket c) → (s : State) → HaveReplies s → (k t : ℕ)
+    → GivesNoTicket (reply_of s k t c) → IsAnswer (reply_of s k t c)
+built_whole c built none s have k t gives =
+    whole_reply c (reply_of s k t c) (built_answers c built s have k t) gives none ((obeys c k (at_moment t s)).reply have)
 
-pub built_drop : (c : Call) → IsTrue (is_built c) → IsFalse (is_drop c)
-built_drop (call.Drop ticket) h = absurd (false≢true h)
-built_drop c h = refl
+-- a take that is ready is answered whole
+given_whole : (o : Option Reply) → IsTrue (is_given o) → IsTicketReply o → IsAnswer (taken o)
+given_whole None given is = absurd (false≢true given)
+given_whole (Some (reply.Answer status body)) given is = is_one ticket_statuses status refl is
+given_whole (Some (reply.Begun ticket)) given is = absurd is
+given_whole (Some (reply.LogStream spec)) given is = absurd is
+given_whole (Some (reply.EventStream first until filter)) given is = absurd is
+given_whole (Some (reply.JournalStream count)) given is = absurd is
+given_whole (Some (reply.Fed fed)) given is = absurd is
+given_whole (Some reply.Dropped) given is = absurd is
+
+take_by : (n : ℕ) (ts : List Ticket) (o : Option Ticket) → find (λ t. t.number == n) ts ≡ o → IsTrue (ticket_is_ready o)
+    → AllByRecursion (λ t. IsTicketReply t.reply) ts → IsAnswer (ticket_reply o)
+take_by n ts None e ready all = absurd (false≢true ready)
+take_by n ts (Some t) e ready all =
+    given_whole t.reply ready (found_all (λ (x : Ticket). IsTicketReply x.reply) (λ x. x.number == n) t ts e all)
+
+pub take_answers : (n : ℕ) (s : State) → HaveReplies s → IsTrue (is_ready s (call.Take n)) → (k t : ℕ) → IsAnswer (reply_of s k t (call.Take n))
+take_answers n s have ready k t = take_by n s.tickets (ticket_numbered n s) refl ready have
+
+-- ---- when it may be made
 
 pub built_comes : (c : Call) (ms : List ℕ) → IsTrue (is_built c) → ComesTo true c ms
 built_comes (call.Events since until filter) ms h = absurd (false≢true h)
 built_comes c ms h = tt
 
-pub built_ready : (c : Call) (s : State) → IsTrue (is_built c) → is_ready s c ≡ true
-built_ready (call.Take ticket) s h = absurd (false≢true h)
-built_ready (call.Feed owner run bytes) s h = absurd (false≢true h)
-built_ready (call.FeedEnd owner run) s h = absurd (false≢true h)
-built_ready c s h = refl
+-- but for a take it is ready at once
+pub built_ready : (c : Call) (s : State) → IsTrue (is_built c) → IsFalse (ends_ticket c) → is_ready s c ≡ true
+built_ready (call.Take ticket) s h none = absurd (false≢true (sym none))
+built_ready (call.Feed owner run bytes) s h none = absurd (false≢true h)
+built_ready (call.FeedEnd owner run) s h none = absurd (false≢true h)
+built_ready c s h none = refl
 
 -- where there is room for it a step may be made
-pub room_steps : (ch : Charter) (s : State) (c : Call) → IsTrue (is_built c) → HasRoom ch s c → IsTrue (has_steps s)
-room_steps ch s (call.Take ticket) built h = absurd (false≢true built)
-room_steps ch s (call.Drop ticket) built h = absurd (false≢true built)
-room_steps ch s c built h = and_right _ (has_steps s) h
+pub room_steps : (ch : Charter) (s : State) (c : Call) → IsFalse (ends_ticket c) → HasRoom ch s c → IsTrue (has_steps s)
+room_steps ch s (call.Take ticket) none h = absurd (false≢true (sym none))
+room_steps ch s (call.Drop ticket) none h = absurd (false≢true (sym none))
+room_steps ch s c none h = and_right _ (has_steps s) h
 
 not_due : (due steps : Bool) → IsTrue steps → (due && steps) ≡ false → due ≡ false
 not_due true true steps idle = idle
@@ -147,8 +171,37 @@ not_due true false more idle = absurd (false≢true more)
 timely : (s : State) (t : ℕ) → IsTrue (has_steps s) → IsClear s t → IsTimely s t
 timely s t steps turn = (turn.from, turn.until, not_due (is_due s t) (has_steps s) steps turn.idle)
 
-pub built_lawful : (c : Call) (s : State) (k t : ℕ) → IsTrue (is_built c) → IsSound c → IsTrue (has_steps s) → IsClear s t
-    → IsLawful s (Step.Call k t c)
-built_lawful (call.Take ticket) s k t built sound steps turn = absurd (false≢true built)
-built_lawful (call.Drop ticket) s k t built sound steps turn = absurd (false≢true built)
-built_lawful c s k t built sound steps turn = (sound, (timely s t steps turn, steps, built_ready c s built))
+-- nothing is due
+not_true : (b : Bool) → IsTrue (not b) → b ≡ false
+not_true false h = refl
+not_true true h = absurd (false≢true h)
+
+timely_take : (s : State) (t : ℕ) → IsTrue (not (is_due s t)) → IsClear s t → IsTimely s t
+timely_take s t idle turn = (turn.from, turn.until, not_true (is_due s t) idle)
+
+pub built_lawful : (c : Call) (ch : Charter) (s : State) (k t : ℕ) → IsTrue (is_built c) → IsSound c → IsFalse (is_drop c) → HasRoom ch s c
+    → HoldsTicket s k c → IsTrue (is_open s t c) → IsClear s t → IsLawful s (Step.Call k t c)
+built_lawful (call.Take n) ch s k t built sound kind room holds may turn = (
+  sound,
+  (
+    timely_take s t (and_right (is_ready s (call.Take n)) (not (is_due s t)) may) turn,
+    holds,
+    and_left (is_ready s (call.Take n)) (not (is_due s t)) may,
+  ),
+)
+built_lawful (call.Drop n) ch s k t built sound kind room holds may turn = absurd (false≢true (sym kind))
+built_lawful (call.Feed owner run bytes) ch s k t built sound kind room holds may turn = absurd (false≢true built)
+built_lawful (call.FeedEnd owner run) ch s k t built sound kind room holds may turn = absurd (false≢true built)
+built_lawful c ch s k t built sound kind room holds may turn =
+    let steps : IsTrue (has_steps s) = and_right _ (has_steps s) room in
+    (sound, (timely s t steps turn, steps, refl))
+
+-- what isn't open isn't ready
+waits_by : (ready due : Bool) → IsFalse (ready && not due) → IsFalse ready ⊎ IsTrue due
+waits_by false due h = inl refl
+waits_by true true h = inr refl
+waits_by true false h = absurd (false≢true (sym h))
+
+pub waits : (s : State) (t : ℕ) (c : Call) → IsFalse (is_open s t c) → IsNotReady s t c
+waits s t (call.Take n) h = waits_by (is_ready s (call.Take n)) (is_due s t) h
+waits s t c h = absurd (false≢true (sym h))

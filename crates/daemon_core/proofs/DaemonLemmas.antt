@@ -1,6 +1,6 @@
 -- What a daemon's turn does to its whole history.
 use Rattle.std.proofs.Common.{◌≡◌, ◌≤◌, ◌==◌, ℕ, List, [], ◌∷◌, ◌++◌, refl, subst, sym, ◌∙◌, ap, append-nil, append_assoc, true, false, Option, Some, None, arith, Result, Ok, Err, IfOk}
-use Rattle.std.specs.Prelude.{IsTrue, OnErr}
+use Rattle.std.specs.Prelude.{IsTrue, IsFalse, OnErr}
 use Rattle.std.proofs.lemmas.Bool.{false≢true}
 use Rattle.std.specs.List.{filter}
 use Rattle.std.proofs.lemmas.List.Elements.{filter-append}
@@ -13,19 +13,18 @@ use Rattle.engine_text.specs.declared.step.Step.{Step}
 use Rattle.machine_model.specs.State.{State}
 use Rattle.machine_model.specs.Room.{HasRoom, has_room}
 use Rattle.call_bounds.specs.Soundness.{IsSound}
-use Rattle.machine_model.specs.History.{Charter, IsLegal, IsLawful, AreLawful, state_after, state_from, moment_used, latest, greatest_moment, acts_by, calls_of, bears, DuesUntil, SomeDues, reply_of}
+use Rattle.machine_model.specs.History.{Charter, IsLegal, IsLawful, AreLawful, state_after, state_from, moment_used, latest, greatest_moment, acts_by, calls_of, bears, DuesUntil, SomeDues, reply_of, is_drop}
 use Rattle.machine_model.proofs.Histories.{run_append, legal_append}
-use Rattle.machine_model.proofs.ObeyLemmas.{HaveReplies}
 use Rattle.session_model.specs.declared.turned.Turned.{Turned}
 use Rattle.session_model.specs.declared.turned.Turned.TheVariants as T
-use Rattle.session_model.specs.Turning.{Turn, TurnSays, Makes, MakesAt, GivesNoTicket}
-use Rattle.call_bounds.specs.Built.{is_built, AreBuilt}
+use Rattle.session_model.specs.Turning.{Turn, TurnSays, Makes, MakesAt, GivesNoTicket, IsNotReady}
+use Rattle.call_bounds.specs.Built.{is_built}
 use Rattle.daemon_core.specs.Passing.{charter}
 use Rattle.daemon_core.specs.declared.stored.Stored.{Stored}
 use Rattle.daemon_core.specs.declared.daemon.Daemon.{Daemon}
-use Rattle.daemon_core.specs.Whole.{IsAnswer}
-use Rattle.daemon_core.specs.Storing.{pass_of, is_call, Adds, AddsDues, IsClear, Ends, turned_by, charter_for, moment_of}
-use Rattle.daemon_core.proofs.BuiltLemmas.{have_replies, built_answers, built_drop, built_lawful, room_steps}
+use Rattle.daemon_core.specs.Storing.{pass_of, is_call, Adds, AddsDues, IsClear, HoldsTicket, Ends, turned_by, drop_of, is_open, charter_for, moment_of}
+use Rattle.daemon_core.proofs.BuiltLemmas.{built_lawful, waits}
+use Rattle.daemon_core.proofs.TicketLemmas.{none_dropped}
 use Rattle.daemon_core.proofs.DueLemmas.{all_made, dues_calls, dues_own}
 
 -- ---- a daemon, by what it keeps
@@ -71,25 +70,24 @@ room_same ch s (call.Take n) = refl
 room_same ch s (call.Drop n) = refl
 room_same ch s c = refl
 
-pub lawful_by : (ch : Charter) (s : State) (k t : ℕ) (c : Call) → IsTrue (is_built c) → IsSound c → IsClear s t → HasRoom ch s c
-    → IsLawful s (Step.Call k t c)
-lawful_by ch s k t c built sound turn room = built_lawful c s k t built sound (room_steps ch s c built room) turn
+pub lawful_by : (ch : Charter) (s : State) (k t : ℕ) (c : Call) → IsTrue (is_built c) → IsSound c → IsFalse (is_drop c) → HoldsTicket s k c
+    → IsClear s t → HasRoom ch s c → IsTrue (is_open s t c) → IsLawful s (Step.Call k t c)
+lawful_by ch s k t c built sound kind holds turn room may = built_lawful c ch s k t built sound kind room holds may turn
 
-ends_by : (ch : Charter) (s : State) (h h' : List Step) (k t : ℕ) (c : Call) (r : Reply) → IsAnswer r → HasRoom ch s c
+ends_by : (ch : Charter) (s : State) (h h' : List Step) (k t : ℕ) (c : Call) (r : Reply) → HasRoom ch s c
     → h' ≡ h ++ Step.Call k t c ∷ [] → r ≡ reply_of s k t c → Ends ch s k t c (turned_by r) h h'
-ends_by ch s h h' k t c (reply.Answer status body) a room at is = (room, at, is)
-ends_by ch s h h' k t c r a room at is = absurd a
-
--- a call of a daemon is answered whole
-answer_of : (ch : Charter) (s : State) (h : List Step) → Stands ch s h → (c : Call) → IsTrue (is_built c) → (k t : ℕ)
-    → IsAnswer (reply_of s k t c)
-answer_of ch s h st c built k t = built_answers c built s (subst HaveReplies (sym st.is) (have_replies ch h)) k t
+ends_by ch s h h' k t c (reply.Begun n) room at is = (room, at, is)
+ends_by ch s h h' k t c r room at is = (tt, room, at, is)
 
 -- the call was made
-pub ends_made : (ch : Charter) (s s' : State) (h h' : List Step) (k t : ℕ) (c : Call) (r : Reply) → Stands ch s h
-    → IsTrue (is_built c) → HasRoom ch s c → Adds k t c r s s' h h' → Ends ch s k t c (turned_by r) h h'
-ends_made ch s s' h h' k t c r st built room made =
-    ends_by ch s h h' k t c r (subst IsAnswer (sym made.reply) (answer_of ch s h st c built k t)) room made.steps_are made.reply
+pub ends_made : (ch : Charter) (s s' : State) (h h' : List Step) (k t : ℕ) (c : Call) (r : Reply)
+    → HasRoom ch s c → Adds k t c r s s' h h' → Ends ch s k t c (turned_by r) h h'
+ends_made ch s s' h h' k t c r room made = ends_by ch s h h' k t c r room made.steps_are made.reply
+
+-- it wasn't ready
+pub ends_waiting : (ch : Charter) (s : State) (h : List Step) (k t : ℕ) (c : Call) → HasRoom ch s c → is_open s t c ≡ false
+    → Ends ch s k t c T.NotYet h h
+ends_waiting ch s h k t c room closed = (room, waits s t c closed, refl)
 
 -- there was no room
 pub ends_full : (ch : Charter) (s : State) (h : List Step) (k t : ℕ) (c : Call) → has_room ch s c ≡ false
@@ -147,66 +145,96 @@ rested ch u s s' h h' k handed st at made idle =
     adds_due ch u s s' h h' k handed None T.Nothing st made
     (subst (λ v. DuesUntil s v made.dues) (sym at) (all_made u s s' h h' made idle))
 
-says_short : (ch : Charter) (s : State) (k handed : ℕ) (c : Option Call) (own : List Step) → AreBuilt c
+says_short : (ch : Charter) (s : State) (k handed : ℕ) (c : Option Call) (own : List Step) → drop_of c ≡ None
     → SomeDues s (moment_used s handed) own → TurnSays ch s k handed c T.NoMemory own
-says_short ch s k handed None own built some = some
-says_short ch s k handed (Some c) own built some = (built_drop c built, some)
+says_short ch s k handed None own kind some = some
+says_short ch s k handed (Some c) own kind some = (none_dropped c kind, some)
 
 -- there was no memory
-pub short : (ch : Charter) (u : ℕ) (s s' : State) (h h' : List Step) (k handed : ℕ) (c : Option Call) → Stands ch s h → AreBuilt c
+pub short : (ch : Charter) (u : ℕ) (s s' : State) (h h' : List Step) (k handed : ℕ) (c : Option Call) → Stands ch s h → drop_of c ≡ None
     → moment_used s handed ≡ u → AddsDues u s s' h h' → Turn k handed c T.NoMemory (pass_of ch h) (pass_of ch h')
-short ch u s s' h h' k handed c st built at made =
+short ch u s s' h h' k handed c st kind at made =
     adds_due ch u s s' h h' k handed c T.NoMemory st made
-    (says_short ch s k handed c made.dues built (subst (λ v. SomeDues s v made.dues) (sym at) made.some))
+    (says_short ch s k handed c made.dues kind (subst (λ v. SomeDues s v made.dues) (sym at) made.some))
 
-makes_of : (ch : Charter) (s : State) (k handed : ℕ) (c : Call) (own : List Step) (r : Reply) → IsTrue (is_built c)
+makes_of : (ch : Charter) (s : State) (k handed : ℕ) (c : Call) (own : List Step) (r : Reply) → IsFalse (is_drop c)
     → ((dues : List Step) × DuesUntil s (moment_used s handed) dues × MakesAt ch s k (moment_used s handed) c dues own r)
     → Makes ch s k handed c own r
-makes_of ch s k handed (call.Drop n) own r built m = absurd (false≢true built)
-makes_of ch s k handed c own r built m = m
+makes_of ch s k handed (call.Drop n) own r kind m = absurd (false≢true (sym kind))
+makes_of ch s k handed c own r kind m = m
 
-no_ticket : (r : Reply) → IsAnswer r → GivesNoTicket r
-no_ticket (reply.Answer status body) a = tt
-no_ticket r a = absurd a
-
--- the call was answered behind the due steps
-pub answered : (ch : Charter) (u : ℕ) (s s1 : State) (h h1 h2 : List Step) (k handed : ℕ) (c : Call) (result : Turned)
-    → Stands ch s h → IsTrue (is_built c) → moment_used s handed ≡ u → AddsDues u s s1 h h1 → acts_by s1 u ≡ false
-    → IsLegal ch h2 → Ends ch s1 k u c result h1 h2 → Turn k handed (Some c) result (pass_of ch h) (pass_of ch h2)
-answered ch u s s1 h h1 h2 k handed c (T.Replied r) st built at made idle legal (room, at', is) =
+-- the call was made behind the due steps
+answered_by : (ch : Charter) (u : ℕ) (s s1 : State) (h h1 h2 : List Step) (k handed : ℕ) (c : Call) (r : Reply) (result : Turned)
+    → Stands ch s h → IsFalse (is_drop c) → moment_used s handed ≡ u → AddsDues u s s1 h h1 → acts_by s1 u ≡ false
+    → IsLegal ch h2 → HasRoom ch s1 c → h2 ≡ h1 ++ Step.Call k u c ∷ [] → r ≡ reply_of s1 k u c
+    → ((x : State) (own : List Step) → Makes ch x k handed c own r → TurnSays ch x k handed (Some c) result own)
+    → Turn k handed (Some c) result (pass_of ch h) (pass_of ch h2)
+answered_by ch u s s1 h h1 h2 k handed c r result st kind at made idle legal room at' is says =
     let last : List Step = Step.Call k u c ∷ [] in
     let own : List Step = made.dues ++ last in
     let behind : h2 ≡ h ++ own = at' ∙ ap (λ x. x ++ last) made.steps_are ∙ append_assoc h made.dues last in
     let reply : r ≡ reply_of (state_from s made.dues) k u c = is ∙ ap (λ y. reply_of y k u c) made.state in
-    adds ch h h2 own k handed (Some c) (T.Replied r) legal behind
+    adds ch h h2 own k handed (Some c) result legal behind
     (own_behind k u c made.dues (dues_calls u s s1 h h1 made) (dues_own k u s s1 h h1 made))
-    (subst (λ y. TurnSays ch y k handed (Some c) (T.Replied r) own) st.is (
-      no_ticket r (subst IsAnswer (sym is) (answer_of ch s1 h1 (stands_due ch u s s1 h h1 st made) c built k u)),
-      makes_of ch s k handed c own r built
-          (subst (λ v. (ds : List Step) × DuesUntil s v ds × MakesAt ch s k v c ds own r) (sym at)
-          (made.dues, all_made u s s1 h h1 made idle, (subst (λ y. HasRoom ch y c) made.state room, refl, reply))),
+    (subst (λ y. TurnSays ch y k handed (Some c) result own) st.is
+    (says s own (makes_of ch s k handed c own r kind
+    (subst (λ v. (ds : List Step) × DuesUntil s v ds × MakesAt ch s k v c ds own r) (sym at)
+    (made.dues, all_made u s s1 h h1 made idle, (subst (λ y. HasRoom ch y c) made.state room, refl, reply))))))
+
+-- the call was answered behind the due steps
+pub answered : (ch : Charter) (u : ℕ) (s s1 : State) (h h1 h2 : List Step) (k handed : ℕ) (c : Call) (result : Turned)
+    → Stands ch s h → IsFalse (is_drop c) → moment_used s handed ≡ u → AddsDues u s s1 h h1 → acts_by s1 u ≡ false
+    → IsLegal ch h2 → Ends ch s1 k u c result h1 h2 → Turn k handed (Some c) result (pass_of ch h) (pass_of ch h2)
+answered ch u s s1 h h1 h2 k handed c (T.Replied r) st kind at made idle legal (gives, room, at', is) =
+    answered_by ch u s s1 h h1 h2 k handed c r (T.Replied r) st kind at made idle legal room at' is (λ x own makes. (gives, makes))
+answered ch u s s1 h h1 h2 k handed c (T.Begun n) st kind at made idle legal (room, at', is) =
+    answered_by ch u s s1 h h1 h2 k handed c (reply.Begun n) (T.Begun n) st kind at made idle legal room at' is (λ x own makes. makes)
+answered ch u s s1 h h1 h2 k handed c T.NotYet st kind at made idle legal (room, waiting, same) =
+    subst (λ x. Turn k handed (Some c) T.NotYet (pass_of ch h) (pass_of ch x)) (sym same)
+    (adds_due ch u s s1 h h1 k handed (Some c) T.NotYet st made (
+      kind,
+      (
+        subst (λ v. DuesUntil s v made.dues) (sym at) (all_made u s s1 h h1 made idle),
+        subst (λ y. HasRoom ch y c) made.state room,
+        subst (λ v. IsNotReady (state_from s made.dues) v c) (sym at) (subst (λ y. IsNotReady y u c) made.state waiting),
+      ),
     ))
-answered ch u s s1 h h1 h2 k handed c T.JournalFull st built at made idle legal (none, same) =
+answered ch u s s1 h h1 h2 k handed c T.JournalFull st kind at made idle legal (none, same) =
     subst (λ x. Turn k handed (Some c) T.JournalFull (pass_of ch h) (pass_of ch x)) (sym same)
     (adds_due ch u s s1 h h1 k handed (Some c) T.JournalFull st made (
-      built_drop c built,
+      kind,
       (
         subst (λ v. DuesUntil s v made.dues) (sym at) (all_made u s s1 h h1 made idle),
         subst (λ y. HasRoom ch y c → ⊥) made.state none,
       ),
     ))
-answered ch u s s1 h h1 h2 k handed c T.NoMemory st built at made idle legal same =
+answered ch u s s1 h h1 h2 k handed c T.NoMemory st kind at made idle legal same =
     subst (λ x. Turn k handed (Some c) T.NoMemory (pass_of ch h) (pass_of ch x)) (sym same)
-    (short ch u s s1 h h1 k handed (Some c) st built at made)
-answered ch u s s1 h h1 h2 k handed c result st built at made idle legal ends = absurd ends
+    (adds_due ch u s s1 h h1 k handed (Some c) T.NoMemory st made
+    (kind, subst (λ v. SomeDues s v made.dues) (sym at) made.some))
+answered ch u s s1 h h1 h2 k handed c result st kind at made idle legal ends = absurd ends
 
 -- under the charter that it leaves
 pub answered_as : (ch ch' : Charter) (u : ℕ) (s s1 : State) (h h1 h2 : List Step) (k handed : ℕ) (c : Call) (result : Turned)
-    → ch' ≡ ch → Stands ch s h → IsTrue (is_built c) → moment_used s handed ≡ u → AddsDues u s s1 h h1 → acts_by s1 u ≡ false
+    → ch' ≡ ch → Stands ch s h → IsFalse (is_drop c) → moment_used s handed ≡ u → AddsDues u s s1 h h1 → acts_by s1 u ≡ false
     → IsLegal ch' h2 → Ends ch s1 k u c result h1 h2 → Turn k handed (Some c) result (pass_of ch h) (pass_of ch' h2)
-answered_as ch ch' u s s1 h h1 h2 k handed c result same st built at made idle legal ends =
+answered_as ch ch' u s s1 h h1 h2 k handed c result same st kind at made idle legal ends =
     subst (λ x. Turn k handed (Some c) result (pass_of ch h) (pass_of x h2)) (sym same)
-    (answered ch u s s1 h h1 h2 k handed c result st built at made idle (subst (λ x. IsLegal x h2) same legal) ends)
+    (answered ch u s s1 h h1 h2 k handed c result st kind at made idle (subst (λ x. IsLegal x h2) same legal) ends)
+
+-- a ticket was dropped at once
+pub drop_lawful : (s : State) (k t n : ℕ) → t ≡ s.clock → HoldsTicket s k (call.Drop n) → IsLawful s (Step.Call k t (call.Drop n))
+drop_lawful s k t n at holds = (refl, (at, holds))
+
+pub drop_made : (ch : Charter) (s s' : State) (h h' : List Step) (k handed t n : ℕ) (r : Reply) → Stands ch s h → t ≡ s.clock → IsLegal ch h'
+    → Adds k t (call.Drop n) r s s' h h' → Turn k handed (Some (call.Drop n)) (T.Replied r) (pass_of ch h) (pass_of ch h')
+drop_made ch s s' h h' k handed t n r st at legal made =
+    let own : List Step = Step.Call k s.clock (call.Drop n) ∷ [] in
+    let steps : h' ≡ h ++ own = subst (λ (x : ℕ). h' ≡ h ++ Step.Call k x (call.Drop n) ∷ []) at made.steps_are in
+    let reply : r ≡ reply_of s k s.clock (call.Drop n) = made.reply in
+    adds ch h h' own k handed (Some (call.Drop n)) (T.Replied r) legal steps (sym (own_call k s.clock (call.Drop n)))
+    (subst (λ y. TurnSays ch y k handed (Some (call.Drop n)) (T.Replied r) own) st.is
+    (subst GivesNoTicket (sym reply) tt, (refl, refl, reply)))
 
 -- ---- the moment that counts
 

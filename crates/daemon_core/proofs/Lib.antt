@@ -1,4 +1,5 @@
 pub mod BuiltLemmas
+pub mod TicketLemmas
 pub mod CountLemmas
 pub mod DueLemmas
 pub mod DaemonLemmas

@@ -1,7 +1,8 @@
 -- What a daemon keeps: its machine, and the steps that led to the machine's state (own).
-use Rattle.std.specs.Prelude.{ℕ, ◌≡◌, ◌<◌, ◌≤◌, ◌+◌, ◌^◌, min, max, List, [], ◌∷◌, ◌++◌, length, true, false}
+use Rattle.std.specs.Prelude.{ℕ, ◌≡◌, ◌<◌, ◌≤◌, ◌+◌, ◌^◌, ◌&&◌, not, min, max, Bool, List, [], ◌∷◌, ◌++◌, length, Option, Some, None, IsTrue, true, false}
 use Rattle.std.specs.List.{filter}
 use Rattle.engine_text.specs.declared.call.Call.{Call}
+use Rattle.engine_text.specs.declared.call.Call.TheVariants.{Take, Drop}
 use Rattle.engine_text.specs.declared.reply.Reply.{Reply}
 use Rattle.engine_text.specs.declared.reply.Reply.TheVariants as reply
 use Rattle.engine_text.specs.declared.step.Step.{Step}
@@ -9,8 +10,10 @@ use Rattle.session_model.specs.declared.turned.Turned.{Turned}
 use Rattle.session_model.specs.declared.turned.Turned.TheVariants as turned
 pub use Rattle.session_model.specs.Pass.{is_call}
 use Rattle.machine_model.specs.State.{State}
-use Rattle.machine_model.specs.History.{Charter, after_step, state_from, reply_of, acts_by, latest, SomeDues, AreLawful, IsLegal, greatest_jump, greatest_moment}
+use Rattle.machine_model.specs.History.{Charter, after_step, state_from, reply_of, acts_by, latest, SomeDues, AreLawful, IsLegal, has_ticket, is_due, greatest_jump, greatest_moment}
+use Rattle.machine_model.specs.Ready.{is_ready}
 use Rattle.machine_model.specs.Room.{HasRoom}
+use Rattle.session_model.specs.Turning.{GivesNoTicket, IsNotReady}
 use Rattle.session_model.specs.Pass.{PassView, Every}
 
 -- what no step changes
@@ -63,10 +66,35 @@ pub record IsClear (s : State) (moment : ℕ) : Type 0 where
   pub until : moment ≤ latest s
   pub idle : acts_by s moment ≡ false
 
--- the call was made in that state and is the last of the steps, or there was no room or no memory for it
+-- a take and a drop are of a ticket that stands, and is the connection's
+abbrev pub HoldsTicket : State → ℕ → Call → Type 0
+HoldsTicket s k (Take n) = IsTrue (has_ticket s k n)
+HoldsTicket s k (Drop n) = IsTrue (has_ticket s k n)
+HoldsTicket s k c = Unit {0}
+
+-- the ticket that is dropped
+abbrev pub drop_of : Option Call → Option ℕ
+drop_of (Some (Drop n)) = Some n
+drop_of c = None
+
+-- whether a call can be made where nothing acts any more: a take wants its reply, and nothing due
+abbrev pub is_open : State → ℕ → Call → Bool
+is_open s moment (Take n) = is_ready s (Take n) && not (is_due s moment)
+is_open s moment c = true
+
+-- the places that a call wants beside those that the ends of open tickets have: the end of a ticket none
+abbrev pub spare_of : Call → ℕ
+spare_of (Take n) = 0
+spare_of (Drop n) = 0
+spare_of c = 2
+
+-- the call was made in that state and is the last of the steps, or it wasn't ready, or there was no room or no memory for it
 abbrev pub Ends : Charter → State → ℕ → ℕ → Call → Turned → List Step → List Step → Type 0
 Ends ch s k t c (turned.Replied r) steps steps' =
-    HasRoom ch s c × (steps' ≡ steps ++ Step.Call k t c ∷ []) × (r ≡ reply_of s k t c)
+    GivesNoTicket r × HasRoom ch s c × (steps' ≡ steps ++ Step.Call k t c ∷ []) × (r ≡ reply_of s k t c)
+Ends ch s k t c (turned.Begun n) steps steps' =
+    HasRoom ch s c × (steps' ≡ steps ++ Step.Call k t c ∷ []) × (reply.Begun n ≡ reply_of s k t c)
+Ends ch s k t c turned.NotYet steps steps' = HasRoom ch s c × IsNotReady s t c × (steps' ≡ steps)
 Ends ch s k t c turned.JournalFull steps steps' = (HasRoom ch s c → ⊥) × (steps' ≡ steps)
 Ends ch s k t c turned.NoMemory steps steps' = steps' ≡ steps
 Ends ch s k t c result steps steps' = ⊥

@@ -1,11 +1,12 @@
 // The one daemon value.
-ghost use Rattle.std.specs.Prelude.{◌≡◌, ◌<◌, ◌≤◌, ◌^◌, length};
+ghost use Rattle.std.specs.Prelude.{◌≡◌, ◌+◌, ◌<◌, ◌≤◌, ◌^◌, length, vec_capacity, vec_len};
 ghost use Rattle.std.specs.Coded.{Coded-set};
 ghost use Rattle.machine_model.specs.History.{IsLegal, state_after, greatest_moment};
 ghost use Rattle.machine_model.proofs.Histories.{IsLegal-prop};
 ghost use Rattle.daemon_core.specs.Storing.{charter_of, turned_by};
 
 use crate::moment::moment_used;
+use crate::ready::{drop_of, is_open};
 use crate::room::has_room;
 use crate::stored::Stored;
 use container_machine::Machine;
@@ -24,6 +25,8 @@ pub struct Daemon {
     pub(crate) ghost state: { stored ≡ record stored { machine = record stored.machine { memory = record stored.machine.memory { state = state_after (charter_of seed opening greatest) stored.steps.items } } } } by { Coded-set stored-code stored _ },
     pub(crate) ghost legal: { IsLegal (charter_of seed opening greatest) stored.steps.items } by { IsLegal-prop (charter_of seed opening greatest) stored.steps.items },
     pub(crate) ghost counted: { length stored.steps.items < 2 ^ 64 },
+    // The end of each ticket that stands has its place among the steps.
+    pub(crate) ghost ends: { vec_len stored.steps + length stored.machine.memory.state.tickets ≤ vec_capacity stored.steps },
 }
 
 /// The answer of a turn by the reply to its call.
@@ -37,12 +40,14 @@ fn turned(reply: Reply) -> Turned
 }
 
 impl Daemon {
-    ghost use Rattle.std.specs.Prelude.{ℕ, [], IfOk, IsTrue, length};
+    ghost use Rattle.std.specs.Prelude.{ℕ, [], None, Some, IfOk, IsFalse, IsTrue, length};
     ghost use Rattle.std.specs.Option.{option_map};
     ghost use Rattle.call_bounds.specs.Soundness.{IsSound};
+    ghost use Rattle.engine_text.specs.declared.call.Call as calls;
+    ghost use Rattle.machine_model.specs.History.{is_drop};
     ghost use Rattle.session_model.specs.Turning.{MayAsk, Turn};
     ghost use Rattle.call_bounds.specs.Built.{is_built, AreBuilt};
-    ghost use Rattle.daemon_core.specs.Storing.{charter_of, pass_of, IsStored, IsClear, Ends};
+    ghost use Rattle.daemon_core.specs.Storing.{charter_of, pass_of, drop_of, IsStored, IsClear, HoldsTicket, Ends};
     ghost use Rattle.daemon_core.specs.Passing.{charter, whole_pass};
 
     /// A daemon without history. The moment is at most the greatest one.
@@ -74,10 +79,37 @@ impl Daemon {
         self.stored.steps.len() as u64
     }
 
-    /// Makes every step that is due at or before the moment that counts, and then the call.
+    /// Makes every step that is due at or before the moment that counts, and then the call. A drop is
+    /// made at once, and takes no memory.
     pub fn turn(&mut self, alloc: Global, conn: u32, handed: u64, call: Option<&Call>) -> Turned
         requires may { MayAsk (charter self.old) conn self.old.stored.steps.items (option_map (λ c. c.now) call) }
         requires built { AreBuilt (option_map (λ c. c.now) call) }
+        ensures { Turn conn handed (option_map (λ c. c.now) call.entry) result (whole_pass self.old) (whole_pass self.new) }
+    {
+        match drop_of(call) {
+            Some(ticket) => self.drop_ticket(alloc, conn, ticket),
+            None => self.ask(alloc, conn, handed, call),
+        }
+    }
+
+    // Ends a ticket at once.
+    fn drop_ticket(&mut self, alloc: Global, conn: u32, ticket: u64) -> Turned
+        requires may { MayAsk (charter self.old) conn self.old.stored.steps.items (Some (calls.Call.Drop ticket)) }
+        requires built { IsTrue (is_built (calls.Call.Drop ticket)) }
+        ensures { (handed : ℕ) → Turn conn handed (Some (calls.Call.Drop ticket)) result (whole_pass self.old) (whole_pass self.new) }
+    {
+        let moment = self.stored.machine.now();
+        match self.stored.make(alloc, conn, moment, Call::Drop { ticket }) {
+            Ok(reply) => Turned::Replied(reply),
+            Err(NoMemory) => unreachable!(),
+        }
+    }
+
+    // Makes what is due, and then the call, which is no drop.
+    fn ask(&mut self, alloc: Global, conn: u32, handed: u64, call: Option<&Call>) -> Turned
+        requires may { MayAsk (charter self.old) conn self.old.stored.steps.items (option_map (λ c. c.now) call) }
+        requires built { AreBuilt (option_map (λ c. c.now) call) }
+        requires kind { drop_of (option_map (λ c. c.now) call) ≡ None }
         ensures { Turn conn handed (option_map (λ c. c.now) call.entry) result (whole_pass self.old) (whole_pass self.new) }
     {
         let moment = moment_used(self.stored.machine.now(), handed);
@@ -94,6 +126,8 @@ impl Daemon {
     fn make(&mut self, alloc: Global, conn: u32, moment: u64, call: &Call) -> Turned
         requires sound { IsSound call.now }
         requires built { IsTrue (is_built call.now) }
+        requires kind { IsFalse (is_drop call.now) }
+        requires holds { HoldsTicket self.old.stored.machine.memory.state conn call.now }
         requires at { IsClear self.old.stored.machine.memory.state moment }
         ensures charter { charter self.new ≡ charter self.old }
         ensures ends { Ends (charter self.old) self.old.stored.machine.memory.state conn moment call.now result self.old.stored.steps.items self.new.stored.steps.items }
@@ -101,7 +135,13 @@ impl Daemon {
         if !has_room(&self.stored.machine, self.greatest, call) {
             return Turned::JournalFull;
         }
-        match self.stored.make(alloc, conn, moment, call) {
+        if !is_open(&self.stored.machine, moment, call) {
+            return Turned::NotYet;
+        }
+        let Ok(made) = call.copy(alloc) else {
+            return Turned::NoMemory;
+        };
+        match self.stored.make(alloc, conn, moment, made) {
             Ok(reply) => turned(reply),
             Err(NoMemory) => Turned::NoMemory,
         }

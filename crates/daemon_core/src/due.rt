@@ -1,5 +1,5 @@
 // The steps that are due.
-ghost use Rattle.std.specs.Prelude.{◌≡◌, ◌≤◌, false, OnOk};
+ghost use Rattle.std.specs.Prelude.{◌≡◌, ◌+◌, ◌≤◌, false, length, vec_capacity, vec_len, OnOk};
 ghost use Rattle.machine_model.specs.History.{acts_by, latest};
 ghost use Rattle.daemon_core.specs.Storing.{AddsDues};
 
@@ -19,8 +19,10 @@ impl Stored {
     /// Makes the steps that are due at or before the moment, until there are none, no more can be
     /// made, or memory is refused.
     pub fn run_due(&mut self, alloc: Global, moment: u64) -> Result<(), NoMemory>
-        requires { moment ≤ latest self.old.machine.memory.state }
+        requires until { moment ≤ latest self.old.machine.memory.state }
+        requires ends { vec_len self.old.steps + length self.old.machine.memory.state.tickets ≤ vec_capacity self.old.steps }
         ensures made { AddsDues moment self.old.machine.memory.state self.new.machine.memory.state self.old.steps.items self.new.steps.items }
+        ensures ends { vec_len self.new.steps + length self.new.machine.memory.state.tickets ≤ vec_capacity self.new.steps }
         ensures all { OnOk result (acts_by self.new.machine.memory.state moment ≡ false) }
     {
         'due: while self.acts(moment) {

@@ -5,6 +5,7 @@ mod alone;
 mod daemon;
 mod due;
 mod moment;
+mod ready;
 mod room;
 mod stored;
 mod turning;

@@ -1,9 +1,9 @@
 // The machine, and the steps that led to its state.
-ghost use Rattle.std.specs.Prelude.{◌≡◌, ℕ, IfOk, OnErr, IsTrue};
+ghost use Rattle.std.specs.Prelude.{◌≡◌, ◌+◌, ◌≤◌, ℕ, IfOk, OnErr, OnOk, IsFalse, IsTrue, length, vec_capacity, vec_len};
 ghost use Rattle.engine_text.specs.declared.step.Step as steps;
-ghost use Rattle.machine_model.specs.History.{IsLawful};
+ghost use Rattle.machine_model.specs.History.{IsLawful, is_drop};
 ghost use Rattle.call_bounds.specs.Built.{is_built};
-ghost use Rattle.daemon_core.specs.Storing.{Adds, AddsDue};
+ghost use Rattle.daemon_core.specs.Storing.{Adds, AddsDue, spare_of};
 
 use container_machine::{Machine, ask};
 use engine_text::{Call, NoMemory, Reply, Step};
@@ -17,44 +17,81 @@ pub struct Stored {
 }
 
 impl Stored {
-    /// Makes a lawful call. Nothing changes where memory is refused.
+    // Room for so many steps beside the end of each ticket that stands.
+    fn reserve(&mut self, spare: usize) -> Result<(), NoMemory>
+        ensures machine { self.new.machine ≡ self.old.machine }
+        ensures steps { self.new.steps.items ≡ self.old.steps.items }
+        ensures len { vec_len self.new.steps ≡ vec_len self.old.steps }
+        ensures room { OnOk result (vec_len self.new.steps + length self.new.machine.memory.state.tickets + spare ≤ vec_capacity self.new.steps) }
+        ensures kept { vec_capacity self.old.steps ≤ vec_capacity self.new.steps }
+    {
+        let open = self.machine.tickets() as usize;
+        let Some(places) = open.checked_add(spare) else {
+            return Err(NoMemory);
+        };
+        if self.steps.reserve(places).is_err() {
+            return Err(NoMemory);
+        }
+        Ok(())
+    }
+
+    // The place of the call, and of the end of the ticket that it may give. The end of a ticket has
+    // its place.
+    fn make_place(&mut self, call: &Call) -> Result<(), NoMemory>
+        requires { vec_len self.old.steps + length self.old.machine.memory.state.tickets ≤ vec_capacity self.old.steps }
+        ensures machine { self.new.machine ≡ self.old.machine }
+        ensures steps { self.new.steps.items ≡ self.old.steps.items }
+        ensures len { vec_len self.new.steps ≡ vec_len self.old.steps }
+        ensures room { OnOk result (vec_len self.new.steps + length self.new.machine.memory.state.tickets + spare_of call.now ≤ vec_capacity self.new.steps) }
+        ensures kept { vec_capacity self.old.steps ≤ vec_capacity self.new.steps }
+        ensures drop { OnErr result (IsFalse (is_drop call.now)) }
+    {
+        match call {
+            Call::Take { .. } => Ok(()),
+            Call::Drop { .. } => Ok(()),
+            _ => self.reserve(2),
+        }
+    }
+
+    /// Makes a lawful call. Nothing changes where memory is refused. A drop takes none.
     pub fn make(
         &mut self,
         alloc: Global,
         conn: u32,
         moment: u64,
-        call: &Call,
+        call: Call,
     ) -> Result<Reply, NoMemory>
-        requires lawful { IsLawful self.old.machine.memory.state (steps.Step.Call conn moment call.now) }
-        requires built { IsTrue (is_built call.now) }
-        ensures made { IfOk result (λ r. Adds conn moment call.now r self.old.machine.memory.state self.new.machine.memory.state self.old.steps.items self.new.steps.items) }
+        requires lawful { IsLawful self.old.machine.memory.state (steps.Step.Call conn moment call) }
+        requires built { IsTrue (is_built call) }
+        requires ends { vec_len self.old.steps + length self.old.machine.memory.state.tickets ≤ vec_capacity self.old.steps }
+        ensures made { IfOk result (λ r. Adds conn moment call r self.old.machine.memory.state self.new.machine.memory.state self.old.steps.items self.new.steps.items) }
+        ensures ends { vec_len self.new.steps + length self.new.machine.memory.state.tickets ≤ vec_capacity self.new.steps }
         ensures state { OnErr result (self.new.machine.memory.state ≡ self.old.machine.memory.state) }
         ensures steps { OnErr result (self.new.steps.items ≡ self.old.steps.items) }
+        ensures drop { OnErr result (IsFalse (is_drop call)) }
     {
-        let call_made = call.copy(alloc)?;
-        if self.steps.reserve(1).is_err() {
-            return Err(NoMemory);
-        }
-        let reply = ask(&mut self.machine, alloc, conn, moment, call)?;
+        self.machine.kept();
+        self.make_place(&call)?;
+        let reply = ask(&mut self.machine, alloc, conn, moment, &call)?;
         self.steps.push_reserved(Step::Call {
             connection: conn,
             moment,
-            call: call_made,
+            call,
         });
         Ok(reply)
     }
 
     /// Makes the step that is due first. Nothing changes where memory is refused.
     pub fn step_due(&mut self, alloc: Global) -> Result<(), NoMemory>
-        requires { IsLawful self.old.machine.memory.state steps.Step.Due }
+        requires lawful { IsLawful self.old.machine.memory.state steps.Step.Due }
+        requires ends { vec_len self.old.steps + length self.old.machine.memory.state.tickets ≤ vec_capacity self.old.steps }
         ensures made { IfOk result (λ r. AddsDue self.old.machine.memory.state self.new.machine.memory.state self.old.steps.items self.new.steps.items) }
+        ensures ends { vec_len self.new.steps + length self.new.machine.memory.state.tickets ≤ vec_capacity self.new.steps }
         ensures state { OnErr result (self.new.machine.memory.state ≡ self.old.machine.memory.state) }
         ensures steps { OnErr result (self.new.steps.items ≡ self.old.steps.items) }
     {
         self.machine.kept();
-        if self.steps.reserve(1).is_err() {
-            return Err(NoMemory);
-        }
+        self.reserve(1)?;
         let prepared = self.machine.prepare_due(alloc)?;
         self.machine.commit_due(prepared);
         self.steps.push_reserved(Step::Due);

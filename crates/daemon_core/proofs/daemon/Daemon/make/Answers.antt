@@ -1,48 +1,37 @@
-use Rattle.std.proofs.Common.{◌∙◌, sym}
+use Rattle.std.proofs.Common.{◌≡◌, ◌∙◌, subst, sym}
+use Rattle.std.specs.Prelude.{IsTrue}
+use Rattle.engine_text.specs.declared.step.Step.{Step}
 use Rattle.machine_model.specs.Room.{HasRoom}
+use Rattle.machine_model.specs.History.{IsLawful}
 use Rattle.daemon_core.specs.Passing.{charter}
-use Rattle.daemon_core.proofs.DaemonLemmas.{room_same, stands, as_stored, stands_on, lawful_by, ends_made, ends_full}
+use Rattle.daemon_core.specs.Storing.{is_open}
+use Rattle.daemon_core.proofs.DaemonLemmas.{room_same, stands, as_stored, stands_on, lawful_by}
 use Rattle.daemon_core.proofs.daemon.Daemon.make.Goals as goal
-
-pub returns-then-not-has_room-clause-ends : goal.returns-then-not-has_room-clause-ends
-returns-then-not-has_room-clause-ends c =
-    let d = c.args.self.now in
-    let s = d.stored.machine.memory.state in
-    ends_full (charter d) s d.stored.steps.items c.args.conn c.args.moment c.args.call.now
-    (sym (room_same (charter d) s c.args.call.now) ∙ sym c.has_room.ensures ∙ c.if-not-has_room.true)
-
-pub make-requires-clause-lawful : goal.make-requires-clause-lawful
-make-requires-clause-lawful c =
-    let d = c.args.self.now in
-    let s = d.stored.machine.memory.state in
-    let room : HasRoom (charter d) s c.args.call.now = sym (room_same (charter d) s c.args.call.now) ∙ sym c.has_room.ensures ∙ c.if-not-has_room.false in
-    lawful_by (charter d) s c.args.conn c.args.moment c.args.call.now c.requires.built c.requires.sound c.requires.at room
 
 pub invariant_of-self-2-clause-state : goal.invariant_of-self-2-clause-state
 invariant_of-self-2-clause-state c =
     let d = c.args.self.now in
     let s = d.stored.machine.memory.state in
     let r = c.make.new.self in
-    let room : HasRoom (charter d) s c.args.call.now = sym (room_same (charter d) s c.args.call.now) ∙ sym c.has_room.ensures ∙ c.if-not-has_room.false in
-    as_stored r _ (stands_on c.make.result (charter d) s r.machine.memory.state d.stored.steps.items r.steps.items c.args.conn c.args.moment c.args.call.now
-    (stands d) (lawful_by (charter d) s c.args.conn c.args.moment c.args.call.now c.requires.built c.requires.sound c.requires.at room)
-    c.make.ensures.made c.make.ensures.state c.make.ensures.steps).is
+    let asked = c.args.call.now in
+    let room : HasRoom (charter d) s asked = sym (room_same (charter d) s asked) ∙ sym c.has_room.ensures ∙ c.if-not-has_room.false in
+    let may : IsTrue (is_open s c.args.moment asked) = sym c.is_open.ensures ∙ c.if-not-is_open.false in
+    let lawful : IsLawful s (Step.Call c.args.conn c.args.moment c.in-Ok.made) =
+    subst (λ x. IsLawful s (Step.Call c.args.conn c.args.moment x)) (sym c.in-Ok.ensures)
+    (lawful_by (charter d) s c.args.conn c.args.moment asked c.requires.built c.requires.sound c.requires.kind c.requires.holds c.requires.at room may) in
+    as_stored r _ (stands_on c.make.result (charter d) s r.machine.memory.state d.stored.steps.items r.steps.items c.args.conn c.args.moment c.in-Ok.made
+    (stands d) lawful c.make.ensures.made c.make.ensures.state c.make.ensures.steps).is
 
 pub invariant_of-self-2-clause-legal : goal.invariant_of-self-2-clause-legal
 invariant_of-self-2-clause-legal c =
     let d = c.args.self.now in
     let s = d.stored.machine.memory.state in
     let r = c.make.new.self in
-    let room : HasRoom (charter d) s c.args.call.now = sym (room_same (charter d) s c.args.call.now) ∙ sym c.has_room.ensures ∙ c.if-not-has_room.false in
-    (stands_on c.make.result (charter d) s r.machine.memory.state d.stored.steps.items r.steps.items c.args.conn c.args.moment c.args.call.now
-    (stands d) (lawful_by (charter d) s c.args.conn c.args.moment c.args.call.now c.requires.built c.requires.sound c.requires.at room)
-    c.make.ensures.made c.make.ensures.state c.make.ensures.steps).legal
-
-pub returns-in-Ok-clause-ends : goal.returns-in-Ok-clause-ends
-returns-in-Ok-clause-ends c =
-    let d = c.args.self.now in
-    let s = d.stored.machine.memory.state in
-    let r = c.make.new.self in
-    let room : HasRoom (charter d) s c.args.call.now = sym (room_same (charter d) s c.args.call.now) ∙ sym c.has_room.ensures ∙ c.if-not-has_room.false in
-    rw c.turned.ensures (ends_made (charter d) s r.machine.memory.state d.stored.steps.items r.steps.items c.args.conn c.args.moment c.args.call.now
-    c.in-Ok.reply (stands d) c.requires.built room c.in-Ok.ensures.made)
+    let asked = c.args.call.now in
+    let room : HasRoom (charter d) s asked = sym (room_same (charter d) s asked) ∙ sym c.has_room.ensures ∙ c.if-not-has_room.false in
+    let may : IsTrue (is_open s c.args.moment asked) = sym c.is_open.ensures ∙ c.if-not-is_open.false in
+    let lawful : IsLawful s (Step.Call c.args.conn c.args.moment c.in-Ok.made) =
+    subst (λ x. IsLawful s (Step.Call c.args.conn c.args.moment x)) (sym c.in-Ok.ensures)
+    (lawful_by (charter d) s c.args.conn c.args.moment asked c.requires.built c.requires.sound c.requires.kind c.requires.holds c.requires.at room may) in
+    (stands_on c.make.result (charter d) s r.machine.memory.state d.stored.steps.items r.steps.items c.args.conn c.args.moment c.in-Ok.made
+    (stands d) lawful c.make.ensures.made c.make.ensures.state c.make.ensures.steps).legal

@@ -7,5 +7,8 @@ due-preserved c =
     let first = c.args.self.now in
     let d = c.due.self in
     let r = c.step_due.new.self in
-    one_more c.args.moment first.machine.memory.state d.machine.memory.state r.machine.memory.state first.steps.items d.steps.items r.steps.items
-    c.requires c.due.invariant (sym c.acts.ensures ∙ c.due-test.true) c.in_ok-step_due.ensures.made
+    record {
+      made = one_more c.args.moment first.machine.memory.state d.machine.memory.state r.machine.memory.state first.steps.items d.steps.items r.steps.items
+          c.requires.until c.due.invariant.made (sym c.acts.ensures ∙ c.due-test.true) c.in_ok-step_due.ensures.made;
+      ends = c.step_due.ensures.ends;
+    }
