@@ -1,0 +1,35 @@
+-- How a wait for a ticket ends (own: a ticket is taken once its reply is there, or dropped).
+use Rattle.std.specs.Prelude.{ℕ, true, List}
+use Rattle.engine_ports.specs.Rose.{Rose}
+use Rattle.engine_ports.specs.Clock.{ClockView}
+use Rattle.engine_text.specs.declared.call.Call.TheVariants.{Take, Drop}
+use Rattle.engine_text.specs.declared.reply.Reply.{Reply}
+use Rattle.engine_text.specs.declared.step.Step.{Step}
+use Rattle.machine_model.specs.History.{Charter}
+use Rattle.session_model.specs.declared.turned.Awaited.{Awaited}
+use Rattle.session_model.specs.declared.turned.Awaited.TheVariants.{Replied, Stopped, NoMemory}
+use Rattle.session_model.specs.Pass.{PassView}
+use Rattle.session_model.specs.Exchange.{IsMade}
+use Rattle.session_model.specs.Progress.{Moves}
+use Rattle.daemon_core.specs.Whole.{IsAnswer}
+
+module _ (ch : Charter) (k n : ℕ) (a b : List Step) where
+  -- the connection's one call is the drop of the ticket
+  abbrev pub IsDropped : Type 0
+  IsDropped = (reply : Reply) × IsMade ch k k (Drop n) a b reply
+
+  -- it is the take, answered whole; or a drop, where the clock was stopped or memory was refused
+  abbrev pub AwaitSays : Awaited → ClockView → ClockView → Type 0
+  AwaitSays (Replied reply) v v' = IsMade ch k k (Take n) a b reply × IsAnswer reply
+  AwaitSays Stopped v v' = IsDropped × Rose v.stops v'.stops
+  AwaitSays NoMemory v v' = IsDropped
+
+-- connection k waited for ticket n
+pub record Awaits (k n : ℕ) (result : Awaited) (p q : PassView) (v v' : ClockView) : Type 0 where
+  pub moves : Moves k true p q v v'
+  pub says : AwaitSays p.charter k n p.seen q.seen result v v'
+
+-- it gave the ticket up, and asked no clock
+pub record Drops (k n : ℕ) (p q : PassView) : Type 0 where
+  pub made : IsDropped p.charter k n p.seen q.seen
+  pub moves : (v : ClockView) → Moves k true p q v v

@@ -1,0 +1,6 @@
+//! Waiting on the daemon for one connection.
+#![tactic(auto)]
+
+mod tickets;
+
+pub use tickets::await_ticket;
