@@ -8,7 +8,6 @@ use Rattle.std.proofs.lemmas.List.{length-map}
 use Rattle.engine_text.specs.Texts.{same_bytes}
 use Rattle.engine_text.specs.declared.container.Container.{Container}
 use Rattle.engine_text.specs.declared.event.Action.TheVariants.{Create}
-use Rattle.engine_text.specs.declared.event.Event.{Event}
 use Rattle.engine_text.specs.declared.mounts.Mount.{Mount}
 use Rattle.engine_text.specs.declared.pairs.Pair.{Pair}
 use Rattle.engine_text.specs.declared.step.DueAction.{DueAction}
@@ -17,7 +16,7 @@ use Rattle.engine_text.specs.declared.volume.VolumeUse.{VolumeUse}
 use Rattle.volume_table.specs.Volumes as table
 use Rattle.volume_table.specs.declared.answers.Made.{Made}
 use Rattle.machine_model.specs.Calls.Create.{add, make_missing, new_volume, placed, unless_it_stands, volume_named, with_new}
-use Rattle.machine_model.specs.Chain.{Effect, each}
+use Rattle.machine_model.specs.Chain.{each}
 use Rattle.machine_model.specs.Consistency.{AreDistinct, is_there}
 use Rattle.machine_model.specs.EventTexts.{plain_event, volume_event}
 use Rattle.machine_model.specs.State.{State}

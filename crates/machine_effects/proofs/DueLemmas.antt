@@ -5,7 +5,6 @@ use Rattle.engine_text.specs.Id.{id_of}
 use Rattle.engine_text.specs.Scripts.{Program}
 use Rattle.engine_text.specs.declared.container.Container.{Container}
 use Rattle.engine_text.specs.declared.container.Life.{Life}
-use Rattle.engine_text.specs.declared.reply.Reply.{Reply}
 use Rattle.engine_text.specs.declared.reply.Reply.TheVariants.{Answer}
 use Rattle.engine_text.specs.declared.ticket.Asked.{Asked}
 use Rattle.engine_text.specs.declared.ticket.Ticket.{Ticket}
@@ -15,12 +14,12 @@ use Rattle.machine_model.specs.State.{State, container_numbered, change_life, cl
 use Rattle.machine_model.specs.Chain.{change, with_found}
 use Rattle.std.specs.Prelude.{option_map}
 use Rattle.machine_model.specs.Due.{died, timed_out, time_out, restarted}
-use Rattle.machine_model.specs.Effects.Destroy.{answer, answered}
+use Rattle.machine_model.specs.Effects.Destroy.{answered}
 use Rattle.machine_model.specs.Outcome.{message_text}
 use Rattle.machine_model.specs.Refusals.{removal_timed_out}
-use Rattle.machine_effects.specs.Deadlines.{HasId, CanRestart, timed_out_at}
+use Rattle.machine_effects.specs.Deadlines.{HasId, timed_out_at}
 use Rattle.machine_effects.specs.Fit.{CanLaunch}
-use Rattle.machine_effects.specs.Held.{ticket_in, tickets_in, reply_in, replies_in, answered_by, late_ready, ready_by, ready_or}
+use Rattle.machine_effects.specs.Held.{ticket_in, tickets_in, replies_in, answered_by, late_ready, ready_or}
 use Rattle.machine_effects.specs.Marks.{renewed, marked, counted}
 use Rattle.machine_effects.specs.declared.held.Fate.{Fate}
 use Rattle.machine_effects.specs.declared.held.HeldTicket.{HeldTicket}

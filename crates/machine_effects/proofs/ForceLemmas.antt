@@ -1,5 +1,5 @@
 -- A signal that ends a container with the goal Remove sets no timer.
-use Rattle.std.proofs.Common.{◌≡◌, ℕ, ◌==◌, ◌<◌, ◌≤◌, Bool, true, false, List, [], ◌∷◌, ◌++◌, Option, Some, None, refl, ap, sym, ◌∙◌, subst, arith, find, length}
+use Rattle.std.proofs.Common.{◌≡◌, ℕ, ◌==◌, ◌<◌, ◌≤◌, Bool, true, false, List, [], ◌++◌, Option, Some, None, refl, ap, sym, ◌∙◌, subst, arith, find, length}
 use Rattle.std.specs.Prelude.{option_map}
 use Rattle.container_table.specs.Timers.{is_timer}
 use Rattle.engine_text.specs.declared.container.Container.{Container}

@@ -8,7 +8,6 @@ use Rattle.container_table.specs.Timers.{cleared, is_listed_before, is_timer, wi
 use Rattle.engine_text.specs.declared.step.DueAction.{DueAction}
 use Rattle.engine_text.specs.declared.ticket.Asked.{Asked}
 use Rattle.machine_model.specs.State.{State, change_life, timer_of}
-use Rattle.machine_model.specs.Chain.{Died, tell_of}
 use Rattle.machine_model.specs.EventTexts.{kill_event}
 use Rattle.machine_model.specs.Effects.Halt.{lesser, set_deadline}
 use Rattle.machine_model.specs.Effects.Meet.{meet_signal}

@@ -1,30 +1,24 @@
 -- What is told before a signal is what the signal tells.
-use Rattle.std.proofs.Common.{◌≡◌, ℕ, ◌+◌, ◌==◌, Bool, true, false, List, [], ◌∷◌, ◌++◌, Option, Some, None, refl, ap, sym, ◌∙◌, find, map, if◌then◌else◌}
+use Rattle.std.proofs.Common.{◌≡◌, ℕ, ◌+◌, ◌==◌, Bool, true, false, List, [], ◌∷◌, Option, Some, None, refl, ap, sym, ◌∙◌, find, if◌then◌else◌}
 use Rattle.std.specs.Prelude.{option_map}
-use Rattle.std.specs.List.{flat_map}
 use Rattle.engine_text.specs.Scripts.{Program}
 use Rattle.engine_text.specs.declared.container.Container.{Container}
 use Rattle.engine_text.specs.declared.container.Life.{Life}
-use Rattle.engine_text.specs.declared.container.Goal.{Goal}
-use Rattle.engine_text.specs.declared.event.Action.{Action}
 use Rattle.engine_text.specs.declared.exec.Exec.{Exec}
 use Rattle.engine_text.specs.declared.owner.Owner.{Owner}
 use Rattle.engine_text.specs.declared.script.Effect.{Effect as ProcessEffect}
 use Rattle.engine_text.specs.declared.script.Effect.TheVariants.{Lives, Wrote, Ended}
-use Rattle.engine_text.specs.declared.status.Status.{Status}
 use Rattle.container_table.specs.Lists.{update_first}
 use Rattle.proc_kernel.specs.Catalogue.{program_of}
 use Rattle.proc_kernel.specs.Foretelling.{code_at, code_in}
 use Rattle.proc_kernel.specs.Processes.{Process, signal}
 use Rattle.proc_kernel.specs.Tables.{process_of, effect_of, change as changed_of}
-use Rattle.machine_model.specs.State.{State, container_numbered, exec_numbered, running_execs, change_life}
-use Rattle.machine_model.specs.EventTexts.{plain_event, die_event, exec_die_event}
-use Rattle.machine_model.specs.Chain.{and_then, with_found}
-use Rattle.machine_model.specs.Calls.Kill.{by_hand, deliver}
-use Rattle.machine_model.specs.Effects.Meet.{by_effect, send, woken}
-use Rattle.machine_effects.specs.Foretold.{told_of, told_exec, told_number, told_execs, told_mounts, told_goal, told_status, told_end, told_code}
+use Rattle.machine_model.specs.State.{State, container_numbered, change_life}
+use Rattle.machine_model.specs.EventTexts.{exec_die_event}
+use Rattle.machine_model.specs.Effects.Meet.{by_effect, send}
+use Rattle.machine_effects.specs.Foretold.{told_of, told_exec, told_end, told_code}
 use Rattle.machine_effects.specs.Marks.{renewed}
-use Rattle.machine_effects.proofs.ToldLemmas.{found_renewed, end_told, running_changed, same_launch}
+use Rattle.machine_effects.proofs.ToldLemmas.{end_told, running_changed}
 
 -- ---- a mark leaves what is told
 

@@ -1,19 +1,16 @@
 -- What is told before a signal is met is what its meeting tells, whatever the container's status.
-use Rattle.std.proofs.Common.{◌≡◌, ℕ, ◌+◌, ◌==◌, Bool, true, false, List, [], ◌∷◌, ◌++◌, Option, Some, None, refl, ap, sym, ◌∙◌, subst, find, map, if◌then◌else◌}
-use Rattle.std.specs.Prelude.{option_map}
-use Rattle.std.specs.List.{flat_map, AllByRecursion}
+use Rattle.std.proofs.Common.{◌≡◌, ℕ, ◌+◌, ◌==◌, Bool, true, false, List, [], ◌∷◌, ◌++◌, Option, Some, None, refl, ap, sym, ◌∙◌, find, map, if◌then◌else◌}
+use Rattle.std.specs.List.{flat_map}
 use Rattle.engine_text.specs.Scripts.{Program}
 use Rattle.engine_text.specs.Owner.{same_owner}
 use Rattle.engine_text.specs.declared.container.Container.{Container}
 use Rattle.engine_text.specs.declared.container.Goal.{Goal}
 use Rattle.engine_text.specs.declared.container.Life.{Life}
 use Rattle.engine_text.specs.declared.event.Action.{Action}
-use Rattle.engine_text.specs.declared.event.Event.{Event}
 use Rattle.engine_text.specs.declared.exec.Exec.{Exec}
 use Rattle.engine_text.specs.declared.owner.Owner.{Owner}
 use Rattle.engine_text.specs.declared.script.Effect.{Effect as ProcessEffect}
 use Rattle.engine_text.specs.declared.script.Effect.TheVariants.{Lives, Wrote, Ended}
-use Rattle.engine_text.specs.declared.signal.Signal.{Signal}
 use Rattle.engine_text.specs.declared.status.Status.{Status}
 use Rattle.proc_kernel.specs.Catalogue.{program_of}
 use Rattle.proc_kernel.specs.Foretelling.{code_at, code_in}
@@ -21,20 +18,20 @@ use Rattle.proc_kernel.specs.Processes.{Process, thaw, signal}
 use Rattle.proc_kernel.specs.Tables.{Entry, process_of, effect_of, change as changed_of, without as without_of}
 use Rattle.machine_model.specs.Consistency.{AreDistinct}
 use Rattle.machine_model.specs.State.{State, container_numbered, exec_numbered, running_execs, change_life, drop_process, change_exec}
-use Rattle.machine_model.specs.Chain.{Effect, and_then, change, each, in_order, tell_of, with_found}
+use Rattle.machine_model.specs.Chain.{and_then, change, each, in_order, tell_of, with_found}
 use Rattle.machine_model.specs.EventTexts.{plain_event, die_event, exec_die_event}
 use Rattle.machine_model.specs.Calls.Kill.{by_hand, deliver}
 use Rattle.machine_model.specs.Effects.EndMain.{exec_ended}
 use Rattle.machine_model.specs.Effects.Meet.{by_effect, step_process, stepped, thaw_execs, running, wake_parts, woken, send, meet_signal}
-use Rattle.machine_effects.specs.Foretold.{told_exec, told_number, told_mounts, told_goal, told_status, told_code}
+use Rattle.machine_effects.specs.Foretold.{told_number, told_mounts, told_goal, told_status, told_code}
 use Rattle.machine_effects.specs.Marks.{renewed}
 use Rattle.machine_effects.specs.ToldMeet.{thawed_code, running_numbers, running_after, told_thaw, told_wake, told_end_with, told_code_with, told_meet, told_deliver}
 use Rattle.machine_effects.proofs.SettleLemmas.{tell_still}
 use Rattle.machine_effects.proofs.SiftLemmas.{nil_end}
 use Rattle.machine_effects.proofs.ToldLemmas.{AreAlike, end_told_of, found_renewed, running_changed, same_launch, told_at}
 use Rattle.machine_effects.proofs.MeetLemmas.{exec_marked, send_told}
-use Rattle.machine_effects.proofs.WakeLemmas.{Differ, AreSame, thaws_told, thaws_alike}
-use Rattle.machine_effects.proofs.WokenLemmas.{differ_of, differ_running, same_running, runs_after}
+use Rattle.machine_effects.proofs.WakeLemmas.{thaws_told, thaws_alike}
+use Rattle.machine_effects.proofs.WokenLemmas.{differ_running, same_running, runs_after}
 
 -- ---- a signal to the main process, told from a state in which the same is told of its execs
 

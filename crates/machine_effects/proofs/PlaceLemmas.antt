@@ -1,5 +1,5 @@
 -- Places in memory: room at them, and the same place among what the items mean.
-use Rattle.std.proofs.Common.{◌≡◌, ℕ, ◌+◌, ◌<◌, zero, suc, Bool, true, false, not, cond, List, [], ◌∷◌, Option, Some, None, refl, ap, sym, ◌∙◌, subst, arith, map, length, get_or, position, nat_lt, slice_index}
+use Rattle.std.proofs.Common.{◌≡◌, ℕ, ◌+◌, ◌<◌, zero, suc, Bool, true, false, not, cond, List, [], ◌∷◌, Some, None, refl, ap, sym, ◌∙◌, subst, arith, map, length, get_or, position, nat_lt, slice_index}
 use Rattle.std.specs.Prelude.{Result, Ok, Err, OnOk}
 use Rattle.std.specs.List.{position_or_len, prefix_len}
 use Rattle.std.proofs.Math.ListN.{set}

@@ -1,5 +1,5 @@
 -- Room that was made stands once more room is made.
-use Rattle.std.proofs.Common.{◌≡◌, ℕ, ◌<◌, ◌≤◌, List, sym, ap, subst, arith, length}
+use Rattle.std.proofs.Common.{◌≡◌, ℕ, ◌≤◌, List, sym, ap, subst, arith, length}
 use Rattle.std.specs.Prelude.{Result, Ok, Err, OnOk}
 use Rattle.engine_text.specs.declared.container.Container.{Container}
 use Rattle.engine_text.specs.declared.log.OwnedLog.{OwnedLog}

@@ -3,12 +3,11 @@ use Rattle.std.proofs.Common.{◌≡◌, ℕ, ◌==◌, Bool, true, false, List,
 use Rattle.std.specs.List.{flat_map, AllByRecursion}
 use Rattle.std.proofs.lemmas.Bool.{eqb-true}
 use Rattle.engine_text.specs.Owner.{same_owner}
-use Rattle.engine_text.specs.declared.event.Event.{Event}
 use Rattle.engine_text.specs.declared.exec.Exec.{Exec}
 use Rattle.engine_text.specs.declared.owner.Owner.{Owner}
 use Rattle.engine_text.specs.declared.script.Effect.{Effect as ProcessEffect}
 use Rattle.engine_text.specs.declared.script.Effect.TheVariants.{Lives, Wrote, Ended}
-use Rattle.proc_kernel.specs.Foretelling.{code_at, code_in}
+use Rattle.proc_kernel.specs.Foretelling.{code_in}
 use Rattle.proc_kernel.specs.Processes.{Process, thaw}
 use Rattle.proc_kernel.specs.Tables.{Entry, process_of, effect_of, change as changed_of, without as without_of}
 use Rattle.machine_model.specs.State.{State, exec_numbered, drop_process, change_exec}
@@ -16,7 +15,6 @@ use Rattle.machine_model.specs.EventTexts.{exec_die_event}
 use Rattle.machine_model.specs.Chain.{and_then, change, each, tell_of, with_found}
 use Rattle.machine_model.specs.Effects.EndMain.{end_exec, exec_ended}
 use Rattle.machine_model.specs.Effects.Meet.{by_effect, step_process, stepped}
-use Rattle.machine_effects.specs.Foretold.{told_exec}
 use Rattle.machine_effects.specs.ToldMeet.{told_thaw, thawed_code}
 use Rattle.machine_effects.proofs.SettleLemmas.{tell_still}
 use Rattle.machine_effects.proofs.ToldLemmas.{AreAlike, exec_found, alike_exec, alike_both, alike_told_exec}

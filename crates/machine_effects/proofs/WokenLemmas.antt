@@ -1,5 +1,5 @@
 -- Which execs of a container still run once they went on.
-use Rattle.std.proofs.Common.{◌≡◌, ◌≢◌, ℕ, ◌==◌, ◌&&◌, ◌||◌, not, Bool, true, false, List, [], ◌∷◌, Option, Some, None, refl, ap, sym, ◌∙◌, subst, find, map, filter, if◌then◌else◌}
+use Rattle.std.proofs.Common.{◌≡◌, ◌≢◌, ℕ, ◌==◌, ◌&&◌, Bool, true, false, List, [], ◌∷◌, Option, Some, None, refl, ap, sym, ◌∙◌, subst, find, map, filter, if◌then◌else◌}
 use Rattle.std.specs.Prelude.{option_map}
 use Rattle.std.specs.List.{AllByRecursion}
 use Rattle.std.proofs.lemmas.Bool.{eqb-true, eq-eqb}
@@ -21,7 +21,7 @@ use Rattle.machine_model.specs.EventTexts.{exec_die_event}
 use Rattle.machine_effects.specs.ToldMeet.{thawed_code, lives_on, running_after, running_numbers, is_none}
 use Rattle.machine_effects.proofs.ListLemmas.{All-imp}
 use Rattle.machine_effects.proofs.SettleLemmas.{tell_still}
-use Rattle.machine_effects.proofs.ToldLemmas.{AreAlike, alike_both, stands_changed}
+use Rattle.machine_effects.proofs.ToldLemmas.{AreAlike, stands_changed}
 use Rattle.machine_effects.proofs.WakeLemmas.{other_thawed, thaw_alike, Differ, AreSame, same_on}
 
 -- ---- one process an owner

@@ -1,5 +1,5 @@
 -- own: what a deadline or a timer needs of its container.
-use Rattle.std.specs.Prelude.{◌≡◌, ℕ, ◌+◌, ◌<◌, ◌≤◌, ◌^◌, Option, Some}
+use Rattle.std.specs.Prelude.{◌≡◌, ℕ, ◌<◌, ◌^◌, Some}
 use Rattle.engine_text.specs.Id.{id_of}
 use Rattle.engine_text.specs.declared.container.Container.{Container}
 use Rattle.machine_model.specs.State.{State, container_numbered}

@@ -1,5 +1,5 @@
 -- own: what the begin of a ticket needs.
-use Rattle.std.specs.Prelude.{ℕ, ◌<◌, ◌^◌, length}
+use Rattle.std.specs.Prelude.{◌<◌, ◌^◌, length}
 use Rattle.machine_effects.specs.Memory.{Memory}
 
 -- There is room for a ticket more, and its number can be counted.

@@ -1,5 +1,5 @@
 -- own: the events of a signal that is met, told before it from the state in which it is sent.
-use Rattle.std.specs.Prelude.{ℕ, not, Bool, true, false, List, [], ◌∷◌, ◌++◌, Option, Some, None, map, filter}
+use Rattle.std.specs.Prelude.{ℕ, Bool, true, false, List, [], ◌∷◌, ◌++◌, Option, Some, None, map, filter}
 use Rattle.std.specs.List.{flat_map}
 use Rattle.engine_text.specs.Scripts.{Program}
 use Rattle.engine_text.specs.declared.container.Container.{Container}

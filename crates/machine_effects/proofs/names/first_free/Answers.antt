@@ -1,8 +1,8 @@
-use Rattle.std.proofs.Common.{◌≡◌, ◌+◌, ◌-◌, ◌<◌, true, List, ap, sym, ◌∙◌, arith}
+use Rattle.std.proofs.Common.{◌≡◌, ◌+◌, ◌<◌, true, List, ap, ◌∙◌, arith}
 use Rattle.engine_text.specs.declared.container.Container.{Container}
 use Rattle.machine_model.specs.Consistency.{is_there}
-use Rattle.machine_model.specs.Names.{anonymous, first_free, holder}
-use Rattle.machine_effects.proofs.NameLemmas.{following, taken_here}
+use Rattle.machine_model.specs.Names.{anonymous, holder}
+use Rattle.machine_effects.proofs.NameLemmas.{following}
 use Rattle.machine_effects.proofs.names.first_free.Goals as goal
 
 pub loop-i-preserved : goal.loop-i-preserved

@@ -1,4 +1,4 @@
-use Rattle.std.proofs.Common.{◌≡◌, ◌<◌, ◌≤◌, ◌+◌, List, ap, sym, subst, ◌∙◌, arith, length}
+use Rattle.std.proofs.Common.{◌≡◌, ◌<◌, List, ap, sym, subst, ◌∙◌, arith, length}
 use Rattle.std.specs.List.{remove}
 use Rattle.engine_text.specs.declared.volume.Volume.{Volume}
 use Rattle.machine_model.specs.Calls.Create.{placed}

@@ -1,4 +1,4 @@
-use Rattle.std.proofs.Common.{◌≡◌, List, ℕ, [], ◌∷◌, ◌++◌, ap, sym, ◌∙◌, true, false}
+use Rattle.std.proofs.Common.{◌≡◌, List, [], ◌∷◌, ◌++◌, ap, sym, ◌∙◌, true, false}
 use Rattle.engine_text.specs.declared.volume.Volume.{Volume}
 use Rattle.machine_effects.proofs.CreateLemmas.{is_known, known_more, made_as, new_more}
 use Rattle.machine_effects.proofs.new_volumes.note_missing.Goals as goal

@@ -1,4 +1,4 @@
-use Rattle.std.proofs.Common.{◌<◌, arith, List, sym, ap, ◌∙◌}
+use Rattle.std.proofs.Common.{arith, List, sym, ap, ◌∙◌}
 use Rattle.engine_text.specs.Owner.{same_owner}
 use Rattle.engine_text.specs.declared.log.LogRecord.{LogRecord}
 use Rattle.engine_text.specs.declared.log.OwnedLog.{OwnedLog}

@@ -1,4 +1,4 @@
-use Rattle.std.proofs.Common.{◌≡◌, ◌<◌, ◌∷◌, [], Some, List, sym, ap, ◌∙◌, position}
+use Rattle.std.proofs.Common.{◌≡◌, ◌<◌, Some, List, sym, ap, ◌∙◌, position}
 use Rattle.std.proofs.lemmas.List.Quantifiers.{position-Some}
 use Rattle.engine_text.specs.Owner.{same_owner}
 use Rattle.engine_text.specs.declared.log.LogRecord.{LogRecord}

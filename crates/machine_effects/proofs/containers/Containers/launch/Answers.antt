@@ -1,4 +1,4 @@
-use Rattle.std.proofs.Common.{◌≡◌, ◌==◌, ◌<◌, ◌^◌, Some, ap, sym, ◌∙◌, subst, arith}
+use Rattle.std.proofs.Common.{◌≡◌, ◌==◌, ◌<◌, ◌^◌, Some, ap, sym, ◌∙◌, arith}
 use Rattle.container_table.specs.Logs.{container_in}
 use Rattle.container_table.specs.Tables.{Holdings, numbered}
 use Rattle.engine_text.specs.declared.container.Container.{Container}

@@ -1,5 +1,5 @@
-use Rattle.std.proofs.Common.{◌≡◌, ◌==◌, Some, refl, ap, sym, ◌∙◌, subst}
-use Rattle.container_table.specs.Logs.{FitsLog, container_in, recorded}
+use Rattle.std.proofs.Common.{◌≡◌, Some, refl, ap, sym, ◌∙◌, subst}
+use Rattle.container_table.specs.Logs.{FitsLog, container_in}
 use Rattle.container_table.specs.Tables.{Holdings, numbered}
 use Rattle.machine_model.specs.Effects.Meet.{logged}
 use Rattle.machine_effects.specs.Marks.{with_life}

@@ -1,4 +1,4 @@
-use Rattle.std.proofs.Common.{◌≡◌, ap, ◌∙◌, length, filter}
+use Rattle.std.proofs.Common.{ap, ◌∙◌, length, filter}
 use Rattle.std.specs.Prelude.{count_by}
 use Rattle.machine_effects.specs.Held.{output_in}
 use Rattle.machine_effects.specs.Outputs.{is_output_of}

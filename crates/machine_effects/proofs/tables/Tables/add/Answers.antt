@@ -1,4 +1,4 @@
-use Rattle.std.proofs.Common.{◌≡◌, ◌+◌, ◌<◌, ◌≤◌, None, List, [], ◌++◌, ap, sym, ◌∙◌, subst, arith, find, length, map}
+use Rattle.std.proofs.Common.{◌≡◌, ◌<◌, None, List, ◌++◌, ap, sym, ◌∙◌, subst, arith, find, length, map}
 use Rattle.std.specs.List.{AllByRecursion}
 use Rattle.std.specs.Prelude.{IsTrue}
 use Rattle.container_table.specs.Tables.{named, with_id}

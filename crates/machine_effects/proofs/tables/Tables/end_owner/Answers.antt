@@ -1,4 +1,4 @@
-use Rattle.std.proofs.Common.{◌∷◌, [], sym, ap, ◌∙◌}
+use Rattle.std.proofs.Common.{sym, ap, ◌∙◌}
 use Rattle.engine_text.specs.declared.owner.Owner.{Owner}
 use Rattle.machine_model.specs.State.{owner_number}
 use Rattle.machine_model.specs.Effects.Meet.{end_of}

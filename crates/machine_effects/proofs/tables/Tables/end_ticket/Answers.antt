@@ -1,4 +1,4 @@
-use Rattle.std.proofs.Common.{◌≡◌, ◌==◌, List, ap, ◌∙◌}
+use Rattle.std.proofs.Common.{◌==◌, List, ap, ◌∙◌}
 use Rattle.engine_text.specs.declared.ticket.Ticket.{Ticket}
 use Rattle.machine_model.specs.State.{State}
 use Rattle.machine_model.specs.Calls.Take.{end_ticket}

@@ -1,10 +1,7 @@
-use Rattle.std.proofs.Common.{◌≡◌, ◌<◌, ◌≤◌, ap, sym, ◌∙◌, subst, length}
+use Rattle.std.proofs.Common.{ap, sym, ◌∙◌, subst}
 use Rattle.machine_model.specs.State.{State, change_life}
-use Rattle.machine_model.specs.Effects.Halt.{set_deadline}
 use Rattle.machine_model.specs.Effects.Meet.{meet_signal}
-use Rattle.machine_model.specs.History.{greatest_moment}
 use Rattle.machine_effects.specs.Fit.{AreTimely, CanSettle}
-use Rattle.machine_effects.specs.Halts.{mark_of}
 use Rattle.machine_effects.specs.Memory.{Room}
 use Rattle.machine_effects.proofs.HaltLemmas.{halted_died, halted_state, set_as, settle_deadline, timely_deadline}
 use Rattle.machine_effects.proofs.tables.Tables.halt.Goals as goal

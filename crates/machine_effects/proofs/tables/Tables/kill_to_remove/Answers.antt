@@ -1,6 +1,5 @@
-use Rattle.std.proofs.Common.{◌≡◌, ◌∙◌, sym, subst}
-use Rattle.machine_model.specs.Calls.Remove.{to_remove}
-use Rattle.machine_model.specs.State.{State, change_life}
+use Rattle.std.proofs.Common.{◌∙◌, sym, subst}
+use Rattle.machine_model.specs.State.{State}
 use Rattle.machine_effects.specs.Fit.{CanSettle}
 use Rattle.machine_effects.specs.Memory.{Room}
 use Rattle.machine_effects.specs.declared.marks.Mark.{Mark}

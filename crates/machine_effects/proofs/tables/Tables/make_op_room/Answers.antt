@@ -1,6 +1,5 @@
-use Rattle.std.proofs.Common.{◌≡◌, List, ap, sym, ◌∙◌}
+use Rattle.std.proofs.Common.{List, ap, ◌∙◌}
 use Rattle.proc_kernel.specs.Tables.{Entry, length_at, process_of}
-use Rattle.machine_model.specs.State.{State}
 use Rattle.machine_effects.specs.Memory.{Memory}
 use Rattle.machine_effects.specs.Views.Tables.{memory_of}
 use Rattle.machine_effects.proofs.RoomLemmas.{op_room}

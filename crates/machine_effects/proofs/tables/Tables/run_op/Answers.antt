@@ -1,4 +1,4 @@
-use Rattle.std.proofs.Common.{◌<◌, arith}
+use Rattle.std.proofs.Common.{arith}
 use Rattle.machine_effects.proofs.OpLemmas.{record_stepped, end_stepped}
 use Rattle.machine_effects.proofs.tables.Tables.run_op.Goals as goal
 
