@@ -3,6 +3,9 @@ use Rattle.std.proofs.Common.{◌≡◌, ℕ, ◌+◌, ◌==◌, ◌<◌, ◌≤
 use Rattle.std.specs.Prelude.{IfSome, IsTrue, nat_le}
 use Rattle.std.specs.List.{AllByRecursion}
 use Rattle.std.proofs.lemmas.Bool.Decides.{nat_tests}
+use Rattle.std.proofs.lemmas.Int.{to_z-of_z}
+use mir.Syntax.{w32}
+use mir.Val.{SFits, of_z, to_z}
 use Rattle.call_bounds.specs.Soundness.{if_given, is_signal}
 use Rattle.engine_text.specs.Scripts.{Program}
 use Rattle.engine_text.specs.declared.container.Container.{Container}
@@ -13,10 +16,12 @@ use Rattle.engine_text.specs.declared.owner.Owner.{Owner}
 use Rattle.engine_text.specs.declared.reply.Reply.{Reply}
 use Rattle.engine_text.specs.declared.reply.Reply.TheVariants.{Begun}
 use Rattle.engine_text.specs.declared.signal.Signal.{Signal}
+use Rattle.engine_text.specs.declared.ticket.Asked.{Asked}
 use Rattle.proc_kernel.specs.Catalogue.{program_of}
 use Rattle.proc_kernel.specs.Foretelling.{code_at}
 use Rattle.proc_kernel.specs.Processes.{signal}
 use Rattle.proc_kernel.specs.Tables.{process_of}
+use Rattle.machine_model.specs.Chain.{Effect}
 use Rattle.machine_model.specs.Consistency.{IsConsistent}
 use Rattle.machine_model.specs.Effects.Halt.{halt, seconds_used, signal_used}
 use Rattle.machine_model.specs.Outcome.{Outcome}
@@ -24,9 +29,12 @@ use Rattle.machine_model.specs.Ranges.{IsLifeInRange}
 use Rattle.machine_model.specs.State.{State, container_numbered}
 use Rattle.machine_model.specs.Step.{at_moment}
 use Rattle.machine_model.specs.Tickets.{begins, begun}
-use Rattle.machine_effects.specs.Halts.{asked_of, goal_of, mark_of}
+use Rattle.machine_effects.specs.Fit.{died_of}
+use Rattle.machine_effects.specs.Halts.{asked_of, goal_of, halted, mark_of}
 use Rattle.machine_effects.specs.Kits.{IsKitOf}
+use Rattle.machine_effects.specs.Settled.{deaths}
 use Rattle.machine_effects.specs.ToldKill.{aimed, told_kill}
+use Rattle.machine_effects.specs.declared.death.Death.{Death}
 use Rattle.machine_effects.specs.declared.halting.Halting.{Halting}
 use Rattle.machine_effects.specs.declared.kit.Kit.{Kit}
 use Rattle.machine_effects.proofs.KillToldLemmas.{Aims, halt_told, kill_begun, once_begun, restart_aims, stopping_aims}
@@ -105,3 +113,20 @@ makes_halt p t s c connection halting wait asked sent seconds goal script code k
       reply = reply ∙ ap (λ m. Begun m) next;
       brings = subst (λ q. Brings q t s) (sym plan) (serves n s c script kit found named of, low);
     }
+
+-- ---- what it does, in its parts; the seconds are passed on
+
+halted_as : (connection n number : ℕ) (h : Halting) (z : ℤ) (asked : Asked) (s a : State) → SFits w32 z → asked ≡ asked_of h → a ≡ begun connection n asked s
+    → halted h (to_z w32 (of_z w32 z)) number n a ≡ halted h z number n (begun connection n (asked_of h) s)
+halted_as connection n number h z asked s a fits of begin =
+    ap (λ k. halted h k number n a) (to_z-of_z w32 z fits) ∙ ap (halted h z number n) (begin ∙ ap (λ q. begun connection n q s) of)
+
+pub halt_state : (connection n number : ℕ) (h : Halting) (z : ℤ) (asked : Asked) (s a b : State) → SFits w32 z → asked ≡ asked_of h → a ≡ begun connection n asked s
+    → b ≡ (halted h (to_z w32 (of_z w32 z)) number n a).state → b ≡ (halt_effect connection n h z number s).state
+halt_state connection n number h z asked s a b fits of begin e =
+    e ∙ ap (λ (x : Effect). x.state) (halted_as connection n number h z asked s a fits of begin)
+
+pub halt_ended : (connection n number : ℕ) (h : Halting) (z : ℤ) (asked : Asked) (s a : State) (code : Option ℕ) (death : Option Death) → SFits w32 z → asked ≡ asked_of h → a ≡ begun connection n asked s
+    → deaths death ≡ died_of n code → died_of n code ≡ (halted h (to_z w32 (of_z w32 z)) number n a).died → deaths death ≡ (halt_effect connection n h z number s).died
+halt_ended connection n number h z asked s a code death fits of begin is e =
+    is ∙ (e ∙ ap (λ (x : Effect). x.died) (halted_as connection n number h z asked s a fits of begin))

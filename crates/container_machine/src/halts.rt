@@ -18,6 +18,7 @@ use proc_kernel::program;
 use std::alloc::Global;
 
 /// A ticket is given, and the run is to end.
+#[tactic(auto, using(crate::proofs::StopLemmas::halt_state, crate::proofs::StopLemmas::halt_ended))]
 pub fn perform(
     tables: &mut Tables,
     conn: u32,
