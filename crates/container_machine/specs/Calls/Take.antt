@@ -5,8 +5,8 @@ use Rattle.container_machine.specs.declared.plan.Plan.{Plan}
 use Rattle.container_machine.specs.declared.prepared.Prepared.{Prepared}
 
 -- The ticket ends, with that reply and without an event.
-pub record IsEnding (at : ℕ) (reply : Reply) (ticket : ℕ) (p : Prepared) : Type 0 where
+pub record IsEnding (at : ℕ) (given : Reply) (ticket : ℕ) (p : Prepared) : Type 0 where
   pub moment : p.moment ≡ at
-  pub reply : p.reply ≡ reply
+  pub reply : p.reply ≡ given
   pub events : p.events.items ≡ []
   pub plan : p.plan ≡ Plan.EndTicket ticket
