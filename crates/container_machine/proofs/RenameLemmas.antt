@@ -6,7 +6,7 @@ use Rattle.engine_text.specs.declared.container.Container.{Container}
 use Rattle.engine_text.specs.declared.event.Event.{Event}
 use Rattle.engine_text.specs.declared.reply.Reply.TheVariants.{Answer}
 use Rattle.machine_model.specs.Calls.Rename.{named, rename}
-use Rattle.machine_model.specs.Chain.{tell_of, with_found}
+use Rattle.machine_model.specs.Chain.{with_found}
 use Rattle.machine_model.specs.EventTexts.{rename_event}
 use Rattle.machine_model.specs.Names.{holder}
 use Rattle.machine_model.specs.Outcome.{done}
@@ -55,16 +55,16 @@ rename_told name s c e =
     let found : container_numbered c.number z ≡ Some (named name c) = found_updated (λ (d : Container). d.number == c.number) (named name) s.containers (λ d. refl) ∙ ap (option_map (named name)) e in
     told_at (rename_event c.name) c.number z (named name c) found
 
-pub makes_rename : (p : Prepared) (t : ℕ) (s : State) (c : Container) (name kept shown : List ℕ) (empty : List Event) (e : Event) → container_numbered c.number s ≡ Some c → holder name s.containers ≡ None → kept ≡ name → shown ≡ name
-    → p.moment ≡ t → p.plan ≡ Plan.Rename c.number kept → p.reply ≡ Answer 204 [] → empty ≡ [] → p.events.items ≡ empty ++ e ∷ [] → e ≡ rename_event c.name (named shown c) t
+pub makes_rename : (p : Prepared) (t : ℕ) (s : State) (c : Container) (name shown : List ℕ) (empty : List Event) (e : Event) → container_numbered c.number s ≡ Some c → holder name s.containers ≡ None → shown ≡ name
+    → p.moment ≡ t → p.plan ≡ Plan.Rename c.number name → p.reply ≡ Answer 204 [] → empty ≡ [] → p.events.items ≡ empty ++ e ∷ [] → e ≡ rename_event c.name (named shown c) t
     → Makes p t s (done (rename name c))
-makes_rename p t s c name kept shown empty e found free same told moment plan reply none events is =
+makes_rename p t s c name shown empty e found free told moment plan reply none events is =
     let z : State = at_moment t s in
     let event : e ≡ rename_event c.name (named name c) t = is ∙ ap (λ n. rename_event c.name (named n c) t) told in
     record {
       moment = moment;
-      effect = ap (λ q. plan_effect q z) plan ∙ (ap (λ n. rename_effect c.number n z) same ∙ ap (λ o. with_found o (rename name) z) found);
+      effect = ap (λ q. plan_effect q z) plan ∙ ap (λ o. with_found o (rename name) z) found;
       events = events ∙ (ap (λ l. l ++ e ∷ []) none ∙ (ap (λ x. x ∷ []) event ∙ sym (rename_told name z c found)));
       reply = reply;
-      brings = subst (λ q. Brings q t s) (sym plan) (subst (λ n. holder n s.containers ≡ None) (sym same) free);
+      brings = subst (λ q. Brings q t s) (sym plan) free;
     }

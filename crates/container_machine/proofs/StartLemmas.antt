@@ -26,7 +26,11 @@ use Rattle.container_machine.specs.Plans.{plan_effect, Brings}
 use Rattle.container_machine.specs.declared.plan.Plan.{Plan}
 use Rattle.container_machine.specs.declared.prepared.Prepared.{Prepared}
 
-some_is : (o : Option Program) → is_program o ≡ true → (p : Program) × (o ≡ Some p)
+pub none_is : (o : Option Program) → is_program o ≡ false → o ≡ None
+none_is None e = refl
+none_is (Some p) e = absurd (cc)
+
+pub some_is : (o : Option Program) → is_program o ≡ true → (p : Program) × (o ≡ Some p)
 some_is None e = absurd (cc)
 some_is (Some p) e = (p, refl)
 
@@ -43,7 +47,7 @@ start_told n s c e =
 pub none_start : (n : ℕ) (s : State) → [] ≡ (launch_by_call n s).died
 none_start n s = sym (none_launch n (change_life n afresh s))
 
-same_words : (c d : Container) → Some c ≡ Some d → program_of c.life.words (c.life.starts + 1) ≡ program_of d.life.words (d.life.starts + 1)
+pub same_words : (c d : Container) → Some c ≡ Some d → program_of c.life.words (c.life.starts + 1) ≡ program_of d.life.words (d.life.starts + 1)
 same_words c d e = let is : c ≡ d = cc in ap (λ (x : Container). program_of x.life.words (x.life.starts + 1)) is
 
 pub makes_start : (p : Prepared) (t : ℕ) (s : State) (c : Container) (program : Program) (empty : List Event) → container_numbered c.number s ≡ Some c → program_of c.life.words (c.life.starts + 1) ≡ Some program

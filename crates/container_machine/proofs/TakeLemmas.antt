@@ -52,5 +52,5 @@ ready_drop p w connection moment ticket k lawful e fit =
 
 -- what isn't one
 pub not_drop : (c : Call) → ((n : ℕ) → c ≡ Call.Drop n → ⊥) → IsFalse (is_drop c)
-not_drop (Call.Drop n) no = absurd (no n refl)
-not_drop c no = refl
+not_drop (Call.Drop n) other = absurd (other n refl)
+not_drop c other = refl

@@ -61,14 +61,11 @@ pub fn perform_forced(tables: &mut Tables, conn: u32, number: u64, kit: Kit) -> 
 }
 
 // Of a container without a process.
-fn prepare_gone(
-    tables: &Tables,
-    alloc: Global,
-    moment: u64,
-    h: &Held,
-) -> Result<Prepared, NoMemory>
-    requires { container_numbered h.now.container.number tables.now.state ≡ Some (container_in h.now) }
-    ensures { IfOk result (λ p. Makes p moment tables.now.state (done (destroy h.now.container.number))) }
+fn prepare_gone(tables: &Tables, alloc: Global, moment: u64, h: &Held) -> Result<Prepared, NoMemory>
+    requires { container_numbered h.now.container.number tables.now.state
+        ≡ Some (container_in h.now) }
+    ensures { IfOk result (λ p. Makes p moment tables.now.state
+        (done (destroy h.now.container.number))) }
 {
     let number = h.container.number;
     let mut events = Vec::new(alloc);
@@ -91,8 +88,10 @@ fn prepare_given_up(
     moment: u64,
     h: &Held,
 ) -> Result<Prepared, NoMemory>
-    requires { container_numbered h.now.container.number tables.now.state ≡ Some (container_in h.now) }
-    ensures { IfOk result (λ p. Makes p moment tables.now.state (done (give_up_effect h.now.container.number))) }
+    requires { container_numbered h.now.container.number tables.now.state
+        ≡ Some (container_in h.now) }
+    ensures { IfOk result (λ p. Makes p moment tables.now.state
+        (done (give_up_effect h.now.container.number))) }
 {
     let number = h.container.number;
     let mut events = Vec::new(alloc);
@@ -109,14 +108,16 @@ fn prepare_given_up(
 }
 
 fn refuse_running(alloc: Global, moment: u64, h: &Held) -> Result<Prepared, NoMemory>
-    ensures { IfOk result (λ p. IsAnswer moment 409 (message_text (running_removal h.now.container.id)) p) }
+    ensures { IfOk result (λ p.
+        IsAnswer moment 409 (message_text (running_removal h.now.container.id)) p) }
 {
     let text = running_removal(alloc, h.container.id.as_str())?;
     refuse(alloc, moment, 409, &text)
 }
 
 fn refuse_begun(alloc: Global, moment: u64, h: &Held) -> Result<Prepared, NoMemory>
-    ensures { IfOk result (λ p. IsAnswer moment 409 (message_text (being_removed h.now.container.id)) p) }
+    ensures { IfOk result (λ p.
+        IsAnswer moment 409 (message_text (being_removed h.now.container.id)) p) }
 {
     let text = being_removed(alloc, h.container.id.as_str())?;
     refuse(alloc, moment, 409, &text)
@@ -130,17 +131,28 @@ fn prepare_forced(
     moment: u64,
     h: &Held,
 ) -> Result<Prepared, NoMemory>
-    requires stands { container_numbered h.now.container.number tables.now.state ≡ Some (container_in h.now) }
+    requires stands { container_numbered h.now.container.number tables.now.state
+        ≡ Some (container_in h.now) }
     requires starts { h.now.container.life.starts < 2 ^ 63 }
     requires kept { IsConsistent tables.now.state }
     ensures { IfOk result (λ p. Makes p moment tables.now.state
-        (begins conn (container_in h.now) asks.Asked.Remove (spec.kill_to_remove h.now.container.number))) }
+        (begins conn (container_in h.now) asks.Asked.Remove
+        (spec.kill_to_remove h.now.container.number))) }
 {
     let number = h.container.number;
     let script = program(alloc, &h.container.life.words, h.container.life.starts + 1)?;
     let code = tables.signal_code(number, Signal { number: 9 }, true);
     let mut events = Vec::new(alloc);
-    tables.tell_kill(alloc, 9, code, Goal::Remove, h, &script, moment, &mut events)?;
+    tables.tell_kill(
+        alloc,
+        9,
+        code,
+        Goal::Remove,
+        h,
+        &script,
+        moment,
+        &mut events,
+    )?;
     let kit = tables.kit(alloc, number, script)?;
     let ticket = tables.next_ticket();
     Ok(Prepared {
@@ -160,7 +172,8 @@ fn prepare_running(
     h: &Held,
     force: bool,
 ) -> Result<Prepared, NoMemory>
-    requires stands { container_numbered h.now.container.number tables.now.state ≡ Some (container_in h.now) }
+    requires stands { container_numbered h.now.container.number tables.now.state
+        ≡ Some (container_in h.now) }
     requires starts { h.now.container.life.starts < 2 ^ 63 }
     requires kept { IsConsistent tables.now.state }
     ensures { IfOk result (λ p. Makes p moment tables.now.state
@@ -181,7 +194,8 @@ fn prepare_restarting(
     h: &Held,
     force: bool,
 ) -> Result<Prepared, NoMemory>
-    requires { container_numbered h.now.container.number tables.now.state ≡ Some (container_in h.now) }
+    requires { container_numbered h.now.container.number tables.now.state
+        ≡ Some (container_in h.now) }
     ensures { IfOk result (λ p. Makes p moment tables.now.state
         (spec.remove_restarting force (container_in h.now))) }
 {
@@ -193,15 +207,12 @@ fn prepare_restarting(
 }
 
 // Only where no process is left.
-fn prepare_dead(
-    tables: &Tables,
-    alloc: Global,
-    moment: u64,
-    h: &Held,
-) -> Result<Prepared, NoMemory>
-    requires { container_numbered h.now.container.number tables.now.state ≡ Some (container_in h.now) }
+fn prepare_dead(tables: &Tables, alloc: Global, moment: u64, h: &Held) -> Result<Prepared, NoMemory>
+    requires { container_numbered h.now.container.number tables.now.state
+        ≡ Some (container_in h.now) }
     ensures { IfOk result (λ p. Makes p moment tables.now.state
-        (λ s. spec.remove_dead (is_live (owners.Owner.Container h.now.container.number) s) (container_in h.now) s)) }
+        (λ s. spec.remove_dead (is_live (owners.Owner.Container h.now.container.number) s)
+        (container_in h.now) s)) }
 {
     if tables.stands(Owner::Container(h.container.number)) {
         refuse_begun(alloc, moment, h)
@@ -218,7 +229,8 @@ fn prepare_by_status(
     h: &Held,
     force: bool,
 ) -> Result<Prepared, NoMemory>
-    requires stands { container_numbered h.now.container.number tables.now.state ≡ Some (container_in h.now) }
+    requires stands { container_numbered h.now.container.number tables.now.state
+        ≡ Some (container_in h.now) }
     requires starts { h.now.container.life.starts < 2 ^ 63 }
     requires kept { IsConsistent tables.now.state }
     ensures { IfOk result (λ p. Makes p moment tables.now.state
@@ -245,7 +257,8 @@ pub fn prepare(
     force: bool,
 ) -> Result<Prepared, NoMemory>
     requires { IsConsistent tables.now.state }
-    ensures { IfOk result (λ p. Makes p moment tables.now.state (spec.remove_outcome conn target.now force)) }
+    ensures { IfOk result (λ p. Makes p moment tables.now.state
+        (spec.remove_outcome conn target.now force)) }
 {
     match look(tables, alloc, moment, target)? {
         Looked::Stands(h) => prepare_by_status(tables, alloc, conn, moment, h, force),

@@ -36,9 +36,11 @@ fn prepare_free(
     h: &Held,
     name: Text,
 ) -> Result<Prepared, NoMemory>
-    requires stands { container_numbered h.now.container.number tables.now.state ≡ Some (container_in h.now) }
+    requires stands { container_numbered h.now.container.number tables.now.state
+        ≡ Some (container_in h.now) }
     requires free { holder name tables.now.state.containers ≡ None }
-    ensures { IfOk result (λ p. Makes p moment tables.now.state (done (spec.rename name (container_in h.now)))) }
+    ensures { IfOk result (λ p. Makes p moment tables.now.state
+        (done (spec.rename name (container_in h.now)))) }
 {
     let number = h.container.number;
     let mut events = Vec::new(alloc);
@@ -61,7 +63,8 @@ fn prepare_named(
     h: &Held,
     name: Text,
 ) -> Result<Prepared, NoMemory>
-    requires { container_numbered h.now.container.number tables.now.state ≡ Some (container_in h.now) }
+    requires { container_numbered h.now.container.number tables.now.state
+        ≡ Some (container_in h.now) }
     ensures { IfOk result (λ p. Makes p moment tables.now.state
         (λ s. spec.by_holder (holder name s.containers) name (container_in h.now) s)) }
 {
@@ -88,7 +91,8 @@ fn prepare_standing(
     h: &Held,
     name: &str,
 ) -> Result<Prepared, NoMemory>
-    requires { container_numbered h.now.container.number tables.now.state ≡ Some (container_in h.now) }
+    requires { container_numbered h.now.container.number tables.now.state
+        ≡ Some (container_in h.now) }
     ensures { IfOk result (λ p. Makes p moment tables.now.state
         (spec.rename_standing name.now (container_in h.now))) }
 {
@@ -107,7 +111,8 @@ fn prepare_by_status(
     h: &Held,
     name: &str,
 ) -> Result<Prepared, NoMemory>
-    requires { container_numbered h.now.container.number tables.now.state ≡ Some (container_in h.now) }
+    requires { container_numbered h.now.container.number tables.now.state
+        ≡ Some (container_in h.now) }
     ensures { IfOk result (λ p. Makes p moment tables.now.state
         (spec.by_status h.now.container.life.status name.now (container_in h.now))) }
 {
@@ -136,7 +141,8 @@ pub fn prepare(
     target: &str,
     name: &str,
 ) -> Result<Prepared, NoMemory>
-    ensures { IfOk result (λ p. Makes p moment tables.now.state (spec.rename_outcome target.now name.now)) }
+    ensures { IfOk result (λ p. Makes p moment tables.now.state
+        (spec.rename_outcome target.now name.now)) }
 {
     match look(tables, alloc, moment, target)? {
         Looked::Stands(h) => prepare_by_status(tables, alloc, moment, h, without_slash(name)),
