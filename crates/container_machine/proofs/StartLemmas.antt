@@ -26,6 +26,18 @@ use Rattle.container_machine.specs.Plans.{plan_effect, Brings}
 use Rattle.container_machine.specs.declared.plan.Plan.{Plan}
 use Rattle.container_machine.specs.declared.prepared.Prepared.{Prepared}
 
+-- an answer that changes nothing is the outcome that answers so
+pub made_answer : (p : Prepared) (t : ℕ) (s : State) (f : State → Outcome) (status : ℕ) (body : List ℕ) → IsAnswer t status body p → ((z : State) → f z ≡ answers status body z) → Makes p t s f
+made_answer p t s f status body a h =
+    let z : State = at_moment t s in
+    record {
+      moment = a.moment;
+      effect = ap (λ q. plan_effect q z) a.plan ∙ sym (ap (λ (o : Outcome). o.effect) (h z));
+      events = a.events ∙ sym (ap (λ (o : Outcome). o.effect.events) (h z));
+      reply = a.reply ∙ sym (ap (λ (o : Outcome). o.reply) (h z));
+      brings = subst (λ q. Brings q t s) (sym a.plan) tt;
+    }
+
 pub none_is : (o : Option Program) → is_program o ≡ false → o ≡ None
 none_is None e = refl
 none_is (Some p) e = absurd (cc)
