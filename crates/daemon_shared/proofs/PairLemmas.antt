@@ -1,8 +1,7 @@
 -- A connection's second pass: parted off, and taken in again.
-use Rattle.std.proofs.Common.{◌≡◌, ◌<◌, ◌==◌, ◌+◌, ℕ, List, [], ◌∷◌, ◌++◌, Bool, true, false, if◌then◌else◌, Option, Some, map, refl, sym, ◌∙◌, ap, subst, inl, inr, arith, append-nil, length}
+use Rattle.std.proofs.Common.{◌≡◌, ◌==◌, ◌+◌, ℕ, List, [], ◌∷◌, ◌++◌, Bool, true, false, if◌then◌else◌, Option, Some, map, refl, sym, ◌∙◌, ap, subst, inl, inr, arith, append-nil, length}
 use Rattle.std.specs.Prelude.{Contains}
 use Rattle.std.proofs.lemmas.Bool.{false≢true}
-use Rattle.std.proofs.lemmas.Bool.Decides.{nat_tests}
 use Rattle.std.proofs.lemmas.List.Elements.{filter-append, Contains-append_right}
 use Rattle.engine_text.specs.declared.step.Step.{Step}
 use Rattle.machine_model.specs.History.{IsLegal, calls_of, bears, input_of}

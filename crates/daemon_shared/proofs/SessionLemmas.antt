@@ -1,10 +1,9 @@
 -- What a session leaves, by the pass that it took: the pass goes through turns and comes back.
-use Rattle.std.proofs.Common.{ℕ, ◌≡◌, ◌∙◌, ap, sym, subst, Option, Some, None}
+use Rattle.std.proofs.Common.{ℕ, ◌≡◌, ◌∙◌, ap, sym, subst, Option}
 use Rattle.atomic_table.specs.Seated.{TableId}
 use Rattle.turnstile.specs.Turns.{IsPass}
 use Rattle.engine_ports.specs.Door.{Outside}
 use Rattle.session_model.specs.declared.ending.Ending.{Ending}
-use Rattle.session_model.specs.Pass.{PassView}
 use Rattle.daemon_shared.specs.Sessions.{SharedSeat}
 use Rattle.daemon_shared.specs.Running.{ServesBy}
 use Rattle.daemon_shared.specs.Sharing.{shared_pass}

@@ -1,5 +1,5 @@
 -- A connection's second pass, for its standard input (own: takeovers of this project).
-use Rattle.std.specs.Prelude.{ℕ, ◌≡◌, List, [], IsFalse}
+use Rattle.std.specs.Prelude.{ℕ, ◌≡◌, [], IsFalse}
 use Rattle.engine_ports.specs.Rose.{Rose}
 use Rattle.machine_model.specs.History.{IsLegal, Extends, calls_of, input_of}
 use Rattle.session_model.specs.Pass.{PassView, Every, Only, IsConnection, KeepsInput}

@@ -1,5 +1,5 @@
 -- How a line's daemon is opened: its charter, its moment, and the clock of its sessions (own).
-use Rattle.std.specs.Prelude.{ℕ, ◌≡◌, ◌≤◌, min, List, [], ◌∷◌, Option, Some, None}
+use Rattle.std.specs.Prelude.{ℕ, ◌≡◌, ◌≤◌, min, [], ◌∷◌, Option, Some, None}
 use Rattle.std.specs.Option.{ForSome}
 use Rattle.engine_ports.specs.Clock.{ClockView, ClockHanded}
 use Rattle.machine_model.specs.History.{Charter, greatest_moment}

@@ -41,11 +41,11 @@ returns g c =
       serves =
           subst (λ s. ServesBy s 0 c.serve_by-ending.result (pass_of ch []) (alone_pass c.serve_by-ending.new.turns)
           (outside (g.S.Source.gives c.args.source.now) (g.K.Sink.takes c.args.sink.now) (g.C.Clock.times c.opening_by-opening.new.clock))
-          (outside (g.S.Source.gives c.serve_by-ending.new.source) (g.K.Sink.takes c.serve_by-ending.new.sink) (g.C.Clock.times c.serve_by-ending.new.clock)))
+          (outside (g.S.Source.gives c.serve_by-ending.new.from) (g.K.Sink.takes c.serve_by-ending.new.into) (g.C.Clock.times c.serve_by-ending.new.time)))
           c.steps_of-steps.ensures
           (subst (λ p. ServesBy c.steps_of-steps.result 0 c.serve_by-ending.result p (alone_pass c.serve_by-ending.new.turns)
           (outside (g.S.Source.gives c.args.source.now) (g.K.Sink.takes c.args.sink.now) (g.C.Clock.times c.opening_by-opening.new.clock))
-          (outside (g.S.Source.gives c.serve_by-ending.new.source) (g.K.Sink.takes c.serve_by-ending.new.sink) (g.C.Clock.times c.serve_by-ending.new.clock)))
+          (outside (g.S.Source.gives c.serve_by-ending.new.from) (g.K.Sink.takes c.serve_by-ending.new.into) (g.C.Clock.times c.serve_by-ending.new.time)))
           began c.serve_by-ending.ensures);
       whole = inl (c.serve_by-ending.new.turns.daemon, refl);
     }
