@@ -1,7 +1,6 @@
 -- A commit in its parts is the call's outcome.
-use Rattle.std.proofs.Common.{◌≡◌, ℕ, ◌+◌, ◌*◌, ◌<◌, ◌≤◌, ◌^◌, List, Some, refl, ap, sym, ◌∙◌, subst, arith, Option, length, ◌++◌}
+use Rattle.std.proofs.Common.{◌≡◌, ℕ, ◌+◌, ◌*◌, ◌<◌, ◌≤◌, ◌^◌, List, Some, ap, sym, ◌∙◌, subst, arith, Option, length, ◌++◌}
 use Rattle.engine_text.specs.declared.event.Event.{Event}
-use Rattle.engine_text.specs.declared.call.Call.{Call}
 use Rattle.machine_model.specs.State.{State}
 use Rattle.machine_model.specs.Chain.{Effect, Died}
 use Rattle.machine_model.specs.Call.{outcome_of}

@@ -1,6 +1,5 @@
 -- A due step that is made ready is what the least due action does, and may be committed.
-use Rattle.std.proofs.Common.{◌≡◌, IsTrue, ℕ, ◌+◌, ◌==◌, true, ◌<◌, ◌≤◌, ◌^◌, List, [], ◌++◌, Option, Some, None, refl, ap, sym, ◌∙◌, subst, arith, length, find}
-use Rattle.std.specs.List.{AllByRecursion}
+use Rattle.std.proofs.Common.{◌≡◌, IsTrue, ℕ, ◌+◌, ◌==◌, true, ◌<◌, ◌≤◌, List, [], ◌++◌, Option, Some, None, refl, ap, sym, ◌∙◌, subst, arith, length}
 use Rattle.engine_text.specs.Id.{id_of}
 use Rattle.engine_text.specs.Scripts.{Program}
 use Rattle.engine_text.specs.declared.container.Container.{Container}
@@ -18,14 +17,13 @@ use Rattle.machine_model.specs.Consistency.{HasOwner, IsConsistent, is_there}
 use Rattle.machine_model.specs.Due.{by_rank, least_due}
 use Rattle.machine_model.specs.Effects.Meet.{step_process}
 use Rattle.machine_model.specs.History.{IsLawful, is_by, latest}
-use Rattle.machine_model.specs.Step.{at_moment, finished, or_still, step_of}
+use Rattle.machine_model.specs.Step.{at_moment, or_still, step_of}
 use Rattle.machine_model.proofs.Laws.{IsMomentOf, kept_due, timely_due}
 use Rattle.machine_model.proofs.ObeyLemmas.{found_all}
 use Rattle.machine_effects.specs.Deadlines.{CanRestart, HasId}
-use Rattle.machine_effects.specs.Fit.{CanSettle}
 use Rattle.machine_effects.specs.Foretold.{told_launch}
-use Rattle.machine_effects.specs.Memory.{HasRoom, Memory, standing}
-use Rattle.machine_effects.specs.Ops.{CanEnd, HasEndRoomOf, HasOpRoom, HasRecordRoom, owner_at}
+use Rattle.machine_effects.specs.Memory.{Memory, standing}
+use Rattle.machine_effects.specs.Ops.{CanEnd, HasEndRoomOf, HasRecordRoom, owner_at}
 use Rattle.machine_effects.specs.ToldCalls.{told_op}
 use Rattle.machine_effects.specs.ToldKill.{told_kill}
 use Rattle.machine_effects.specs.declared.kit.Kit.{Kit}

@@ -1,6 +1,5 @@
 -- A call that is made ready may be committed.
-use Rattle.std.proofs.Common.{◌≡◌, ℕ, ◌+◌, ◌<◌, ◌≤◌, ◌^◌, List, [], ◌∷◌, Option, None, refl, ap, sym, ◌∙◌, subst, arith, length}
-use Rattle.std.specs.List.{AllByRecursion}
+use Rattle.std.proofs.Common.{ℕ, ◌+◌, ◌<◌, ◌≤◌, ◌^◌, Option, None, arith, length}
 use Rattle.engine_text.specs.Scripts.{Program}
 use Rattle.engine_text.specs.declared.call.Call.{Call}
 use Rattle.engine_text.specs.declared.container.Container.{Container}
@@ -10,7 +9,7 @@ use Rattle.machine_model.specs.State.{State}
 use Rattle.machine_model.specs.Call.{outcome_of}
 use Rattle.machine_model.specs.Consistency.{IsConsistent}
 use Rattle.machine_model.specs.History.{IsLawful, greatest_moment}
-use Rattle.machine_model.specs.Step.{at_moment, call_outcome}
+use Rattle.machine_model.specs.Step.{at_moment}
 use Rattle.machine_effects.specs.Fit.{AreFew, AreTimely, CanRemove, CanSettle, IsScriptOf}
 use Rattle.machine_effects.specs.Kits.{IsKitOf}
 use Rattle.machine_effects.specs.Memory.{Memory, HasRoom, standing}
@@ -21,8 +20,8 @@ use Rattle.container_machine.specs.Calls.Start.{CanStart}
 use Rattle.container_machine.proofs.CreateLemmas.{has_new_id, is_above}
 use Rattle.container_machine.specs.Making.{Makes}
 use Rattle.container_machine.specs.Parts.{MachineParts}
-use Rattle.container_machine.specs.Plans.{plan_effect, Brings, Fits, HasRoomFor, Serves}
-use Rattle.container_machine.specs.Prepared.{Asked, asked_by, IsFor}
+use Rattle.container_machine.specs.Plans.{Brings, Fits, HasRoomFor, Serves}
+use Rattle.container_machine.specs.Prepared.{asked_by, IsFor}
 use Rattle.container_machine.specs.declared.plan.Plan.{Plan}
 use Rattle.container_machine.specs.declared.prepared.Prepared.{Prepared}
 

@@ -1,5 +1,5 @@
 -- A restart that is made ready is the restart's outcome.
-use Rattle.std.proofs.Common.{◌≡◌, ℕ, ◌+◌, List, [], ◌∷◌, ◌++◌, Option, Some, None, refl, ap, sym, ◌∙◌, subst}
+use Rattle.std.proofs.Common.{◌≡◌, ℕ, ◌+◌, List, [], ◌++◌, Option, Some, None, refl, ap, sym, ◌∙◌, subst}
 use Rattle.std.specs.Prelude.{Result, Ok, Err, IfOk}
 use Rattle.api_json.specs.Values.{first_word}
 use Rattle.engine_text.specs.Scripts.{Program}
@@ -25,7 +25,7 @@ use Rattle.machine_effects.specs.ToldCalls.{told_again}
 use Rattle.machine_effects.specs.declared.marks.Mark.{Mark}
 use Rattle.machine_effects.proofs.CallToldLemmas.{again_told, restarting_again_told}
 use Rattle.machine_effects.proofs.DiedLemmas.{none_launch}
-use Rattle.machine_effects.proofs.DiedToldLemmas.{behind_event, none_told}
+use Rattle.machine_effects.proofs.DiedToldLemmas.{none_told}
 use Rattle.machine_effects.proofs.SettleLemmas.{launch_alike, launch_renew}
 use Rattle.container_machine.specs.Calls.Restart.{restart_restarting_effect}
 use Rattle.container_machine.specs.Making.{IsAnswer, Makes}

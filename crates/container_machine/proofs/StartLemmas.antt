@@ -1,20 +1,14 @@
 -- A start that is made ready is the start's outcome.
-use Rattle.std.proofs.Common.{◌≡◌, ℕ, ◌+◌, Bool, true, false, List, [], ◌∷◌, ◌++◌, Option, Some, None, refl, ap, sym, ◌∙◌, subst}
-use Rattle.std.specs.Prelude.{Result, Ok, Err, IfOk}
-use Rattle.engine_text.specs.declared.memory.NoMemory.{NoMemory}
-use Rattle.api_json.specs.Values.{first_word}
+use Rattle.std.proofs.Common.{◌≡◌, ℕ, ◌+◌, true, false, List, [], ◌++◌, Option, Some, None, refl, ap, sym, ◌∙◌, subst}
 use Rattle.engine_text.specs.Scripts.{Program}
 use Rattle.engine_text.specs.declared.container.Container.{Container}
 use Rattle.engine_text.specs.declared.event.Event.{Event}
-use Rattle.engine_text.specs.declared.reply.Reply.{Reply}
 use Rattle.engine_text.specs.declared.reply.Reply.TheVariants.{Answer}
 use Rattle.proc_kernel.specs.Catalogue.{program_of}
 use Rattle.proc_kernel.proofs.StartsLemmas.{is_program, program_alike}
 use Rattle.machine_model.specs.State.{State, container_numbered, change_life}
-use Rattle.machine_model.specs.Chain.{Effect}
 use Rattle.machine_model.specs.Effects.Launch.{afresh, launch_by_call}
-use Rattle.machine_model.specs.Outcome.{Outcome, answers, done, message_text}
-use Rattle.machine_model.specs.Refusals.{unknown_command}
+use Rattle.machine_model.specs.Outcome.{Outcome, answers, done}
 use Rattle.machine_model.specs.Step.{at_moment}
 use Rattle.machine_model.specs.Calls.Start.{if_program, run}
 use Rattle.machine_effects.specs.Foretold.{told_launch}

@@ -1,7 +1,6 @@
 -- A stop that is made ready is the stop's outcome.
-use Rattle.std.proofs.Common.{◌≡◌, ℕ, ◌+◌, ◌==◌, ◌<◌, ◌≤◌, ◌&&◌, ℤ, Bool, true, false, List, [], ◌∷◌, ◌++◌, Option, Some, None, refl, ap, sym, ◌∙◌, subst, find, arith, if◌then◌else◌}
+use Rattle.std.proofs.Common.{◌≡◌, ℕ, ◌+◌, ◌==◌, ◌<◌, ◌≤◌, ◌&&◌, ℤ, Bool, true, false, List, [], ◌++◌, Option, Some, None, ap, sym, ◌∙◌, subst, arith}
 use Rattle.std.specs.Prelude.{IfSome, IsTrue, nat_le}
-use Rattle.std.specs.List.{AllByRecursion}
 use Rattle.std.proofs.lemmas.Bool.Decides.{nat_tests}
 use Rattle.std.proofs.lemmas.Int.{to_z-of_z}
 use mir.Syntax.{w32}
@@ -13,7 +12,6 @@ use Rattle.engine_text.specs.declared.container.Goal.{Goal}
 use Rattle.engine_text.specs.declared.container.Life.{Life}
 use Rattle.engine_text.specs.declared.event.Event.{Event}
 use Rattle.engine_text.specs.declared.owner.Owner.{Owner}
-use Rattle.engine_text.specs.declared.reply.Reply.{Reply}
 use Rattle.engine_text.specs.declared.reply.Reply.TheVariants.{Begun}
 use Rattle.engine_text.specs.declared.signal.Signal.{Signal}
 use Rattle.engine_text.specs.declared.ticket.Asked.{Asked}
@@ -24,7 +22,6 @@ use Rattle.proc_kernel.specs.Tables.{process_of}
 use Rattle.machine_model.specs.Chain.{Effect}
 use Rattle.machine_model.specs.Consistency.{IsConsistent}
 use Rattle.machine_model.specs.Effects.Halt.{halt, seconds_used, signal_used}
-use Rattle.machine_model.specs.Outcome.{Outcome}
 use Rattle.machine_model.specs.Ranges.{IsLifeInRange}
 use Rattle.machine_model.specs.State.{State, container_numbered}
 use Rattle.machine_model.specs.Step.{at_moment}
@@ -42,24 +39,16 @@ use Rattle.container_machine.specs.Calls.Stop.{halt_effect}
 use Rattle.container_machine.specs.Making.{Makes}
 use Rattle.container_machine.specs.Plans.{plan_effect, Brings}
 use Rattle.container_machine.specs.declared.plan.Plan.{Plan}
+use Rattle.machine_model.proofs.ObeyLemmas.{found_all}
 use Rattle.container_machine.specs.declared.prepared.Prepared.{Prepared}
 use Rattle.container_machine.proofs.MakeLemmas.{once_at, serves}
 
 -- ---- the signal is one of 1 to 31
 
-found_either : {A : Type 0} (P : A → Type 0) (b : Bool) (x c : A) (o : Option A) → P x → (o ≡ Some c → P c) → (if b then Some x else o) ≡ Some c → P c
-found_either P true x c o h rest e = let is : x ≡ c = cc in subst P is h
-found_either P false x c o h rest e = rest e
-
--- what holds of each holds of the one that is found
-pub all_found : {A : Type 0} (P : A → Type 0) (p : A → Bool) (xs : List A) (c : A) → AllByRecursion P xs → find p xs ≡ Some c → P c
-all_found P p [] c all e = absurd (cc)
-all_found P p (x ∷ xs) c all e = found_either P (p x) x c (find p xs) all.0 (all_found P p xs c all.1) e
-
 own_signal : (n : ℕ) (s : State) (c : Container) → IsConsistent s → container_numbered n s ≡ Some c → c.life.stop_signal.number < 32
 own_signal n s c k found =
-    let within : IsLifeInRange c.life = all_found (λ (d : Container). IsLifeInRange d.life) (λ (d : Container). d.number == n) s.containers c k.ranges.lives found in
-    let most = within.1.1 in
+    let within : IsLifeInRange c.life = found_all (λ (d : Container). IsLifeInRange d.life) (λ (d : Container). d.number == n) c s.containers found k.ranges.lives in
+    let most : c.life.stop_signal.number ≤ 31 = within.2 in
     omega (arith, most)
 
 -- the signal that is used

@@ -1,6 +1,6 @@
 -- The end of a ticket that is made ready is the call's outcome.
-use Rattle.std.proofs.Common.{◌≡◌, ℕ, ◌+◌, ◌≤◌, refl, ap, ◌∙◌, sym, subst, arith, length}
-use Rattle.std.specs.Prelude.{IsFalse}
+use Rattle.std.proofs.Common.{◌≡◌, ℕ, ◌≤◌, refl, ap, ◌∙◌, sym, subst, arith, length}
+use Rattle.std.specs.Prelude.{IsFalse, Result, Ok, Err, OnErr}
 use Rattle.engine_text.specs.declared.call.Call.{Call}
 use Rattle.engine_text.specs.declared.reply.Reply.{Reply}
 use Rattle.engine_text.specs.declared.reply.Reply.TheVariants.{Dropped}
@@ -16,7 +16,6 @@ use Rattle.container_machine.specs.Making.{Makes}
 use Rattle.container_machine.specs.Parts.{MachineParts}
 use Rattle.container_machine.specs.Plans.{plan_effect, Brings, HasRoomFor}
 use Rattle.container_machine.specs.Prepared.{IsFor, asked_by}
-use Rattle.container_machine.specs.declared.plan.Plan.{Plan}
 use Rattle.container_machine.specs.declared.prepared.Prepared.{Prepared}
 use Rattle.container_machine.proofs.ReadyLemmas.{ready}
 
@@ -54,3 +53,8 @@ ready_drop p w connection moment ticket k lawful e fit =
 pub not_drop : (c : Call) → ((n : ℕ) → c ≡ Call.Drop n → ⊥) → IsFalse (is_drop c)
 not_drop (Call.Drop n) other = absurd (other n refl)
 not_drop c other = refl
+
+-- what holds holds of an error
+pub on_err : {A B : Type 0} (r : Result A B) (P : Type 0) → P → OnErr r P
+on_err (Ok a) P h = tt
+on_err (Err e) P h = h

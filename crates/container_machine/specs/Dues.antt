@@ -1,5 +1,5 @@
 -- own: when a prepared due step may be committed, and what the commit does.
-use Rattle.std.specs.Prelude.{◌≡◌, ℕ, ◌+◌, ◌≤◌, ◌++◌, Option, Some, None, length}
+use Rattle.std.specs.Prelude.{◌≡◌, ◌+◌, ◌≤◌, ◌++◌, Option, Some, None, length}
 use Rattle.engine_text.specs.declared.step.DueAction.{DueAction}
 use Rattle.machine_model.specs.State.{State}
 use Rattle.machine_model.specs.Chain.{Effect}

@@ -1,6 +1,5 @@
 -- own: what a prepared call does once its container is found and its status is known, and what that needs.
 use Rattle.std.specs.Prelude.{◌≡◌, ℕ, ◌+◌, ◌<◌, ◌≤◌, [], None, ⊤, length, vec_capacity}
-use Rattle.engine_text.specs.declared.signal.Signal.{Signal}
 use Rattle.machine_model.specs.State.{State}
 use Rattle.machine_model.specs.Chain.{Effect, change, still}
 use Rattle.machine_model.specs.Calls.Create.{add, make_volume, volume_named}

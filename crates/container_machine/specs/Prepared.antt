@@ -1,5 +1,5 @@
 -- own: when a prepared call may be committed, and what the commit does.
-use Rattle.std.specs.Prelude.{◌≡◌, ℕ, ◌+◌, ◌<◌, ◌≤◌, ◌^◌, ◌++◌, length, Result, Ok, Err}
+use Rattle.std.specs.Prelude.{◌≡◌, ℕ, ◌+◌, ◌≤◌, ◌++◌, length, Result, Ok, Err}
 use Rattle.engine_text.specs.declared.call.Call.{Call}
 use Rattle.engine_text.specs.declared.reply.Reply.{Reply}
 use Rattle.engine_text.specs.declared.memory.NoMemory.{NoMemory}
@@ -7,7 +7,7 @@ use Rattle.machine_model.specs.State.{State}
 use Rattle.machine_model.specs.Call.{outcome_of}
 use Rattle.machine_model.specs.Outcome.{Outcome}
 use Rattle.machine_model.specs.Step.{at_moment, call_outcome}
-use Rattle.machine_effects.specs.Memory.{Memory, standing}
+use Rattle.machine_effects.specs.Memory.{standing}
 use Rattle.container_machine.specs.Plans.{plan_effect, Fits}
 use Rattle.machine_model.specs.Consistency.{IsConsistent}
 use Rattle.container_machine.specs.Parts.{MachineParts}

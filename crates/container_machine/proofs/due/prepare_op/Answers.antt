@@ -1,4 +1,4 @@
-use Rattle.std.proofs.Common.{refl, subst, sym, ◌≡◌}
+use Rattle.std.proofs.Common.{refl, subst, sym}
 use Rattle.machine_model.specs.Consistency.{HasOwner}
 use Rattle.container_machine.proofs.DueFoundLemmas.{due_stands}
 use Rattle.container_machine.proofs.DueMakeLemmas.{makes_op}

@@ -1,4 +1,7 @@
-use Rattle.std.proofs.Common.{refl}
+use Rattle.std.proofs.Common.{ℤ, refl, ap, rules}
+use Rattle.std.proofs.lemmas.Int.{to_z-of_z}
+use mir.Syntax.{w32}
+use Rattle.container_machine.specs.declared.plan.Plan.{Plan}
 use Rattle.machine_effects.specs.Held.{container_in}
 use Rattle.container_machine.proofs.StopLemmas.{low_used, makes_halt}
 use Rattle.container_machine.proofs.halts.prepare.Goals as goal
@@ -14,4 +17,5 @@ returns c = makes_halt _ c.args.moment c.args.tables.now.state (container_in c.a
     c.requires.kept c.requires.stands
     (low_used c.args.signal c.args.h.now.container.number c.args.tables.now.state (container_in c.args.h.now) c.signal_used-sent.result.number c.requires.kept c.requires.stands c.requires.signal c.signal_used-sent.ensures)
     c.signal_used-sent.ensures c.seconds_used-seconds.ensures c.goal-goal.ensures c.in_ok-script.ensures c.signal_code-code.ensures
-    refl refl c.in_ok-kit.ensures refl c.next_ticket-ticket.ensures c.new-events.ensures.items c.in_ok-tell_kill.ensures
+    refl (ap (λ (z : ℤ). Plan.Halt c.args.conn c.args.h.now.container.number c.args.halting c.signal_used-sent.result z c.in_ok-kit.kit) (to_z-of_z w32 c.seconds_used-seconds.result (search rules)))
+    c.in_ok-kit.ensures refl c.next_ticket-ticket.ensures c.new-events.ensures.items c.in_ok-tell_kill.ensures

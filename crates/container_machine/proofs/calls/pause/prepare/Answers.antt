@@ -1,12 +1,8 @@
-use Rattle.std.proofs.Common.{subst, ◌≡◌, Some}
+use Rattle.std.proofs.Common.{subst}
 use Rattle.engine_text.specs.declared.container.Container.{Container}
-use Rattle.machine_model.specs.Outcome.{Outcome}
-use Rattle.machine_model.specs.State.{State}
 use Rattle.machine_model.specs.Calls.Pause.{by_status}
-use Rattle.machine_effects.specs.Held.{container_in}
 use Rattle.container_machine.specs.Making.{IsLooked}
 use Rattle.container_machine.specs.declared.lookup.Looked.{Looked}
-use Rattle.container_machine.proofs.MakeLemmas.{few_found}
 use Rattle.container_machine.proofs.calls.pause.prepare.Goals as goal
 
 pub returns-in-Refused : goal.returns-in-Refused

@@ -1,7 +1,5 @@
-use Rattle.std.proofs.Common.{subst, ◌≡◌, Some}
+use Rattle.std.proofs.Common.{subst}
 use Rattle.engine_text.specs.declared.container.Container.{Container}
-use Rattle.machine_model.specs.Outcome.{Outcome}
-use Rattle.machine_model.specs.State.{State}
 use Rattle.machine_model.specs.Calls.Restart.{by_status}
 use Rattle.machine_effects.specs.Held.{container_in}
 use Rattle.container_machine.specs.Making.{IsLooked}

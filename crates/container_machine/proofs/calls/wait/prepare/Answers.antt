@@ -1,4 +1,4 @@
-use Rattle.std.proofs.Common.{subst, ◌≡◌, Some, Option}
+use Rattle.std.proofs.Common.{subst}
 use Rattle.engine_text.specs.declared.container.Container.{Container}
 use Rattle.engine_text.specs.declared.ticket.Asked.{Asked}
 use Rattle.machine_model.specs.Chain.{still}

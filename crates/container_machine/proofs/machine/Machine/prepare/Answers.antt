@@ -1,4 +1,4 @@
-use Rattle.std.proofs.Common.{◌≡◌, ◌+◌, ◌≤◌, subst, sym, arith, length}
+use Rattle.std.proofs.Common.{◌≡◌, subst, sym, arith}
 use Rattle.engine_text.specs.declared.call.Call.{Call}
 use Rattle.machine_model.specs.State.{State}
 use Rattle.machine_model.specs.Call.{outcome_of}
@@ -9,7 +9,7 @@ use Rattle.container_machine.specs.Making.{Makes}
 use Rattle.container_machine.specs.Prepared.{IsFor, asked_by}
 use Rattle.machine_model.specs.Consistency.{IsConsistent}
 use Rattle.container_machine.proofs.ReadyLemmas.{ready}
-use Rattle.container_machine.proofs.TakeLemmas.{not_drop, ready_drop}
+use Rattle.container_machine.proofs.TakeLemmas.{not_drop, on_err, ready_drop}
 use Rattle.container_machine.proofs.machine.Machine.prepare.Goals as goal
 
 pub returns-in-Drop-clause-ready : goal.returns-in-Drop-clause-ready
@@ -31,5 +31,8 @@ returns-clause-ready c =
     (subst (λ (s : State). Makes c.in_ok-prepared.prepared c.args.moment s (outcome_of c.args.call.now c.args.conn)) e c.in_ok-prepared.ensures)
     c.in_ok-make_room.ensures.room (omega (arith, c.in_ok-make_room.ensures.places))
 
-pub prepare_call-prepared-requires-clause-heard : goal.prepare_call-prepared-requires-clause-heard
-prepare_call-prepared-requires-clause-heard c = not_drop c.args.call.now c.in_default.not-Drop
+pub prepare_call-requires-clause-heard : goal.prepare_call-requires-clause-heard
+prepare_call-requires-clause-heard c = not_drop c.args.call.now c.in_default.not-Drop
+
+pub returns-in_err-make_room-clause-drop : goal.returns-in_err-make_room-clause-drop
+returns-in_err-make_room-clause-drop c = on_err c.from_residual-in_err-make_room.result _ (not_drop c.args.call.now c.in_default.not-Drop)
