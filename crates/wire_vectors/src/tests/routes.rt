@@ -251,16 +251,25 @@ fn an_inspect_is_asked_of_the_container_that_its_path_names(rt: HostRuntime) -> 
 // Whether a call is a stop of the container of this reference, with these seconds and this signal.
 fn is_stop(call: &Option<Call>, reference: &str, seconds: i32, sent: Signal) -> bool {
     match call {
-        Some(Call::Stop { target, wait, signal }) => {
-            target.is(reference) && *wait == Some(seconds) && *signal == Some(sent)
-        }
+        Some(
+            Call::Stop {
+                target,
+                wait,
+                signal,
+            },
+        ) => { target.is(reference) && *wait == Some(seconds) && *signal == Some(sent) }
         _ => false,
     }
 }
 
 #[test]
 fn a_stop_has_the_seconds_and_the_signal_of_its_query(rt: HostRuntime) -> Result<(), Fail> {
-    let call = asked(rt.alloc(), "POST", "/containers/a/stop?t=2147483&signal=2", "")?;
+    let call = asked(
+        rt.alloc(),
+        "POST",
+        "/containers/a/stop?t=2147483&signal=2",
+        "",
+    )?;
     assert!(rt; is_stop(&call, "a", 2_147_483, Signal { number: 2 }));
     Ok(())
 }
@@ -268,9 +277,13 @@ fn a_stop_has_the_seconds_and_the_signal_of_its_query(rt: HostRuntime) -> Result
 // Whether a call is a restart of the container of this reference, by its own signal and seconds.
 fn is_plain_restart(call: &Option<Call>, reference: &str) -> bool {
     match call {
-        Some(Call::Restart { target, wait, signal }) => {
-            target.is(reference) && wait.is_none() && signal.is_none()
-        }
+        Some(
+            Call::Restart {
+                target,
+                wait,
+                signal,
+            },
+        ) => { target.is(reference) && wait.is_none() && signal.is_none() }
         _ => false,
     }
 }

@@ -18,6 +18,7 @@ returns-in-Drop-clause-ready c =
     (ready_drop c.prepare_drop.result c.args.self.now c.args.conn c.args.moment c.in-Drop.ticket c.kept.ensures.state
     (subst (λ (x : Call). IsLawful c.args.self.now.memory.state (Step.Call c.args.conn c.args.moment x)) c.in-Drop.is c.requires.lawful)
     c.prepare_drop.ensures c.fits.ensures)
+
 pub prepare_call-requires-clause-until : goal.prepare_call-requires-clause-until
 prepare_call-requires-clause-until c =
     (timely_call c.args.self.now.memory.state c.args.conn c.args.moment c.args.call.now c.kept.ensures.state c.requires.lawful).until
