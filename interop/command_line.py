@@ -9,7 +9,7 @@ import shlex
 import subprocess
 import time
 
-from steps import NOT_BUILT, Steps
+from steps import Steps, is_absent
 
 steps = Steps("docker")
 ID = "[0-9a-f]{64}"
@@ -28,7 +28,7 @@ def typed(line, seconds=20):
 def step(line, pattern="", status=0, seconds=20):
     ended, out, message = typed(line, seconds)
     said = out + message
-    if NOT_BUILT in message:
+    if is_absent(message):
         return steps.tell(line, absent=True)
     if ended == status and re.fullmatch(pattern, said.strip(), re.DOTALL):
         return steps.tell(line)
@@ -81,14 +81,14 @@ state("deaf", "paused 0")
 step("unpause deaf", "deaf")
 step("kill --signal TERM deaf", "deaf")
 state("deaf", "running 0")
-step("stop --time 1 deaf", "deaf")
+step("stop --timeout 1 deaf", "deaf")
 state("deaf", "exited 137")
 step("start deaf", "deaf")
 step("kill deaf", "deaf")
 state("deaf", "exited 137")
 step("kill deaf", ".*is not running.*", 1)
 step("wait deaf", "137")
-step("restart --time 0 deaf", "deaf")
+step("restart --timeout 0 deaf", "deaf")
 state("deaf", "running 0")
 step("ps --filter label=tier=back --format '{{.Names}}'", "deaf")
 

@@ -2,7 +2,7 @@
 """Python's client library against a daemon: the calls that a test suite makes."""
 import docker
 
-from steps import NOT_BUILT, Steps
+from steps import Steps, is_absent
 
 steps = Steps("docker-py")
 client = docker.from_env(version="1.43", timeout=20)
@@ -14,7 +14,7 @@ def step(what, call, holds=lambda it: True):
     try:
         it = call()
     except docker.errors.APIError as why:
-        steps.tell(what, str(why), absent=NOT_BUILT in str(why))
+        steps.tell(what, str(why), absent=is_absent(str(why)))
         return None
     except Exception as why:  # a library's own faults are told, too
         steps.tell(what, repr(why))
@@ -28,7 +28,7 @@ def refused(what, call, status):
         steps.tell(what, f"gave {call()!r}")
     except docker.errors.APIError as why:
         same = why.response.status_code == status
-        steps.tell(what, None if same else str(why), absent=NOT_BUILT in str(why))
+        steps.tell(what, None if same else str(why), absent=is_absent(str(why)))
 
 
 step("ping", client.ping, bool)

@@ -1,8 +1,12 @@
 """Steps of a client against a daemon, and the table of what came of each."""
 import sys
 
-# what a step may be answered while its call isn't built
-NOT_BUILT = "not built"
+# what a step may be told while its call isn't built: the daemon's message, and that of a client whose takeover is refused so
+NOT_BUILT = ("not built", "received 501")
+
+
+def is_absent(message):
+    return any(text in message for text in NOT_BUILT)
 
 
 class Steps:
