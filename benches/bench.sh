@@ -7,14 +7,8 @@ here=$(cd "$(dirname "$0")" && pwd)
 name=$1
 top=$(mktemp -d)
 trap 'rm -rf "$top"' EXIT
-mkdir -p "$top/crates"
-for crate in "$here"/../crates/*; do
-  copy="$top/crates/$(basename "$crate")"
-  mkdir "$copy"
-  for part in src specs proofs; do
-    if [ -d "$crate/$part" ]; then cp -r "$crate/$part" "$copy/"; fi
-  done
-done
+# (with what was proved there, so that only the bench itself is proved anew)
+tar -C "$here/.." --exclude=incremental -cf - crates | tar -C "$top" -xf -
 cp "$here/../HANDLES" "$top/"
 { cat "$here/../crates.txt"; printf 'bench_%s: %s\n' "$name" "$(head -n 1 "$here/$name.program" | sed 's,^// *needs: *,,')"; } >"$top/crates.txt"
 mkdir -p "$top/crates/bench_$name/src"

@@ -1,7 +1,7 @@
 // Worked tables, and that ample memory is never called wanting.
 use super::*;
-use crate::blank::blank;
-use engine_text::{DueAction, Found, NoMemory, Text, id_of};
+use crate::blank::blank_life;
+use engine_text::{Container, DueAction, Found, NoMemory, OpenLog, Text, id_of};
 use std::alloc::Global;
 use std::str;
 use std::test::Fail;
@@ -16,11 +16,18 @@ fn id(alloc: Global, number: u64) -> Result<Text, NoMemory> {
 
 /// Whether a container of that number and name was added.
 fn add(table: &mut Table, alloc: Global, number: u64, name: &str) -> Result<bool, NoMemory> {
-    let mut held = blank(alloc);
-    held.container.number = number;
-    held.container.id = id(alloc, number)?;
-    held.container.name = Text::of(alloc, name)?;
     table.reserve(alloc, 1)?;
+    let id = id(alloc, number)?;
+    let name = Text::of(alloc, name)?;
+    let held = Held {
+        container: Container {
+            number,
+            id,
+            name,
+            life: blank_life(alloc),
+        },
+        log: OpenLog::new(alloc),
+    };
     let one = &held.container;
     if !table.is_free(number, one.id.as_str(), one.name.as_str()) {
         return Ok(false);
