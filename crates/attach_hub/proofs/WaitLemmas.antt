@@ -1,6 +1,6 @@
 -- Waiting for a ticket goes on, and ends.
-use Rattle.std.proofs.Common.{◌≡◌, ◌⊎◌, inl, inr, ◌≤◌, ◌==◌, ◌&&◌, ◌||◌, ℕ, max, List, [], ◌∷◌, ◌++◌, cond, refl, sym, ◌∙◌, ap, subst, append_assoc, append-nil, arith, Bool, true, false, Some, None}
-use Rattle.std.specs.Prelude.{IsTrue, IsFalse}
+use Rattle.std.proofs.Common.{◌≡◌, ◌⊎◌, inl, inr, ◌==◌, ◌&&◌, ◌||◌, ℕ, List, [], ◌∷◌, ◌++◌, cond, refl, sym, ◌∙◌, ap, subst, append_assoc, append-nil, arith, Bool, true, false, Some}
+use Rattle.std.specs.Prelude.{IsTrue}
 use Rattle.std.specs.List.{filter}
 use Rattle.std.proofs.lemmas.Bool.{false≢true}
 use Rattle.std.proofs.lemmas.List.Elements.{filter-append}
@@ -14,15 +14,15 @@ use Rattle.engine_text.specs.declared.reply.Reply.TheVariants as reply
 use Rattle.engine_text.specs.declared.step.Step.{Step}
 use Rattle.machine_model.specs.State.{State}
 use Rattle.machine_model.specs.Ready.{is_ready}
-use Rattle.machine_model.specs.History.{Charter, IsLegal, AreLawful, HasNone, own_calls, input_of, after_step, state_after, state_from, opening_state, reply_of, moment_used}
+use Rattle.machine_model.specs.History.{Charter, IsLegal, AreLawful, HasNone, own_calls, input_of, state_after, state_from, opening_state, reply_of, moment_used}
 use Rattle.machine_model.proofs.Histories.{lawful_back}
 use Rattle.session_model.specs.declared.turned.Turned.{Turned}
 use Rattle.session_model.specs.declared.turned.Turned.TheVariants as T
 use Rattle.session_model.specs.declared.turned.Awaited.TheVariants as A
 use Rattle.session_model.specs.Pass.{PassView}
-use Rattle.session_model.specs.Turning.{Turn, Turns, Makes, HasBegun, ends_ticket, is_end_of, found}
+use Rattle.session_model.specs.Turning.{Turn, Makes, HasBegun, ends_ticket, found}
 use Rattle.session_model.specs.Exchange.{IsQuiet, IsMade}
-use Rattle.session_model.specs.Moments.{HasNoTimed, is_timed}
+use Rattle.session_model.specs.Moments.{HasNoTimed}
 use Rattle.session_model.specs.Progress.{Moves}
 use Rattle.session_model.proofs.HistoryLemmas.{run_append, quiet_same, quiet_on, made_behind, dues_none, some_none, untimed, untimed_append}
 use Rattle.session_model.proofs.DueLemmas.{dues_clock, some_clock}

@@ -1,7 +1,7 @@
 -- What the calls that are built do: they stand at their moment, begin no stream, and may be made behind what is due.
 use Rattle.std.proofs.Common.{◌≡◌, ◌⊎◌, inl, inr, ℕ, List, [], ◌∷◌, refl, subst, sym, ◌∙◌, Bool, true, false, ◌&&◌, ◌||◌, ◌==◌, not, Option, Some, None, find, arith}
 use Rattle.std.specs.Prelude.{IsTrue, IsFalse, nat_le, nat_lt}
-use Rattle.std.specs.List.{AllByRecursion, list_any, list_all}
+use Rattle.std.specs.List.{AllByRecursion, list_all}
 use Rattle.std.proofs.lemmas.Bool.{false≢true}
 use Rattle.std.proofs.lemmas.Bool.Decides.{nat_tests}
 use Rattle.http.specs.StatusCode.{IsStatusCode}
@@ -19,7 +19,7 @@ use Rattle.machine_model.specs.Ready.{is_given, is_ready, ticket_is_ready}
 use Rattle.machine_model.specs.Tickets.{ticket_numbered}
 use Rattle.machine_model.specs.Calls.Take.{ticket_reply, reply_of as taken}
 use Rattle.machine_model.specs.Room.{HasRoom}
-use Rattle.machine_model.specs.History.{Charter, after_step, state_from, state_after, opening_state, reply_of, IsLawful, IsTimely, is_due, has_steps, is_drop}
+use Rattle.machine_model.specs.History.{Charter, after_step, state_after, opening_state, reply_of, IsLawful, IsTimely, is_due, has_steps, is_drop}
 use Rattle.machine_model.proofs.ClosureLemmas.{runs_call}
 use Rattle.machine_model.proofs.MomentLemmas.{stamped_closed}
 use Rattle.machine_model.proofs.ObeyLemmas.{HaveReplies, IsTicketReply, found_all}

@@ -1,6 +1,6 @@
 -- A ticket that a connection has begun and hasn't ended stands, and its end has a place.
 use Rattle.std.proofs.Common.{◌≡◌, ◌≤◌, ◌<◌, ◌+◌, ◌==◌, ◌&&◌, ℕ, List, [], ◌∷◌, ◌++◌, Bool, true, false, cond, refl, sym, ◌∙◌, ap, subst, length, arith, Option, Some, None}
-use Rattle.std.specs.Prelude.{IsTrue, IsFalse}
+use Rattle.std.specs.Prelude.{IsFalse}
 use Rattle.std.specs.List.{filter}
 use Rattle.std.proofs.lemmas.Bool.{false≢true, eq-eqb}
 use Rattle.std.proofs.lemmas.Bool.Decides.{nat_tests}

@@ -1,4 +1,4 @@
-use Rattle.std.proofs.Common.{refl, subst, sym}
+use Rattle.std.proofs.Common.{subst, sym}
 use Rattle.std.specs.Prelude.{IsTrue}
 use Rattle.session_model.specs.Pass.{IsNumber}
 use Rattle.attach_hub.proofs.WaitLemmas.{rests_same, rests_on, rests_pause, not_yet, no_memory, taken, take_never, stopped, given_up, begun_rests}

@@ -1,7 +1,6 @@
 use Rattle.std.proofs.Common.{◌≡◌, ◌≤◌, subst, sym}
 use Rattle.machine_model.specs.History.{moment_used, greatest_moment}
 use Rattle.daemon_core.specs.Passing.{charter}
-use Rattle.machine_model.specs.History.{state_after}
 use Rattle.daemon_core.specs.Storing.{HoldsTicket}
 use Rattle.daemon_core.proofs.DueLemmas.{clear_behind}
 use Rattle.daemon_core.proofs.TicketLemmas.{holds_at, holds_on, none_dropped}
