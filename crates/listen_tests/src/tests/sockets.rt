@@ -4,9 +4,23 @@ use super::requests::MOMENT;
 use daemon_shared::run_daemon;
 use engine_ports::{Door, TcpDoor};
 use session_model::Worst;
+use std::alloc::Global;
 use std::io;
+use std::sync::Wait;
 use std::test::Fail;
-use std::thread::join;
+use std::thread::{Threads, join};
+
+/// The worst of all sessions of a daemon that takes in so many connections at this door.
+fn worst_of<R: Threads + Wait + Sync, D: Door>(
+    rt: &R,
+    alloc: Global,
+    most: u32,
+    door: &mut D,
+) -> Worst {
+    let (worst, daemon) = run_daemon(rt, alloc, [0; 32], MOMENT, 100, Some(most), None, door);
+    drop(daemon);
+    worst
+}
 
 #[test]
 fn two_orders_between_two_connections_are_kept(rt: HostRuntime) -> Result<(), Fail> {
@@ -18,7 +32,7 @@ fn two_orders_between_two_connections_are_kept(rt: HostRuntime) -> Result<(), Fa
     };
     let (worst, told) = join(
         &rt,
-        || -> Worst { run_daemon(&rt, alloc, [0; 32], MOMENT, 100, Some(3), None, &mut door).0 },
+        || -> Worst { worst_of(&rt, alloc, 3, &mut door) },
         || -> io::Result<bool> { keep_two_orders(&rt, alloc, addr.port()) },
     );
     assert_eq!(rt; worst, Worst::Closed);
@@ -36,7 +50,7 @@ fn who_goes_halfway_loses_nobody_else_anything(rt: HostRuntime) -> Result<(), Fa
     };
     let (worst, told) = join(
         &rt,
-        || -> Worst { run_daemon(&rt, alloc, [0; 32], MOMENT, 100, Some(4), None, &mut door).0 },
+        || -> Worst { worst_of(&rt, alloc, 4, &mut door) },
         || -> io::Result<bool> { leave_halfway(&rt, alloc, addr.port()) },
     );
     assert_eq!(rt; worst, Worst::Refused);
