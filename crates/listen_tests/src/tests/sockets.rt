@@ -6,17 +6,25 @@ use engine_ports::{Door, TcpDoor};
 use session_model::Worst;
 use std::alloc::Global;
 use std::io;
+use std::net::TcpListener;
 use std::sync::Wait;
 use std::test::Fail;
 use std::thread::{Threads, join};
 
-/// The worst of all sessions of a daemon that takes in so many connections at this door.
+/// The worst of all sessions of a daemon that takes in so many connections at this port.
 fn worst_of<R: Threads + Wait + Sync, D: Door>(
     rt: &R,
     alloc: Global,
+    port: u16,
     most: u32,
     door: &mut D,
 ) -> Worst {
+    let Ok(addr) = format!(in alloc; "127.0.0.1:{port}") else {
+        return Worst::NoMemory;
+    };
+    if door.bind(addr.as_str()).is_err() {
+        return Worst::Fault;
+    }
     let (worst, daemon) = run_daemon(rt, alloc, [0; 32], MOMENT, 100, Some(most), None, door);
     drop(daemon);
     worst
@@ -25,15 +33,14 @@ fn worst_of<R: Threads + Wait + Sync, D: Door>(
 #[test]
 fn two_orders_between_two_connections_are_kept(rt: HostRuntime) -> Result<(), Fail> {
     let alloc = rt.alloc();
+    let free = TcpListener::bind(&rt, "127.0.0.1:0")?;
+    let port = free.local_addr()?.port();
+    drop(free);
     let mut door = TcpDoor::new(&rt, alloc);
-    assert!(rt; door.bind("127.0.0.1:0").is_ok());
-    let Some(addr) = door.address() else {
-        panic!(rt; "the door has no address");
-    };
     let (worst, told) = join(
         &rt,
-        || -> Worst { worst_of(&rt, alloc, 3, &mut door) },
-        || -> io::Result<bool> { keep_two_orders(&rt, alloc, addr.port()) },
+        || -> Worst { worst_of(&rt, alloc, port, 3, &mut door) },
+        || -> io::Result<bool> { keep_two_orders(&rt, alloc, port) },
     );
     assert_eq!(rt; worst, Worst::Closed);
     assert!(rt; told.unwrap_or(false));
@@ -43,15 +50,14 @@ fn two_orders_between_two_connections_are_kept(rt: HostRuntime) -> Result<(), Fa
 #[test]
 fn who_goes_halfway_loses_nobody_else_anything(rt: HostRuntime) -> Result<(), Fail> {
     let alloc = rt.alloc();
+    let free = TcpListener::bind(&rt, "127.0.0.1:0")?;
+    let port = free.local_addr()?.port();
+    drop(free);
     let mut door = TcpDoor::new(&rt, alloc);
-    assert!(rt; door.bind("127.0.0.1:0").is_ok());
-    let Some(addr) = door.address() else {
-        panic!(rt; "the door has no address");
-    };
     let (worst, told) = join(
         &rt,
-        || -> Worst { worst_of(&rt, alloc, 4, &mut door) },
-        || -> io::Result<bool> { leave_halfway(&rt, alloc, addr.port()) },
+        || -> Worst { worst_of(&rt, alloc, port, 4, &mut door) },
+        || -> io::Result<bool> { leave_halfway(&rt, alloc, port) },
     );
     assert_eq!(rt; worst, Worst::Refused);
     assert!(rt; told.unwrap_or(false));
