@@ -1,5 +1,5 @@
 // The program with a line that listens.
-use super::clients::keep_two_orders;
+use super::clients::{keep_two_orders, leave_halfway};
 use engine_ports::{Door, MemSink, MemSource, NoMemory, StepClock, TcpDoor};
 use engine_program::run_engined;
 use engine_text::Text;
@@ -10,13 +10,13 @@ use std::sync::Wait;
 use std::test::Fail;
 use std::thread::{Threads, join};
 
-/// The words of a line that listens at this port, for three connections.
-fn words_of(alloc: Global, port: u16) -> Result<Vec<Text>, NoMemory> {
+/// The words of a line that listens at this port, for so many connections.
+fn words_of(alloc: Global, port: u16, most: &str) -> Result<Vec<Text>, NoMemory> {
     let Ok(addr) = format!(in alloc; "127.0.0.1:{port}") else {
         return Err(NoMemory);
     };
     let mut words = Vec::new(alloc);
-    for word in ["--listen", addr.as_str(), "--connections", "3"] {
+    for word in ["--listen", addr.as_str(), "--connections", most] {
         let Ok(word) = Text::of(alloc, word) else {
             return Err(NoMemory);
         };
@@ -45,7 +45,7 @@ fn connections_at_the_port_of_the_line_are_served(rt: HostRuntime) -> Result<(),
     let free = TcpListener::bind(&rt, "127.0.0.1:0")?;
     let port = free.local_addr()?.port();
     drop(free);
-    let words = words_of(alloc, port)?;
+    let words = words_of(alloc, port, "3")?;
     let mut door = TcpDoor::new(&rt, alloc);
     let (ran, told) = join(
         &rt,
@@ -58,9 +58,27 @@ fn connections_at_the_port_of_the_line_are_served(rt: HostRuntime) -> Result<(),
 }
 
 #[test]
+fn who_goes_halfway_loses_nobody_else_anything(rt: HostRuntime) -> Result<(), Fail> {
+    let alloc = rt.alloc();
+    let free = TcpListener::bind(&rt, "127.0.0.1:0")?;
+    let port = free.local_addr()?.port();
+    drop(free);
+    let words = words_of(alloc, port, "4")?;
+    let mut door = TcpDoor::new(&rt, alloc);
+    let (ran, told) = join(
+        &rt,
+        || -> Result<(u8, bool), NoMemory> { runs(&rt, &words, &mut door) },
+        || -> io::Result<bool> { leave_halfway(&rt, alloc, port) },
+    );
+    assert_eq!(rt; ran, Ok((3, true)));
+    assert!(rt; told.unwrap_or(false));
+    Ok(())
+}
+
+#[test]
 fn a_taken_port_is_status_4(rt: HostRuntime) -> Result<(), Fail> {
     let taken = TcpListener::bind(&rt, "127.0.0.1:0")?;
-    let words = words_of(rt.alloc(), taken.local_addr()?.port())?;
+    let words = words_of(rt.alloc(), taken.local_addr()?.port(), "3")?;
     let mut door = TcpDoor::new(&rt, rt.alloc());
     assert_eq!(rt; runs(&rt, &words, &mut door), Ok((4, true)));
     drop(taken);
