@@ -207,8 +207,10 @@ scenario("other_image", create("web", body='{"Image":"nope"}'), message(404, "No
 scenario("exit_7", [create("web", ["exit", "7"]), post("/v1.43/containers/web/start"), get("/v1.43/containers/web/json")],
          [created(0), answer(204), shown(0, "web", ["exit", "7"], "exited", code=7, started=NOW, finished=NOW)],
          comings=("pieces=7",))
-scenario("unknown_command", [create("web", ["nope"]), post("/containers/web/start"), get("/containers/web/json")],
-         [created(0), message(400, "unknown command: nope"), shown(0, "web", ["nope"], "created")])
+scenario("unknown_command", [create("web", ["nope"]), post("/containers/web/start"), get("/containers/web/json"),
+                             create("db", ["sleep", "0000000010"]), post("/containers/db/start")],
+         [created(0), message(400, "unknown command: nope"), shown(0, "web", ["nope"], "created"), created(1),
+          message(400, "unknown command: sleep")])
 scenario("started_twice", [create("web", ["deaf"]), post("/containers/web/start"), post("/containers/web/start"),
                            get("/containers/web/json"), post("/containers/db/start")],
          [created(0), answer(204), answer(304), shown(0, "web", ["deaf"], "running", pid=1001, started=NOW),
@@ -253,11 +255,12 @@ scenario("list_filters", THREE + [
     get("/containers/json?all=1&filters=" + urllib.parse.quote(compact({"label": ["tier", "zone=a"]}))),
     get("/containers/json?all=1&limit=1&filters=" + urllib.parse.quote(compact({"name": ["we"]}))),
     filtered({"id": [id_of(1)[:12]]}), filtered({"ancestor": ["engine/tools"]}), filtered({"ancestor": ["nginx"]}),
-    filtered({"volume": ["data"]}), filtered({"name": []}), filtered({}), filtered({"until": ["1h"]})],
+    filtered({"volume": ["data"]}), filtered({"name": []}), filtered({}), filtered({"until": ["1h"]}),
+    post("/containers/db/kill"), filtered({"status": ["exited"], "exited": ["137"]})],
     THREE_ANSWERS + [
     listed(JOB_ITEM, WEB_ITEM), listed(), listed(JOB_ITEM), listed(), listed(DB_ITEM), listed(), listed(JOB_ITEM, WEB_ITEM),
     listed(WEB_ITEM), listed(WEB_ITEM), listed(DB_ITEM), listed(DB_ITEM), listed(), listed(), listed(), listed(DB_ITEM),
-    message(400, "invalid filter")])
+    message(400, "invalid filter"), answer(204), listed(item(1, "db", ["sleep", "600000"], "exited", "Exited (137)"))])
 
 # signals: a container that ignores three of them, and how a signal is spelled
 DEAF = ["deaf"]
@@ -266,11 +269,13 @@ scenario("kill", [create("web", DEAF), post("/containers/web/kill"), post("/cont
                   post("/containers/web/kill?signal=TERM"), post("/v1.43/containers/web/kill?signal=SIGHUP"),
                   post("/containers/web/kill?signal=2"), get("/containers/web/json"), post("/containers/web/kill"),
                   get("/containers/web/json"), post("/containers/web/kill?signal="), post("/containers/db/kill"),
-                  post("/containers/web/kill?signal=0"), post("/containers/web/kill?signal=32")],
+                  post("/containers/web/kill?signal=0"), post("/containers/web/kill?signal=32"),
+                  post("/containers/web/start"), post("/containers/web/kill?signal=QUIT"), get("/containers/web/json")],
          [created(0), NOT_RUNNING, answer(204), answer(204), answer(204), answer(204),
           shown(0, "web", DEAF, "running", pid=1001, started=NOW), answer(204),
           shown(0, "web", DEAF, "exited", code=137, started=NOW, finished=NOW), NOT_RUNNING,
-          message(404, "No such container: db"), message(400, "Invalid signal: 0"), message(400, "Invalid signal: 32")],
+          message(404, "No such container: db"), message(400, "Invalid signal: 0"), message(400, "Invalid signal: 32"),
+          answer(204), answer(204), shown(0, "web", DEAF, "exited", code=131, started=NOW, finished=NOW)],
          comings=("pieces=1", "pieces=4096"))
 LONG = ["sleep", "600000"]
 SPELLED = {"USR1": 138, "sigusr2": 140, "SIGINT": 130, "15": 143, "09": 137, "hup": 129}
@@ -306,13 +311,22 @@ scenario("waiting_signal", [create("web", LONG), post("/containers/web/start"), 
                             get("/containers/web/json")],
          [created(0), answer(204), answer(204), answer(204), answer(204),
           shown(0, "web", LONG, "exited", code=138, started=NOW, finished=NOW)])
-# an op that can't be interrupted: the signal is met when it ends
-STUCK = ["stuck", "25"]
-scenario("stuck", [create("web", STUCK), post("/containers/web/start"), post("/containers/web/kill"),
-                   get("/containers/web/json"), get("/containers/web/json")],
-         [created(0), answer(204), answer(204), shown(0, "web", STUCK, "running", pid=1001, started=moment(10)),
-          shown(0, "web", STUCK, "exited", code=137, started=moment(10), finished=moment(35))],
+# an op that can't be interrupted: signals are met when it ends, KILL first
+STUCK = ["stuck", "35"]
+scenario("stuck", [create("web", STUCK), post("/containers/web/start"), post("/containers/web/kill?signal=TERM"),
+                   post("/containers/web/kill"), get("/containers/web/json"), get("/containers/web/json")],
+         [created(0), answer(204), answer(204), answer(204),
+          shown(0, "web", STUCK, "running", pid=1001, started=moment(10)),
+          shown(0, "web", STUCK, "exited", code=137, started=moment(10), finished=moment(45))],
          words="--stdio --clock 1700000000000:10")
+# a trap sleeps half a second behind the first TERM, and not again behind the next one
+TRAP = ["trap"]
+scenario("trap", [create("web", TRAP), post("/containers/web/start"), post("/containers/web/kill?signal=TERM"),
+                  post("/containers/web/kill?signal=TERM"), get("/containers/web/json"), get("/containers/web/json")],
+         [created(0), answer(204), answer(204), answer(204),
+          shown(0, "web", TRAP, "running", pid=1001, started=moment(200)),
+          shown(0, "web", TRAP, "exited", started=moment(200), finished=moment(900))],
+         words="--stdio --clock 1700000000000:200")
 
 def waited(code):
     return answer(200, compact({"StatusCode": code}))
