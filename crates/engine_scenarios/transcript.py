@@ -122,12 +122,12 @@ def mount(volume, path, writable=True):
 
 
 def shown(n, name, words, status, code=0, pid=0, started=NEVER, finished=NEVER, policy=("no", 0), restarts=0, mounts=(),
-          stdin=False, stop="SIGTERM"):
+          stdin=False, stop="SIGTERM", made=NOW):
     return answer(200, compact({
         "Args": words[1:],
         "Config": {"Cmd": words, "Image": "engine/tools:latest", "Labels": {}, "OpenStdin": stdin, "StdinOnce": stdin,
                    "StopSignal": stop, "StopTimeout": 10, "Tty": False},
-        "Created": NOW,
+        "Created": made,
         "HostConfig": {"AutoRemove": False, "RestartPolicy": {"MaximumRetryCount": policy[1], "Name": policy[0]}},
         "Id": id_of(n), "Image": "engine/tools:latest", "Mounts": list(mounts), "Name": f"/{name}", "Path": words[0],
         "RestartCount": restarts,
@@ -261,6 +261,9 @@ scenario("list_filters", THREE + [
     listed(JOB_ITEM, WEB_ITEM), listed(), listed(JOB_ITEM), listed(), listed(DB_ITEM), listed(), listed(JOB_ITEM, WEB_ITEM),
     listed(WEB_ITEM), listed(WEB_ITEM), listed(DB_ITEM), listed(DB_ITEM), listed(), listed(), listed(), listed(DB_ITEM),
     message(400, "invalid filter"), answer(204), listed(item(1, "db", ["sleep", "600000"], "exited", "Exited (137)"))])
+
+scenario("list_of_one", [get("/containers/json"), WEB, get("/containers/json?all=1"), get("/containers/json")],
+         [listed(), created(0), listed(item(0, "web", ["hello"], "created", "Created")), listed()])
 
 # signals: a container that ignores three of them, and how a signal is spelled
 DEAF = ["deaf"]
@@ -484,6 +487,255 @@ scenario("removal_timed_out", [create("web", LASTS), post("/containers/web/start
           message(409, f"Container {id_of(0)} is dead"), message(409, f"Container {id_of(0)} is dead"), answer(204), NO_WEB],
          words="--stdio --clock 1700000000000:5000")
 
+# ---- each call in each state: a container of each state, named by it, then the call and an inspect of each. Nothing is
+# in the state `removing` here, since the one connection waits until it is over.
+
+ECHO = ["echo", "hi"]
+FLAKY, ON_FAILURE = ["flaky", "1"], ("on-failure", 0)
+THEN = second(10)  # a forced removal has taken ten seconds, and the clock stands again
+NUMBERS = {"dead": 0, "created": 1, "running": 2, "paused": 3, "restarting": 4, "exited": 5}
+WORDS = {"dead": LASTS, "restarting": FLAKY}
+POLICIES = {"restarting": ON_FAILURE}
+# what an inspect shows of each state, but for its name
+STATES = {"created": {}, "dead": dict(pid=1001, started=NOW), "running": dict(pid=1002, started=THEN),
+          "paused": dict(pid=1003, started=THEN), "restarting": dict(code=1, started=THEN, finished=THEN),
+          "exited": dict(code=137, started=THEN, finished=THEN)}
+OF_EACH = [*(create(name, body=with_policy(WORDS.get(name, LONG), POLICIES.get(name, ("no", 0)))) for name in NUMBERS),
+           post("/containers/dead/start"), get("/containers/dead?force=1", "DELETE"), post("/containers/running/start"),
+           post("/containers/paused/start"), post("/containers/paused/pause"), post("/containers/restarting/start"),
+           post("/containers/exited/start"), post("/containers/exited/kill")]
+OF_EACH_ANSWERS = [*(created(n) for n in NUMBERS.values()), answer(204),
+                   message(409, f"removal of container {id_of(0)} timed out"), *[answer(204)] * 6]
+
+
+def now_shown(name, status, called=None, **more):
+    """An inspect of the container that was made for that state."""
+    return shown(NUMBERS[name], called or name, WORDS.get(name, LONG), status, policy=POLICIES.get(name, ("no", 0)), **more)
+
+
+def unchanged(name):
+    return now_shown(name, name, **STATES[name])
+
+
+def refusal(text, name):
+    return message(409, text.replace("ID", id_of(NUMBERS[name])))
+
+
+def gone(name):
+    return message(404, f"No such container: {name}")
+
+
+def ran(name, pid, **more):
+    return now_shown(name, "running", pid=pid, started=THEN, **more)
+
+
+def ended(name, code, **more):
+    return now_shown(name, "exited", code=code, **{**dict(started=THEN, finished=THEN), **more})
+
+
+NOT_RUNNING_TEXT = "Container ID is not running"
+RESTARTING_TEXT = "Container ID is restarting, wait until the container is running"
+REMOVING_TEXT = "removal of container ID is already in progress"
+DEAD_TEXT = "Container ID is dead"
+NOT_PAUSED_TEXT = "Container ID is not paused"
+REMOVE_TEXT = ("You cannot remove a running container ID. Stop the container before attempting removal or force remove")
+
+
+def cells(call, request, cells_of, more=(), more_answers=()):
+    """The requests of one call, for each state its answer and what is shown behind it, where that changed."""
+    asked, told = [], []
+    for name, (reply, *behind) in cells_of.items():
+        asked += [request(name), get(f"/containers/{name}/json")]
+        told += [refusal(reply, name) if isinstance(reply, str) and not reply.startswith("HTTP") else reply,
+                 behind[0] if behind else unchanged(name)]
+    scenario(f"{call}_in_each_state", [*OF_EACH, *asked, *more], [*OF_EACH_ANSWERS, *told, *more_answers])
+
+
+def verb(path):
+    return lambda name: post(f"/containers/{name}/{path}")
+
+
+cells("start", verb("start"), {
+    "created": (answer(204), ran("created", 1006)),
+    "exited": (answer(204), ran("exited", 1007, finished=THEN)),
+    "running": (answer(304),),
+    "paused": (message(409, "cannot start a paused container, try unpause instead"),),
+    "restarting": (answer(304),),
+    "dead": (DEAD_TEXT,)})
+cells("stop", verb("stop"), {
+    "created": (answer(304),),
+    "exited": (answer(304),),
+    "running": (answer(204), ended("running", 143)),
+    "paused": (answer(204), ended("paused", 143)),
+    "restarting": (answer(204), ended("restarting", 1)),
+    "dead": (answer(304),)})
+# (the second run of `flaky 1` ends well, and its count of restarts is of launches by the policy alone)
+cells("restart", verb("restart"), {
+    "created": (answer(204), ran("created", 1006)),
+    "exited": (answer(204), ran("exited", 1007, finished=THEN)),
+    "running": (answer(204), ran("running", 1008, finished=THEN)),
+    "paused": (answer(204), ran("paused", 1009, finished=THEN)),
+    "restarting": (answer(204), ended("restarting", 0)),
+    "dead": (DEAD_TEXT,)})
+cells("kill", verb("kill"), {
+    "created": (NOT_RUNNING_TEXT,),
+    "exited": (NOT_RUNNING_TEXT,),
+    "running": (answer(204), ended("running", 137)),
+    "paused": (answer(204), ended("paused", 137)),
+    "restarting": (answer(204), ended("restarting", 1)),
+    "dead": (DEAD_TEXT,)})
+cells("stop_signal", verb("kill?signal=TERM"), {
+    "created": (NOT_RUNNING_TEXT,),
+    "exited": (NOT_RUNNING_TEXT,),
+    "running": (answer(204), ended("running", 143)),
+    "paused": (answer(204), ended("paused", 143)),
+    "restarting": (answer(204), ended("restarting", 1)),
+    "dead": (DEAD_TEXT,)})
+cells("other_signal", verb("kill?signal=USR2"), {
+    "created": (NOT_RUNNING_TEXT,),
+    "exited": (NOT_RUNNING_TEXT,),
+    "running": (answer(204), ended("running", 140)),
+    "paused": (answer(204),),
+    "restarting": (RESTARTING_TEXT,),
+    "dead": (DEAD_TEXT,)})
+cells("pause", verb("pause"), {
+    "created": (NOT_RUNNING_TEXT,),
+    "exited": (NOT_RUNNING_TEXT,),
+    "running": (answer(204), now_shown("running", "paused", pid=1002, started=THEN)),
+    "paused": ("Container ID is already paused",),
+    "restarting": (RESTARTING_TEXT,),
+    "dead": (DEAD_TEXT,)})
+cells("unpause", verb("unpause"), {
+    "created": (NOT_PAUSED_TEXT,),
+    "exited": (NOT_PAUSED_TEXT,),
+    "running": (NOT_PAUSED_TEXT,),
+    "paused": (answer(204), ran("paused", 1003)),
+    "restarting": (NOT_PAUSED_TEXT,),
+    "dead": (NOT_PAUSED_TEXT,)})
+# (the old names are free then, and the new ones taken)
+LIVE_ON = ["created", "exited", "running", "paused", "restarting"]
+cells("rename", lambda name: post(f"/containers/{name}/rename?name=new-{name}"), {
+    **{name: (answer(204), gone(name)) for name in LIVE_ON}, "dead": (DEAD_TEXT,)},
+    [get(f"/containers/new-{name}/json") for name in LIVE_ON]
+    + [post("/containers/new-paused/rename?name=new-created"), create("paused"), post("/containers/dead/rename?name=dead")],
+    [now_shown(name, name, f"new-{name}", **STATES[name]) for name in LIVE_ON]
+    + [conflict("new-created", 1), created(6), refusal(DEAD_TEXT, "dead")])
+cells("exec", lambda name: create_exec(name, ECHO), {
+    "created": (NOT_RUNNING_TEXT,),
+    "exited": (NOT_RUNNING_TEXT,),
+    "running": (answer(201, compact({"Id": id_of(6)})),),
+    "paused": ("Container ID is paused, unpause the container first",),
+    "restarting": (RESTARTING_TEXT,),
+    "dead": (DEAD_TEXT,)},
+    [get(f"/exec/{id_of(6)}/json")], [exec_shown(6, 2, ECHO)])
+# a dead container is removed once its process has ended; then its name is free
+cells("remove", lambda name: get(f"/containers/{name}", "DELETE"), {
+    "created": (answer(204), gone("created")),
+    "exited": (answer(204), gone("exited")),
+    "running": (REMOVE_TEXT,),
+    "paused": (REMOVE_TEXT,),
+    "restarting": (REMOVE_TEXT,),
+    "dead": (REMOVING_TEXT,)},
+    [create("exited"), post("/containers/dead/wait"), get("/containers/dead/json"), get("/containers/dead", "DELETE"),
+     get("/containers/dead/json"), create("dead", LONG), post("/containers/dead/rename?name=created"),
+     get("/containers/created/json")],
+    [created(6), answer(200, compact({"StatusCode": 137})),
+     now_shown("dead", "dead", code=137, started=NOW, finished=second(30)), answer(204), gone("dead"), created(7),
+     answer(204), shown(7, "created", LONG, "created", made=second(30))])
+cells("force", lambda name: get(f"/containers/{name}?force=1", "DELETE"), {
+    **{name: (answer(204), gone(name)) for name in LIVE_ON}, "dead": (REMOVING_TEXT,)},
+    [get("/containers/json?all=1"), create("running")],
+    [listed(item(0, "dead", LASTS, "dead", "Dead")), created(6)])
+# a wait of a paused container lasts as long as its pause, so it isn't asked here
+AT_AGAIN = "2023-11-14T22:13:30.100000000Z"
+AGAIN = ended("restarting", 0, started=AT_AGAIN, finished=AT_AGAIN, restarts=1)
+cells("wait", verb("wait"), {
+    "created": (waited(0),),
+    "exited": (waited(137),),
+    "restarting": (waited(0), AGAIN),
+    "dead": (waited(137), now_shown("dead", "dead", code=137, started=NOW, finished=second(30)))})
+cells("next_exit", verb("wait?condition=next-exit"), {
+    "restarting": (waited(0), AGAIN),
+    "dead": (waited(137), now_shown("dead", "dead", code=137, started=NOW, finished=second(30))),
+    "running": (waited(0), ended("running", 0, finished="2023-11-14T22:23:30.000000000Z"))})
+TEXTS = {"created": "Created", "running": "Up", "paused": "Up (Paused)", "restarting": "Restarting (1)",
+         "exited": "Exited (137)", "dead": "Dead"}
+
+
+def item_of(name):
+    return item(NUMBERS[name], name, WORDS.get(name, LONG), name, TEXTS[name])
+
+
+scenario("list_in_each_state", OF_EACH + [get("/containers/json"), get("/containers/json?all=1")]
+         + [filtered({"status": [name]}) for name in NUMBERS]
+         + [filtered({"status": ["removing"]}), filtered({"exited": ["137"]})],
+         OF_EACH_ANSWERS + [listed(*map(item_of, ["restarting", "paused", "running"])),
+                            listed(*map(item_of, ["exited", "restarting", "paused", "running", "created", "dead"]))]
+         + [listed(item_of(name)) for name in NUMBERS] + [listed(), listed()])
+
+# ---- policies
+
+# three restarts behind 100, 200 and 400 milliseconds; `not-running` is the last end
+THREE_TIMES = ("on-failure", 3)
+scenario("given_up_after_three", [create("web", body=with_policy(FAILS, THREE_TIMES)), post("/containers/web/start"),
+                                  post("/containers/web/wait"), get("/containers/web/json")],
+         [created(0), answer(204), waited(1), shown(0, "web", FAILS, "exited", code=1, started=moment(700),
+                                                    finished=moment(700), policy=THREE_TIMES, restarts=3)])
+# the clock stands but for a wait's pauses: a removal that has timed out, the end, and the removal of what is dead
+scenario("dead_and_removed", [create("web", LASTS), post("/containers/web/start"), FORCE, get("/containers/web/json"),
+                              post("/containers/web/wait"), get("/containers/web", "DELETE"), get("/containers/json?all=1"),
+                              create("web")],
+         [created(0), answer(204), message(409, f"removal of container {id_of(0)} timed out"),
+          shown(0, "web", LASTS, "dead", pid=1001, started=NOW), waited(137), answer(204), listed(), created(1)])
+TWICE_FLAKY = ["flaky", "2"]
+
+
+def flaky(status, code, at, policy, restarts):
+    return shown(0, "web", TWICE_FLAKY, status, code=code, started=moment(at), finished=moment(at), policy=policy,
+                 restarts=restarts)
+
+
+# two runs fail and the third ends well: started at 100, launched again at 200 and at 400, and due again at 800
+for policy in (ALWAYS, ("unless-stopped", 0)):
+    scenario(f"flaky_{policy[0].replace('-', '_')}", [
+        create("web", body=with_policy(TWICE_FLAKY, policy)), post("/containers/web/start"), get("/containers/web/json"),
+        get("/containers/web/json"), get("/containers/web/json"), post("/containers/web/stop"), get("/containers/web/json")],
+        [created(0), answer(204), flaky("restarting", 1, 200, policy, 1), flaky("restarting", 1, 200, policy, 1),
+         flaky("restarting", 0, 400, policy, 2), answer(204), flaky("exited", 0, 400, policy, 2)],
+        words="--stdio --clock 1700000000000:100")
+for policy, code, at, restarts in ((("no", 0), 1, 100, 0), (("on-failure", 1), 1, 200, 1), (("on-failure", 0), 0, 400, 2)):
+    scenario(f"flaky_{policy[0].replace('-', '_')}_{policy[1]}", [
+        create("web", body=with_policy(TWICE_FLAKY, policy)), post("/containers/web/start"), post("/containers/web/wait"),
+        get("/containers/web/json")],
+        [created(0), answer(204), waited(code), flaky("exited", code, at, policy, restarts)],
+        words="--stdio --clock 1700000000000:100")
+# launched again by its policy at 250 and paused at that moment: its whole time is left, from the unpause at 350 on
+BRIEF = ["sleep", "100"]
+
+
+def brief(status, at, pid=0, finished=150):
+    return shown(0, "web", BRIEF, status, pid=pid, started=moment(at), finished=moment(finished), policy=ALWAYS, restarts=1)
+
+
+scenario("paused_as_restarted", [create("web", body=with_policy(BRIEF, ALWAYS)), post("/containers/web/start")]
+         + [get("/containers/web/json")] * 3 + [post("/containers/web/pause"), get("/containers/web/json"),
+                                                post("/containers/web/unpause")] + [get("/containers/web/json")] * 2,
+         [created(0), answer(204), shown(0, "web", BRIEF, "running", pid=1001, started=moment(50), policy=ALWAYS),
+          *[shown(0, "web", BRIEF, "restarting", started=moment(50), finished=moment(150), policy=ALWAYS)] * 2,
+          answer(204), brief("paused", 250, 1002), answer(204), brief("running", 250, 1002),
+          brief("restarting", 250, finished=450)],
+         words="--stdio --clock 1700000000000:50")
+# a run of a second that is paused for half a second, 400 milliseconds behind its start
+SECOND = ["sleep", "1000"]
+scenario("pause_of_half_a_second", [create("web", SECOND), post("/containers/web/start")] + [get("/containers/json?limit=1")] * 3
+         + [post("/containers/web/pause")] + [filtered({"name": []})] * 4 + [post("/containers/web/unpause")]
+         + [filtered({"name": []})] * 4 + [get("/containers/web/json")] * 2,
+         [created(0), answer(204)] + [listed(item(0, "web", SECOND, "running", "Up"))] * 3 + [answer(204)] + [listed()] * 4
+         + [answer(204)] + [listed()] * 4
+         + [shown(0, "web", SECOND, "running", pid=1001, started=moment(100)),
+            shown(0, "web", SECOND, "exited", started=moment(100), finished="2023-11-14T22:13:21.600000000Z")],
+         words="--stdio --clock 1700000000000:100")
+
 # volumes of mounts, and standard input that nobody feeds
 BINDS = compact({"Image": "engine/tools", "HostConfig": {"Binds": ["data:/srv:ro", "data:/copy"], "Mounts": [
     {"Type": "volume", "Source": "logs", "Target": "/logs"}]}})
@@ -525,7 +777,6 @@ scenario("open_input", [create("web", body=INPUT), post("/containers/web/start")
           answer(204), shown(0, "web", ["cat"], "exited", code=130, started=NOW, finished=NOW, stdin=True, stop="SIGINT")])
 
 # execs: made in a container that runs, with the numbers that containers have
-ECHO = ["echo", "hi"]
 scenario("execs", [
     create_exec("web", ECHO), create("web", LONG), create_exec("web", ECHO), post("/containers/web/start"),
     create_exec("web", ECHO, AttachStdout=True), create("db"),
