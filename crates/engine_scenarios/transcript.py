@@ -656,8 +656,15 @@ cells("wait", verb("wait"), {
     "dead": (waited(137), now_shown("dead", "dead", code=137, started=NOW, finished=second(30)))})
 cells("next_exit", verb("wait?condition=next-exit"), {
     "restarting": (waited(0), AGAIN),
-    "dead": (waited(137), now_shown("dead", "dead", code=137, started=NOW, finished=second(30))),
-    "running": (waited(0), ended("running", 0, finished="2023-11-14T22:23:30.000000000Z"))})
+    "dead": (waited(137), now_shown("dead", "dead", code=137, started=NOW, finished=second(30)))})
+# and of what runs, by a program that doesn't take as long
+AWHILE = ["sleep", "200"]
+scenario("wait_of_a_run", [create("web", AWHILE), post("/containers/web/start"), post("/containers/web/wait"),
+                           post("/containers/web/start"), get("/containers/web/json"),
+                           post("/containers/web/wait?condition=next-exit"), get("/containers/web/json")],
+         [created(0), answer(204), waited(0), answer(204),
+          shown(0, "web", AWHILE, "running", pid=1002, started=moment(200), finished=moment(200)), waited(0),
+          shown(0, "web", AWHILE, "exited", started=moment(200), finished=moment(400))])
 TEXTS = {"created": "Created", "running": "Up", "paused": "Up (Paused)", "restarting": "Restarting (1)",
          "exited": "Exited (137)", "dead": "Dead"}
 
