@@ -68,15 +68,15 @@ counts_of p = outside
     (record { wrote = None; faults = p.write_faults })
     (record { moments = None; stops = p.stops })
 
--- a door and a link that tell no connections, and have counted nothing
+-- a door that isn't bound and a link, which tell no connections, and have counted nothing
 abbrev pub untold_door : DoorView
-untold_door = record { coming = None; past = None; owed = greatest_count; faults = 0 }
+untold_door = record { coming = None; past = None; owed = greatest_count; faults = 0; bound = None }
 
 abbrev pub untold_link : LinkView
 untold_link = record { coming = None; past = None; owed = greatest_count; faults = 0 }
 
 abbrev pub door_over : {R : Type 0} → TcpDoor R → DoorView
-door_over d = record untold_door { faults = d.faults }
+door_over d = record untold_door { faults = d.faults; bound = d.bound }
 
 abbrev pub link_over : {R : Type 0} → TcpLink R → LinkView
 link_over l = record untold_link { faults = l.faults }

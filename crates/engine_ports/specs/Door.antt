@@ -18,13 +18,14 @@ abbrev pub outside : SourceView → SinkView → ClockView → Outside
 outside s u v = record { source = s; sink = u; clock = v }
 
 -- the connections to come and those that ended with their numbers, where they are told, how many
--- came and haven't been left (a door that keeps no such count tells the greatest one), and how often
--- a call failed
+-- came and haven't been left (a door that keeps no such count tells the greatest one), how often a
+-- call failed, and the address that the door is bound to, once it is
 pub record DoorView : Type 0 where
   pub coming : Option (List Outside)
   pub past : Option (List (ℕ × Outside))
   pub owed : ℕ
   pub faults : ℕ
+  pub bound : Option (List ℕ)
 
 -- a sink that tells its bytes has taken none
 abbrev pub IsFresh : Option (List ℕ) → Type 0
@@ -64,6 +65,15 @@ pub record SameDoor (v v' : DoorView) : Type 0 where
   pub past : v'.past ≡ v.past
   pub owed : v'.owed ≡ v.owed
   pub faults : v.faults ≤ v'.faults
+  pub bound : v'.bound ≡ v.bound
+
+-- a door is bound to this address, and else as it was
+pub record Binds (addr : List ℕ) (v v' : DoorView) : Type 0 where
+  pub coming : v'.coming ≡ v.coming
+  pub past : v'.past ≡ v.past
+  pub owed : v'.owed ≡ v.owed
+  pub faults : v.faults ≤ v'.faults
+  pub bound : v'.bound ≡ Some addr
 
 -- a connection came: the first of those to come, new
 pub record TakesIn (o : Outside) (v v' : DoorView) : Type 0 where
@@ -72,11 +82,12 @@ pub record TakesIn (o : Outside) (v v' : DoorView) : Type 0 where
   pub past : v'.past ≡ v.past
   pub owed : Rose v.owed v'.owed
   pub faults : v.faults ≤ v'.faults
+  pub bound : v'.bound ≡ v.bound
 
--- what binding says: a fault at most
-abbrev pub BindSays : Result (Unit {0}) Failed → DoorView → DoorView → Type 0
-BindSays (Ok x) v v' = SameDoor v v'
-BindSays (Err x) v v' = SameDoor v v' × Rose v.faults v'.faults
+-- what binding says: the door is bound to the address, or a fault
+abbrev pub BindSays : List ℕ → Result (Unit {0}) Failed → DoorView → DoorView → Type 0
+BindSays addr (Ok x) v v' = Binds addr v v'
+BindSays addr (Err x) v v' = SameDoor v v' × Rose v.faults v'.faults
 
 -- what accepting says: the first connection to come, none, or a fault
 abbrev pub AcceptSays : {S K C : Type 0} → (S → K → C → Outside) → Arrival S K C → DoorView → DoorView → Type 0
@@ -90,3 +101,4 @@ pub record LeaveSays (number : ℕ) (o : Outside) (v v' : DoorView) : Type 0 whe
   pub coming : v'.coming ≡ v.coming
   pub owed : v.owed ≤ v'.owed + 1
   pub faults : v'.faults ≡ v.faults
+  pub bound : v'.bound ≡ v.bound

@@ -2,7 +2,9 @@
 ghost use Rattle.std.specs.Prelude.{◌≡◌, ◌<◌};
 ghost use Rattle.engine_ports.specs.Door.{Outside, outside, DoorView, BindSays, AcceptSays, LeaveSays};
 
+use crate::bound::Bound;
 use crate::{Clock, Failed, MemSink, MemSource, Sink, Source, StepClock};
+use std::alloc::Global;
 
 /// What an accept gave.
 #[derive(Drop)]
@@ -37,7 +39,7 @@ pub trait Door {
 
     /// Opens the door at an address.
     fn bind(&mut self, addr: &str) -> Result<(), Failed>
-        ensures { BindSays result (opens self.old) (opens self.new) };
+        ensures { BindSays addr.now result (opens self.old) (opens self.new) };
 
     /// Takes the next connection.
     fn accept(&mut self) -> Arrival<Self::From, Self::Into, Self::Time>
@@ -69,7 +71,31 @@ impl<F: Source + Drop, I: Sink + Drop, T: Clock + Drop> Parting<F, I, T> for Par
 
 /// A door through which nobody comes.
 #[derive(Drop)]
-pub struct NoDoor;
+pub struct NoDoor {
+    bound: Bound,
+    faults: u64,
+}
+
+impl NoDoor {
+    ghost use Rattle.std.specs.Prelude.{◌≡◌, [], Some, None};
+    ghost use Rattle.engine_ports.specs.Rose.{greatest_count};
+
+    /// A door that isn't bound yet.
+    pub fn new(alloc: Global) -> NoDoor
+        ensures { ⟦<NoDoor as Door>⟧.opens result ≡ record {
+          coming = Some [];
+          past = None;
+          owed = greatest_count;
+          faults = 0;
+          bound = None;
+        } }
+    {
+        NoDoor {
+            bound: Bound::new(alloc),
+            faults: 0,
+        }
+    }
+}
 
 impl Door for NoDoor {
     ghost use Rattle.std.specs.Prelude.{[], Some, None};
@@ -83,10 +109,23 @@ impl Door for NoDoor {
 
     type Past = Parts<MemSource, MemSink, StepClock>;
 
-    ghost opens = { λ _. record { coming = Some []; past = None; owed = greatest_count; faults = 0 } };
+    ghost opens = { λ d. record {
+      coming = Some [];
+      past = None;
+      owed = greatest_count;
+      faults = d.faults;
+      bound = d.bound;
+    } };
 
-    fn bind(&mut self, _: &str) -> Result<(), Failed> {
-        Ok(())
+    // It fails for want of memory alone.
+    fn bind(&mut self, addr: &str) -> Result<(), Failed> {
+        match self.bound.keep(addr) {
+            Ok(()) => Ok(()),
+            Err(_) => {
+                self.faults = self.faults.saturating_add(1);
+                Err(Failed)
+            }
+        }
     }
 
     fn accept(&mut self) -> Arrival<MemSource, MemSink, StepClock> {

@@ -2,6 +2,7 @@
 #![tactic(auto)]
 
 mod adapters;
+mod bound;
 mod clock;
 mod door;
 mod link;

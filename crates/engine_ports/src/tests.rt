@@ -66,7 +66,7 @@ fn a_clock_hands_its_moments_and_then_the_last_again(rt: HostRuntime) -> Result<
 
 #[test]
 fn nobody_comes_through_no_door(rt: HostRuntime) {
-    let mut door = NoDoor;
+    let mut door = NoDoor::new(rt.alloc());
     assert_eq!(rt; door.bind("127.0.0.1:1"), Ok(()));
     match door.accept() {
         Arrival::Shut => {}

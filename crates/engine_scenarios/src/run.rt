@@ -42,7 +42,7 @@ fn run_over<R: Threads + Wait + Sync + AllocGlobal>(
         &mut source,
         &mut sink,
         &mut clock,
-        &mut NoDoor,
+        &mut NoDoor::new(rt.alloc()),
     );
     Ok(Ran { status, sink })
 }

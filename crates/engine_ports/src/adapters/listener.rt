@@ -3,6 +3,7 @@ ghost use Rattle.std.specs.Prelude.{◌≡◌};
 
 use super::stream::{Half, halves, loopback};
 use super::{ReadSource, StreamPast, StreamSink, SystemClock};
+use crate::bound::Bound;
 use crate::{Arrival, Door, Failed};
 use std::alloc::Global;
 use std::net::{Net, SocketAddr, TcpListener, TcpStream};
@@ -22,6 +23,7 @@ pub struct TcpDoor<R> {
     rt: R,
     alloc: Global,
     listener: Option<TcpListener>,
+    bound: Bound,
     faults: u64,
 }
 
@@ -36,11 +38,12 @@ impl<R> TcpDoor<R> {
             rt,
             alloc,
             listener: None,
+            bound: Bound::new(alloc),
             faults: 0,
         }
     }
 
-    /// The address that it is bound to.
+    /// The address that it listens at, with the port that was chosen for port 0.
     pub fn address(&self) -> Option<SocketAddr> {
         match &self.listener {
             Some(listener) => listener.local_addr().ok(),
@@ -49,7 +52,7 @@ impl<R> TcpDoor<R> {
     }
 }
 
-fn bound<R: Net<Listener = TcpListener, Stream = TcpStream>>(
+fn listener_at<R: Net<Listener = TcpListener, Stream = TcpStream>>(
     rt: &R,
     addr: &str,
 ) -> Option<TcpListener> {
@@ -71,16 +74,14 @@ impl<R: Net<Listener = TcpListener, Stream = TcpStream> + time::Clock + Copy + S
     ghost opens = { door_over };
 
     fn bind(&mut self, addr: &str) -> Result<(), Failed> {
-        match bound(&self.rt, addr) {
-            Some(listener) => {
+        if let Some(listener) = listener_at(&self.rt, addr) {
+            if self.bound.keep(addr).is_ok() {
                 self.listener = Some(listener);
-                Ok(())
-            }
-            None => {
-                self.faults = self.faults.saturating_add(1);
-                Err(Failed)
+                return Ok(());
             }
         }
+        self.faults = self.faults.saturating_add(1);
+        Err(Failed)
     }
 
     fn accept(&mut self) -> Arrival<ReadSource<Half>, StreamSink, SystemClock<R>> {

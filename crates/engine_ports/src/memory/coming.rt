@@ -1,9 +1,10 @@
 // A door in memory, through which come connections that were put there.
-ghost use Rattle.std.specs.Prelude.{◌≡◌, All, ◌+◌, ◌≤◌, ◌++◌, ◌∷◌, [], length, Some, vec_len, vec_capacity, IfOk, OnOk, OnErr};
+ghost use Rattle.std.specs.Prelude.{◌≡◌, All, ◌+◌, ◌≤◌, ◌++◌, ◌∷◌, [], length, Some, vec_len, vec_capacity, None, IfOk, OnOk, OnErr};
 ghost use Rattle.engine_ports.specs.Door.{IsNew};
 
 use super::misses::Misses;
 use super::{MemSink, MemSource, NoMemory};
+use crate::bound::Bound;
 use crate::{Arrival, Clock, Door, Failed, Parts};
 use std::alloc::Global;
 use std::collections::VecDeque;
@@ -34,6 +35,7 @@ pub struct MemDoor<T: Clock + Drop> {
     past: Vec<Departed<T>>,
     owed: usize,
     misses: Misses,
+    bound: Bound,
     ghost unstopped: { All (λ w. (T.times w.clock).stops ≡ 0) coming.items },
     ghost room: { length coming.items + owed + vec_len past ≤ vec_capacity past },
 }
@@ -44,13 +46,14 @@ impl<T: Clock + Drop> MemDoor<T> {
     /// A door to which nobody comes yet, and whose calls numbered in `failing` (from 0) fail.
     pub fn new(alloc: Global, failing: &[u64]) -> Result<MemDoor<T>, NoMemory>
         ensures { IfOk result (λ d. ⟦<MemDoor<T> as Door>⟧.opens d
-            ≡ record { coming = Some []; past = Some []; owed = 0; faults = 0 }) }
+            ≡ record { coming = Some []; past = Some []; owed = 0; faults = 0; bound = None }) }
     {
         Ok(MemDoor {
             coming: VecDeque::new(alloc),
             past: Vec::new(alloc),
             owed: 0,
             misses: Misses::new(alloc, failing)?,
+            bound: Bound::new(alloc),
         })
     }
 
@@ -100,13 +103,19 @@ impl<T: Clock + Drop> Door for MemDoor<T> {
       past = Some (ended_of T.times d.past.items);
       owed = d.owed;
       faults = d.misses.faults;
+      bound = d.bound;
     } };
 
-    fn bind(&mut self, _: &str) -> Result<(), Failed> {
+    fn bind(&mut self, addr: &str) -> Result<(), Failed> {
         if self.misses.fails() {
-            Err(Failed)
-        } else {
-            Ok(())
+            return Err(Failed);
+        }
+        match self.bound.keep(addr) {
+            Ok(()) => Ok(()),
+            Err(_) => {
+                self.misses.count();
+                Err(Failed)
+            }
         }
     }
 
