@@ -198,6 +198,7 @@ module _ {Q S K C P : Type 0} (seat : Q → SharedSeat) (told : S → K → C �
             (λ e. subst (λ k. steps_by author_of k h ≡ []) (s.is_root.number ∙ sym e) (sym m.stand.0.0 ∙ s.is_root.own_calls))
             (λ e. m.no_fresh s.is_root.number n (subst (λ z. Fresh z n) (sym (s.is_root.next_is ∙ count)) (fresh (length all.lives) n e nobody)));
         faults = omega (arith, so.faults, s.closes.faults);
+        bound = s.closes.bound ∙ so.bound;
         why = s.why;
         halts = halts_on s.why m' s.n (length all.lives) d s.mid d' count s.closes.coming s.closes.faults s.halts;
         worst_is = subst (λ z. IsWorst w (s.why ∷ z)) (sym all.endings) s.closes.worst_is;

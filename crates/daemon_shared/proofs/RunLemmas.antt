@@ -121,7 +121,7 @@ module _ {Q S K C P : Type 0} (seat : Q → SharedSeat) (told : S → K → C �
   running_more table o n (y ∷ xs) x h r = (h.0, running_more table o (suc n) xs x h.1 (subst (λ m. IsRunning seat told tells steps table o m x) (omega arith) r))
 
   begins_none : (table : TableId) (o : Option Opening) (most : ℕ) (root : SharedSeat) (d : DoorView) → IsRoot table o 0 root → Begins seat told tells steps table o most 0 root [] d d
-  begins_none table o most root d is = record { count = refl; few = omega arith; running = tt; is_root = is; came = come_none d.coming; past = refl; owed = omega arith; faults = omega arith }
+  begins_none table o most root d is = record { count = refl; few = omega arith; running = tt; is_root = is; came = come_none d.coming; past = refl; owed = omega arith; faults = omega arith; bound = refl }
 
   -- nobody came yet
   pub begins_new : (table : TableId) (o : Option Opening) (most : ℕ) (root : SharedSeat) (xs : List (Running Q S K C P)) (d : DoorView) → xs ≡ [] → IsRoot table o 0 root → Begins seat told tells steps table o most 0 root xs d d
@@ -145,6 +145,7 @@ module _ {Q S K C P : Type 0} (seat : Q → SharedSeat) (told : S → K → C �
         past = adm.came.past ∙ so.past;
         owed = owed_more n d1.owed d2.owed (omega (arith, less, top)) so.owed adm.came.owed;
         faults = omega (arith, so.faults, adm.came.faults);
+        bound = adm.came.bound ∙ so.bound;
       }
 
   -- ---- the closing
@@ -180,7 +181,7 @@ module _ {Q S K C P : Type 0} (seat : Q → SharedSeat) (told : S → K → C �
   }
 
   pub closes_none : (v : View Step Opening) (why : Worst) (d : DoorView) → Closes seat told tells steps v [] why why d d
-  closes_none v why d = record { rs = []; taken = tt; left = out_none d.past; coming = refl; faults = refl; worst_is = worst_one why }
+  closes_none v why d = record { rs = []; taken = tt; left = out_none d.past; coming = refl; faults = refl; bound = refl; worst_is = worst_one why }
 
   pub closes_more : (table : TableId) (root root' : SharedSeat) (xs : List (Running Q S K C P)) (x : Running Q S K C P) (e : Ending) (why w w' : Worst) (d d1 d2 : DoorView)
       → Closes seat told tells steps root.me.0 xs why w d d1 → ClosesOne seat told tells steps table x e root root' d1 d2 → w' ≡ worse_of w (called_by e) → Closes seat told tells steps root'.me.0 (xs ++ x ∷ []) why w' d d2
@@ -194,6 +195,7 @@ module _ {Q S K C P : Type 0} (seat : Q → SharedSeat) (told : S → K → C �
         left = subst (λ l. GoOut d.past l d2.past) (sym (map_more (end_of tells) so.rs r)) (out_more d.past d1.past d2.past (map (end_of tells) so.rs) (end_of tells r) so.left one.left.past);
         coming = one.left.coming ∙ so.coming;
         faults = one.left.faults ∙ so.faults;
+        bound = one.left.bound ∙ so.bound;
         worst_is = subst (λ l. IsWorst w' (why ∷ l)) (sym (map_more (λ q. called_by q.ending) so.rs r))
             (worst_more w (called_by r.ending) w' (why ∷ map (λ q. called_by q.ending) so.rs) (worse ∙ ap (λ z. worse_of w (called_by z)) one.ending) so.worst_is);
       }
@@ -249,8 +251,8 @@ module _ {Q S K C P : Type 0} (seat : Q → SharedSeat) (told : S → K → C �
     pub halts : Halts why most n d d'
 
   begins_same : (table : TableId) (o : Option Opening) (most n : ℕ) (root root' : SharedSeat) (xs xs' : List (Running Q S K C P)) (d d1 d2 : DoorView) → Begins seat told tells steps table o most n root xs d d1
-      → root' ≡ root → xs' ≡ xs → d2.coming ≡ d1.coming → d2.past ≡ d1.past → d2.owed ≡ d1.owed → d1.faults ≤ d2.faults → Begins seat told tells steps table o most n root' xs' d d2
-  begins_same table o most n root root' xs xs' d d1 d2 so a b c p w f = record {
+      → root' ≡ root → xs' ≡ xs → d2.coming ≡ d1.coming → d2.past ≡ d1.past → d2.owed ≡ d1.owed → d1.faults ≤ d2.faults → d2.bound ≡ d1.bound → Begins seat told tells steps table o most n root' xs' d d2
+  begins_same table o most n root root' xs xs' d d1 d2 so a b c p w f at = record {
     count = ap length b ∙ so.count;
     few = so.few;
     running = subst (λ z. AllRunning seat told tells steps table o 0 z) (sym b) so.running;
@@ -259,13 +261,14 @@ module _ {Q S K C P : Type 0} (seat : Q → SharedSeat) (told : S → K → C �
     past = p ∙ so.past;
     owed = omega (arith, so.owed, w);
     faults = omega (arith, so.faults, f);
+    bound = at ∙ so.bound;
   }
 
   -- so many came
   pub stops_full : (table : TableId) (o : Option Opening) (most n : ℕ) (root root' : SharedSeat) (xs xs' : List (Running Q S K C P)) (why : Worst) (d d1 d2 : DoorView) → Begins seat told tells steps table o most n root xs d d1
       → most ≤ n → why ≡ worst.Closed → root' ≡ root → xs' ≡ xs → d2 ≡ d1 → Stops table o most n root' xs' why d d2
   stops_full table o most n root root' xs xs' why d d1 d2 so full is a b c = record {
-    begins = begins_same table o most n root root' xs xs' d d1 d2 so a b (ap (λ (z : DoorView). z.coming) c) (ap (λ (z : DoorView). z.past) c) (ap (λ (z : DoorView). z.owed) c) (omega (arith, ap (λ (z : DoorView). z.faults) c));
+    begins = begins_same table o most n root root' xs xs' d d1 d2 so a b (ap (λ (z : DoorView). z.coming) c) (ap (λ (z : DoorView). z.past) c) (ap (λ (z : DoorView). z.owed) c) (omega (arith, ap (λ (z : DoorView). z.faults) c)) (ap (λ (z : DoorView). z.bound) c);
     halts = subst (λ w. Halts w most n d d2) (sym is) (inl (omega (arith, so.few, full)));
   }
 
@@ -273,7 +276,7 @@ module _ {Q S K C P : Type 0} (seat : Q → SharedSeat) (told : S → K → C �
   pub stops_short : (table : TableId) (o : Option Opening) (most n : ℕ) (root root' : SharedSeat) (xs xs' : List (Running Q S K C P)) (why : Worst) (d d1 d2 : DoorView) → Begins seat told tells steps table o most n root xs d d1
       → why ≡ worst.NoMemory → root' ≡ root → xs' ≡ xs → d2 ≡ d1 → Stops table o most n root' xs' why d d2
   stops_short table o most n root root' xs xs' why d d1 d2 so is a b c = record {
-    begins = begins_same table o most n root root' xs xs' d d1 d2 so a b (ap (λ (z : DoorView). z.coming) c) (ap (λ (z : DoorView). z.past) c) (ap (λ (z : DoorView). z.owed) c) (omega (arith, ap (λ (z : DoorView). z.faults) c));
+    begins = begins_same table o most n root root' xs xs' d d1 d2 so a b (ap (λ (z : DoorView). z.coming) c) (ap (λ (z : DoorView). z.past) c) (ap (λ (z : DoorView). z.owed) c) (omega (arith, ap (λ (z : DoorView). z.faults) c)) (ap (λ (z : DoorView). z.bound) c);
     halts = subst (λ w. Halts w most n d d2) (sym is) tt;
   }
 
@@ -281,11 +284,11 @@ module _ {Q S K C P : Type 0} (seat : Q → SharedSeat) (told : S → K → C �
   declined : (table : TableId) (o : Option Opening) (most n : ℕ) (root root' : SharedSeat) (xs xs' : List (Running Q S K C P)) (why : Worst) (d d1 d2 : DoorView) → Begins seat told tells steps table o most n root xs d d1
       → Declines why d1 d2 → root' ≡ root → xs' ≡ xs → Stops table o most n root' xs' why d d2
   declined table o most n root root' xs xs' worst.Closed d d1 d2 so (same, empty) a b = record {
-    begins = begins_same table o most n root root' xs xs' d d1 d2 so a b same.coming same.past same.owed same.faults;
+    begins = begins_same table o most n root root' xs xs' d d1 d2 so a b same.coming same.past same.owed same.faults same.bound;
     halts = inr (subst (λ z. IsEmpty z) (sym same.coming) empty);
   }
   declined table o most n root root' xs xs' worst.Fault d d1 d2 so (same, rose) a b = record {
-    begins = begins_same table o most n root root' xs xs' d d1 d2 so a b same.coming same.past same.owed same.faults;
+    begins = begins_same table o most n root root' xs xs' d d1 d2 so a b same.coming same.past same.owed same.faults same.bound;
     halts = rose_since d.faults d1.faults d2.faults so.faults rose;
   }
   declined table o most n root root' xs xs' worst.NoMemory d d1 d2 so never a b = absurd never

@@ -96,7 +96,8 @@ IsNobodys count n = (k : ℕ) → k < count → (n ≢ k) × (n ≢ input_of k)
 -- ---- the daemon
 
 -- the daemon that is left has one legal history; each connection that came is left to the door
--- once, in order of number, and lived in that history; no call of it is anybody else's
+-- once, in order of number, and lived in that history; no call of it is anybody else's; the door
+-- stays bound to its address
 pub record RunsDaemon (ch : Charter) (steps : Option (ℕ × ℕ)) (most : ℕ) (worst : Worst)
     (daemon : Daemon) (d d' : DoorView) : Type 0 where
   pub history : List Step
@@ -109,6 +110,7 @@ pub record RunsDaemon (ch : Charter) (steps : Option (ℕ × ℕ)) (most : ℕ) 
   pub lived : AllLived ch history steps 0 lives
   pub whose : (n : ℕ) → IsNobodys (length lives) n → HasNoCall n history
   pub faults : d.faults ≤ d'.faults
+  pub bound : d'.bound ≡ d.bound
   pub why : Worst
   pub halts : Halts why most (length lives) d d'
   pub worst_is : IsWorst worst (why ∷ map (λ l. called_by l.ending) lives)

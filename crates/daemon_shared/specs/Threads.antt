@@ -65,6 +65,7 @@ module _ {Q S K C P : Type 0} (seat : Q → SharedSeat) (told : S → K → C �
     pub past : d'.past ≡ d.past
     pub owed : n ≤ d'.owed
     pub faults : d.faults ≤ d'.faults
+    pub bound : d'.bound ≡ d.bound
 
   -- ---- sessions that ended
 
@@ -95,6 +96,7 @@ module _ {Q S K C P : Type 0} (seat : Q → SharedSeat) (told : S → K → C �
     pub left : GoOut d.past (map (end_of tells) rs) d'.past
     pub coming : d'.coming ≡ d.coming
     pub faults : d'.faults ≡ d.faults
+    pub bound : d'.bound ≡ d.bound
     pub worst_is : IsWorst worst (why ∷ map (λ r. called_by r.ending) rs)
 
   -- the first sessions are, the rest not yet

@@ -1,8 +1,8 @@
 -- What a run of a line that listens says: of the door, the daemon and the status (own).
-use Rattle.std.specs.Prelude.{ℕ, ◌≡◌, ◌⊎◌}
+use Rattle.std.specs.Prelude.{ℕ, ◌≡◌, ◌⊎◌, ◌++◌, List, codes, decimal}
 use Rattle.engine_ports.specs.Rose.{Rose}
 use Rattle.engine_ports.specs.Clock.{ClockView}
-use Rattle.engine_ports.specs.Door.{Outside, DoorView, SameDoor}
+use Rattle.engine_ports.specs.Door.{Outside, DoorView, SameDoor, Binds}
 use Rattle.engine_line.specs.declared.line.Line.{Line}
 use Rattle.session_model.specs.declared.ending.Worst.{Worst}
 use Rattle.session_model.specs.declared.ending.Worst.TheVariants.{NoMemory, Fault}
@@ -29,13 +29,18 @@ pub record FailsToBind (status : ℕ) (t t' : ClockView) (d d' : DoorView) : Typ
   pub same : SameDoor d d'
   pub faults : Rose d.faults d'.faults
 
--- the door is bound first
-abbrev pub Listens : Line → ℕ → ClockView → ClockView → DoorView → DoorView → Type 0
-Listens line status t t' d d' =
+-- the ADDR of a port of this machine alone
+abbrev pub addr_of : ℕ → List ℕ
+addr_of port = codes "127.0.0.1:" ++ decimal port
+
+-- the door is bound to this address first
+abbrev pub Listens : List ℕ → Line → ℕ → ClockView → ClockView → DoorView → DoorView → Type 0
+Listens addr line status t t' d d' =
     FailsToBind status t t' d d'
-    ⊎ ((bound : DoorView) × SameDoor d bound × ServesDoor line status t t' bound d')
+    ⊎ ((bound : DoorView) × Binds addr d bound × ServesDoor line status t t' bound d')
 
 -- nothing is read or written here
-abbrev pub ListenSays : Line → ℕ → Outside → Outside → DoorView → DoorView → Type 0
-ListenSays line status o o' d d' =
-    (o'.source ≡ o.source) × (o'.sink ≡ o.sink) × Listens line status o.clock o'.clock d d'
+abbrev pub ListenSays : ℕ → Line → ℕ → Outside → Outside → DoorView → DoorView → Type 0
+ListenSays port line status o o' d d' =
+    (o'.source ≡ o.source) × (o'.sink ≡ o.sink)
+    × Listens (addr_of port) line status o.clock o'.clock d d'

@@ -30,10 +30,10 @@ abbrev pub OnlyTells : List ℕ → ℕ → Outside → Outside → Type 0
 OnlyTells text status o o' =
     Tells text status o.sink o'.sink × (o'.source ≡ o.source) × (o'.clock ≡ o.clock)
 
--- a line that listens takes connections in; for every other, and for no line, the door is as before
+-- a line that listens takes connections in at its ADDR; for every other, and for no line, the door is as before
 abbrev pub RunsWork : Work → Line → ℕ → Outside → Outside → DoorView → DoorView → Type 0
 RunsWork Stdio line status o o' d d' = RunsSession line status o o' × (d' ≡ d)
-RunsWork (Listen port) line status o o' d d' = ListenSays line status o o' d d'
+RunsWork (Listen port) line status o o' d d' = ListenSays port line status o o' d d'
 RunsWork (Drill count) line status o o' d d' = OnlyTells not_built_line status o o' × (d' ≡ d)
 
 abbrev pub RunsLine : Option Line → ℕ → Outside → Outside → DoorView → DoorView → Type 0

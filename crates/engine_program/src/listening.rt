@@ -1,7 +1,7 @@
 // A line that listens.
-ghost use Rattle.std.specs.Prelude.{◌≡◌, ◌++◌, IfOk, codes, decimal, string_bytes};
+ghost use Rattle.std.specs.Prelude.{◌≡◌, IfOk, string_bytes};
 ghost use Rattle.engine_program.specs.Opening.{StartsWithin};
-ghost use Rattle.engine_program.specs.Listening.{ServesDoor, Listens};
+ghost use Rattle.engine_program.specs.Listening.{ServesDoor, Listens, addr_of};
 
 use crate::opening::{opening_by, steps_of};
 use crate::status::status_by;
@@ -15,7 +15,7 @@ use std::thread::Threads;
 
 /// The address of a port of this machine alone.
 pub fn address_of(alloc: Global, port: u16) -> Result<String, AllocError>
-    ensures { IfOk result (λ s. string_bytes s ≡ codes "127.0.0.1:" ++ decimal port) }
+    ensures { IfOk result (λ s. string_bytes s ≡ addr_of port) }
 {
     format!(in alloc; "127.0.0.1:{port}")
 }
@@ -57,7 +57,7 @@ pub fn listen<R: Threads + Wait + Sync, C: Clock, D: Door>(
     door: &mut D,
 ) -> u8
     requires { StartsWithin line }
-    ensures { Listens line result (C.times clock.old) (C.times clock.new)
+    ensures { Listens addr.now line result (C.times clock.old) (C.times clock.new)
         (D.opens door.old) (D.opens door.new) }
 {
     match door.bind(addr) {
