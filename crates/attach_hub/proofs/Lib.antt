@@ -1,1 +1,2 @@
 pub mod WaitLemmas
+pub mod AnswerLemmas

@@ -3,4 +3,4 @@
 
 mod tickets;
 
-pub use tickets::await_ticket;
+pub use tickets::{await_ticket, drop_ticket};

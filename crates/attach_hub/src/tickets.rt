@@ -35,8 +35,8 @@ fn give_up<T: Turns>(turns: &mut T, alloc: Global, conn: u32, ticket: u64) -> Tu
     turns.turn(alloc, conn, 0, Some(&call))
 }
 
-// Gives the ticket up. It takes no memory.
-fn drop_ticket<T: Turns>(turns: &mut T, alloc: Global, conn: u32, ticket: u64) -> Reply
+/// Gives the ticket up. It takes no memory, and asks no clock.
+pub fn drop_ticket<T: Turns>(turns: &mut T, alloc: Global, conn: u32, ticket: u64) -> Reply
     requires number { IsNumber (T.pass turns.old).number conn }
     requires pair { IsTrue (T.pass turns.old).pair }
     requires begun { HasBegun (T.pass turns.old).charter conn ticket (T.pass turns.old).seen }

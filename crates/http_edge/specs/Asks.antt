@@ -43,3 +43,7 @@ abbrev pub asks_upgrade : Request → Bool
 asks_upgrade request =
     has_field (codes "upgrade") Value (codes "tcp") request.fields
     && has_field (codes "connection") Token (codes "upgrade") request.fields
+
+-- it asks for the head of a wait's answer before the wait is over: `X-Engine-Early: wait` (own)
+abbrev pub asks_early : Request → Bool
+asks_early request = has_field (codes "x-engine-early") Value (codes "wait") request.fields

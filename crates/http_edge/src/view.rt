@@ -28,7 +28,7 @@ pub struct RequestView<'r> {
 
 impl<'r> RequestView<'r> {
     ghost use Rattle.std.specs.Prelude.{◌≡◌, map};
-    ghost use Rattle.http_edge.specs.Asks.{is_head, closes, asks_upgrade};
+    ghost use Rattle.http_edge.specs.Asks.{is_head, closes, asks_upgrade, asks_early};
     ghost use Rattle.http_edge.specs.Reader.{request_of};
 
     /// The method, as GET.
@@ -86,6 +86,19 @@ impl<'r> RequestView<'r> {
         let (head, spans) = (self.head(), self.spans());
         has_field(head, spans, b"upgrade", Want::Value, b"tcp")
             && has_field(head, spans, b"connection", Want::Token, b"upgrade")
+    }
+
+    /// Whether the request asks for the head of a wait's answer before the wait is over.
+    pub fn asks_early(&self) -> bool
+        ensures { result ≡ asks_early (request_of self.now) }
+    {
+        has_field(
+            self.head(),
+            self.spans(),
+            b"x-engine-early",
+            Want::Value,
+            b"wait",
+        )
     }
 
     fn head(&self) -> &'r [u8]

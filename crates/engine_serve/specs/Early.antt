@@ -1,0 +1,47 @@
+-- What is sent of a wait whose head comes before it is over (own).
+use Rattle.std.specs.Prelude.{ℕ, ◌≡◌, true, List, [], ◌∷◌, ◌++◌, None}
+use Rattle.engine_ports.specs.Rose.{Rose}
+use Rattle.engine_ports.specs.Sink.{SinkView}
+use Rattle.engine_ports.specs.Clock.{ClockView}
+use Rattle.engine_text.specs.declared.reply.Reply.{Reply}
+use Rattle.engine_text.specs.declared.reply.Reply.TheVariants.{Answer}
+use Rattle.http_edge.specs.Chunks.{chunk_text, last_chunk}
+use Rattle.attach_hub.specs.Waiting.{Awaits, IsDropped}
+use Rattle.session_model.specs.declared.terms.Terms.{Terms}
+use Rattle.session_model.specs.declared.followed.Followed.{Followed}
+use Rattle.session_model.specs.declared.followed.Followed.TheVariants as F
+use Rattle.session_model.specs.declared.turned.Awaited.{Awaited}
+use Rattle.session_model.specs.Exchange.{Flow, Leaves, flow_of}
+use Rattle.session_model.specs.Pass.{PassView}
+use Rattle.session_model.specs.Progress.{Moves}
+use Rattle.session_model.specs.Responses.{early_head}
+use Rattle.engine_serve.specs.declared.went.Went.{Went}
+use Rattle.engine_serve.specs.Serving.{Sends}
+
+-- a body as one chunk, or as none where it is empty
+abbrev pub one_chunk : List ℕ → List ℕ
+one_chunk [] = []
+one_chunk (b ∷ bytes) = chunk_text (b ∷ bytes)
+
+-- behind a wait that was broken off the session ends
+abbrev pub broken_flow : Followed → Flow
+broken_flow f = Leaves f None
+
+-- behind these bytes the body of a reply is sent by chunks, to the last
+abbrev pub SendsBody : Terms → List ℕ → Reply → Went → SinkView → SinkView → Type 0
+SendsBody terms head reply result u u' =
+    (status : ℕ) × (body : List ℕ) × (reply ≡ Answer status body)
+    × Sends (flow_of terms) result (head ++ (one_chunk body ++ last_chunk)) u u'
+
+-- behind these bytes what a wait came to is sent: the body of its reply, or nothing where it was broken off
+abbrev pub SendsBehind : Terms → List ℕ → Awaited → Went → SinkView → SinkView → Type 0
+SendsBehind terms head (Awaited.Replied reply) result u u' = SendsBody terms head reply result u u'
+SendsBehind terms head Awaited.Stopped result u u' = Sends (broken_flow F.Stopped) result head u u'
+SendsBehind terms head Awaited.NoMemory result u u' = Sends (broken_flow F.NoMemory) result head u u'
+
+-- the head was sent, and the connection waited for the ticket; or its write failed, and the ticket was dropped
+pub data WaitsEarly (k n : ℕ) (terms : Terms) (result : Went) (p q : PassView) (u u' : SinkView) (t t' : ClockView) : Type 0 where
+  Waited : (awaited : Awaited) → Awaits k n awaited p q t t' → SendsBehind terms (early_head terms) awaited result u u'
+      → WaitsEarly k n terms result p q u u' t t'
+  HeadWasLost : IsDropped p.charter k n p.seen q.seen → Moves k true p q t t' → Rose u.faults u'.faults
+      → Sends (broken_flow F.WriteFault) result (early_head terms) u u' → WaitsEarly k n terms result p q u u' t t'
