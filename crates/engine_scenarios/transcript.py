@@ -743,6 +743,23 @@ scenario("pause_of_half_a_second", [create("web", SECOND), post("/containers/web
             shown(0, "web", SECOND, "exited", started=moment(100), finished="2023-11-14T22:13:21.600000000Z")],
          words="--stdio --clock 1700000000000:100")
 
+# a wait whose head comes before it is over, by a field of the request; the field counts for nothing else
+EARLY = "X-ENGINE-Early: WAIT\r\n"
+
+
+def in_chunks(*pieces, close=False):
+    lines = ["HTTP/1.1 200 OK", "Api-Version: 1.43"] + (["Connection: close"] if close else [])
+    head = "\r\n".join(lines + ["Content-Type: application/json", "Server: engined", "Transfer-Encoding: chunked", "", ""])
+    return head + "".join(f"{len(piece):x}\r\n{piece}\r\n" for piece in pieces) + "0\r\n\r\n"
+
+
+SHORT = [create("web", ["sleep", "1"]), post("/containers/web/start")]
+scenario("wait_early", SHORT + [post("/containers/web/wait", more=EARLY), post("/containers/web/wait", more="X-Engine-Early: now\r\n"),
+                                post("/containers/db/wait", more=EARLY), post("/containers/web/start", more=EARLY),
+                                post("/containers/web/stop", more=EARLY), post("/containers/web/wait", more=EARLY + "Connection: close\r\n")],
+         [created(0), answer(204), in_chunks(compact({"StatusCode": 0})), answer(200, compact({"StatusCode": 0})),
+          message(404, "No such container: db"), answer(204), answer(204), in_chunks(compact({"StatusCode": 143}), close=True)],
+         comings=("pieces=1", "pieces=4096"))
 # volumes of mounts, and standard input that nobody feeds
 BINDS = compact({"Image": "engine/tools", "HostConfig": {"Binds": ["data:/srv:ro", "data:/copy"], "Mounts": [
     {"Type": "volume", "Source": "logs", "Target": "/logs"}]}})
