@@ -1,2 +1,2 @@
 pub mod WaitLemmas
-pub mod AnswerLemmas
+pub mod StatusLemmas

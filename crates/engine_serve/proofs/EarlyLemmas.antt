@@ -38,7 +38,7 @@ use Rattle.session_model.specs.Session.{IsWritten, FollowCause}
 use Rattle.session_model.specs.Turning.{Turn}
 use Rattle.session_model.proofs.TurnLemmas.{moves_on}
 use Rattle.attach_hub.specs.Waiting.{Awaits, AwaitSays, IsDropped, Drops}
-use Rattle.attach_hub.proofs.AnswerLemmas.{wait_status}
+use Rattle.attach_hub.proofs.StatusLemmas.{wait_status}
 use Rattle.engine_serve.specs.declared.went.Went.{Went}
 use Rattle.engine_serve.specs.Serving.{Sends, GoesSo, Answers, Tries}
 use Rattle.engine_serve.specs.Answering.{went_by}
