@@ -1,20 +1,20 @@
 -- Facts of a wait whose head comes early: which requests have one, and its bytes, worked out by hand.
-use Rattle.std.proofs.Common.{◌≡◌, ℕ, List, [], ◌∷◌, ◌++◌, Bool, true, false, Option, Some, None, refl, sym}
-use Rattle.std.specs.Prelude.{ℤ, IsTrue, IsFalse, codes}
+use Rattle.std.proofs.Common.{◌≡◌, ℕ, List, [], ◌∷◌, ◌++◌, Bool, true, false, Option, None, refl}
+use Rattle.std.specs.Prelude.{ℤ, IsTrue, codes}
 use Rattle.std.proofs.lemmas.Bool.{false≢true}
 use Rattle.engine_text.specs.declared.call.Call.{Call}
 use Rattle.engine_text.specs.declared.call.Call.TheVariants as call
 use Rattle.engine_text.specs.declared.call.Until.{Until}
 use Rattle.engine_text.specs.declared.signal.Signal.{Signal}
-use Rattle.engine_text.specs.declared.reply.Reply.{Reply}
 use Rattle.engine_text.specs.declared.step.Step.{Step}
 use Rattle.machine_model.specs.History.{Charter}
 use Rattle.http_edge.specs.Asks.{asks_early}
 use Rattle.http_edge.specs.Chunks.{chunk_text, last_chunk}
 use Rattle.http_edge.specs.Message.{Header, Request}
-use Rattle.session_model.specs.declared.followed.Followed.{Followed}
+use Rattle.http_edge.specs.Response.{first_lines, form_lines}
+use Rattle.http_edge.specs.declared.head.Form.TheVariants.{ChunkedJson}
 use Rattle.session_model.specs.Exchange.{Kind, ByItsTicketEarly, BrokenOffEarly, is_early, bytes_by}
-use Rattle.session_model.specs.Responses.{terms_of, early_head}
+use Rattle.session_model.specs.Responses.{early_head}
 
 -- ---- which requests have one
 
@@ -60,13 +60,12 @@ early_is_asked ch k r behind a b x has = absurd (false≢true has)
 
 -- ---- its bytes
 
-head : early_head (record { close = false; bare = false })
-    ≡ codes "HTTP/1.1 200 OK\r\nApi-Version: 1.43\r\nContent-Type: application/json\r\nServer: engined\r\nTransfer-Encoding: chunked\r\n\r\n"
-head = refl
+-- a head of status 200 with these lines
+head : (close : Bool) → early_head (record { close = close; bare = false }) ≡ first_lines 200 close ++ form_lines (ChunkedJson None) ++ codes "\r\n"
+head close = refl
 
-closing_head : early_head (record { close = true; bare = false })
-    ≡ codes "HTTP/1.1 200 OK\r\nApi-Version: 1.43\r\nConnection: close\r\nContent-Type: application/json\r\nServer: engined\r\nTransfer-Encoding: chunked\r\n\r\n"
-closing_head = refl
+lines : form_lines (ChunkedJson None) ≡ codes "Content-Type: application/json\r\nServer: engined\r\nTransfer-Encoding: chunked\r\n"
+lines = refl
 
 -- behind it, of a container that ended with 3
 tail : chunk_text (codes "{\"StatusCode\":3}") ++ last_chunk ≡ codes "10\r\n{\"StatusCode\":3}\r\n0\r\n\r\n"

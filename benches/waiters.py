@@ -1,0 +1,96 @@
+#!/usr/bin/env python3
+"""Waits of many connections for one container: what they cost while they wait, and how soon they are answered.
+
+waiters.py PATH_OF_ENGINED [COUNT] [PORT]
+"""
+import http.client
+import os
+import select
+import socket
+import subprocess
+import sys
+import time
+
+SECONDS = 10
+WAIT = b"POST /containers/web/wait HTTP/1.1\r\nHost: x\r\n%b\r\n"
+
+
+def ask(port, method, path, body=None):
+    link = http.client.HTTPConnection("127.0.0.1", port)
+    link.request(method, path, body)
+    answer = link.getresponse()
+    answer.read()
+    link.close()
+    return answer.status
+
+
+def ticks(process):
+    """Of processor time, in and out of the kernel."""
+    with open(f"/proc/{process}/stat", encoding="ascii") as text:
+        fields = text.read().rpartition(")")[2].split()
+    return int(fields[11]) + int(fields[12])
+
+
+def used(process, seconds):
+    """The share of one processor over so many seconds."""
+    begun, at = ticks(process), time.monotonic()
+    time.sleep(seconds)
+    return (ticks(process) - begun) / os.sysconf("SC_CLK_TCK") / (time.monotonic() - at)
+
+
+def waiters(port, count, field):
+    links = []
+    for _ in range(count):
+        link = socket.create_connection(("127.0.0.1", port))
+        link.sendall(WAIT % field)
+        links.append(link)
+    return links
+
+
+def answers(links, ends):
+    """The milliseconds from now until a first and until every connection's answer ended so."""
+    begun = time.monotonic()
+    poll = select.epoll()
+    left = {link.fileno(): [link, b""] for link in links}
+    for number in left:
+        poll.register(number, select.EPOLLIN)
+    first = None
+    while left:
+        for number, _ in poll.poll(10):
+            link, text = left[number]
+            text += link.recv(4096)
+            left[number][1] = text
+            if text.endswith(ends):
+                first = first or time.monotonic() - begun
+                poll.unregister(number)
+                del left[number]
+    return first * 1000, (time.monotonic() - begun) * 1000
+
+
+def main(engined, count=1000, port=23751):
+    count, port = int(count), int(port)
+    with subprocess.Popen([engined, "--listen", f"127.0.0.1:{port}"], stdin=subprocess.DEVNULL) as daemon:
+        try:
+            for _ in range(100):
+                try:
+                    ask(port, "GET", "/_ping")
+                    break
+                except OSError:
+                    time.sleep(0.1)
+            ask(port, "POST", "/containers/create?name=web", '{"Image":"engine/tools","Cmd":["deaf"]}')
+            for name, field, ends in (("waits", b"", b"}"), ("waits with an early head", b"X-Engine-Early: wait\r\n", b"0\r\n\r\n")):
+                ask(port, "POST", "/containers/web/start")
+                links = waiters(port, count, field)
+                time.sleep(2)
+                share = used(daemon.pid, SECONDS)
+                ask(port, "POST", "/containers/web/kill")
+                first, last = answers(links, ends)
+                print(f"{count} {name}: {share * 100:.1f}% of a processor; behind the end the first answer after {first:.0f} ms, "
+                      f"the last after {last:.0f} ms", flush=True)
+                for link in links:
+                    link.close()
+        finally:
+            daemon.kill()
+
+
+main(*sys.argv[1:])
