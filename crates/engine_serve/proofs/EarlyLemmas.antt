@@ -1,5 +1,5 @@
 -- What answers a wait whose head comes before it is over.
-use Rattle.std.proofs.Common.{◌≡◌, ◌≤◌, ◌⊎◌, inl, inr, ℕ, List, [], ◌∷◌, ◌++◌, append-nil, append_assoc, refl, sym, ◌∙◌, ap, subst, arith, Bool, true, false, Some, None, Option, Result, Ok, Err}
+use Rattle.std.proofs.Common.{◌≡◌, ◌≤◌, ◌<◌, length, inl, inr, ℕ, List, [], ◌∷◌, ◌++◌, append-nil, append_assoc, refl, sym, ◌∙◌, ap, subst, arith, Bool, true, false, Some, None, Option, Result, Ok, Err}
 use Rattle.std.specs.Prelude.{IsTrue, IsFalse}
 use Rattle.std.specs.List.{All, flat_map}
 use Rattle.std.proofs.lemmas.Bool.{false≢true}
@@ -57,6 +57,14 @@ is_chunked (b ∷ bytes) = (
   append-nil (b ∷ bytes),
   append-nil (chunk_text (b ∷ bytes)),
 )
+
+pub no_chunk : (body : List ℕ) → length body ≡ 0 → [] ≡ one_chunk body
+no_chunk [] h = refl
+no_chunk (b ∷ bytes) h = absurd (omega (arith, h))
+
+pub its_chunk : (body : List ℕ) → 0 < length body → chunk_text body ≡ one_chunk body
+its_chunk [] h = absurd (omega (arith, h))
+its_chunk (b ∷ bytes) h = refl
 
 goes_behind : (result : Went) (flow : Flow) (head rest part : List ℕ) (u v w : SinkView) → u.faults ≤ v.faults
     → GoesSo flow result rest part v w → GoesSo flow result (head ++ rest) (head ++ part) u w

@@ -48,9 +48,10 @@ fn write_early<K: Sink>(sink: &mut K, terms: Terms) -> Result<(), Failed>
 fn write_chunked<K: Sink>(sink: &mut K, body: &[u8]) -> Result<(), Failed>
     ensures { WriteSays result (one_chunk body.now ++ last_chunk) (K.takes sink.old) (K.takes sink.new) }
 {
-    if !body.is_empty() {
-        write_chunk(sink, body)?;
+    if body.is_empty() {
+        return write_last(sink);
     }
+    write_chunk(sink, body)?;
     write_last(sink)
 }
 

@@ -6,3 +6,4 @@ mod memory;
 mod program;
 mod requests;
 mod sockets;
+mod waits;
