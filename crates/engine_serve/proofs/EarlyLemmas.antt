@@ -49,14 +49,18 @@ use Rattle.engine_serve.proofs.AnswerLemmas.{begins_wait, tries_whole, left_trie
 -- ---- what was sent
 
 -- a body is its own chunk
+abbrev IsSome : List ℕ → Type 0
+IsSome piece = 0 < length piece
+
 pub is_chunked : (body : List ℕ) → IsChunked body (one_chunk body)
-is_chunked [] = ([], All-nil _, refl, refl)
-is_chunked (b ∷ bytes) = (
-  (b ∷ bytes) ∷ [],
-  All-cons _ (b ∷ bytes) [] (omega arith) (All-nil _),
-  append-nil (b ∷ bytes),
-  append-nil (chunk_text (b ∷ bytes)),
-)
+is_chunked [] = ([], All-nil IsSome, refl, refl)
+is_chunked (b ∷ bytes) =
+    let some : IsSome (b ∷ bytes) = omega arith in (
+      (b ∷ bytes) ∷ [],
+      All-cons IsSome (b ∷ bytes) [] some (All-nil IsSome),
+      append-nil (b ∷ bytes),
+      append-nil (chunk_text (b ∷ bytes)),
+    )
 
 pub no_chunk : (body : List ℕ) → length body ≡ 0 → [] ≡ one_chunk body
 no_chunk [] h = refl
