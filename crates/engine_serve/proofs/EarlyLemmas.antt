@@ -10,7 +10,7 @@ use Rattle.engine_ports.specs.Source.{SourceView}
 use Rattle.engine_ports.specs.Clock.{ClockView, ClockHanded}
 use Rattle.engine_ports.specs.Door.{outside}
 use Rattle.engine_ports.specs.declared.ports.Failed.{Failed}
-use Rattle.engine_ports.proofs.PortLemmas.{rose_since, sink_none, sink_on}
+use Rattle.engine_ports.proofs.PortLemmas.{rose_since, sink_on, written_on}
 use Rattle.engine_text.specs.declared.call.Call.{Call}
 use Rattle.engine_text.specs.declared.call.Call.TheVariants as call
 use Rattle.engine_text.specs.declared.reply.Reply.{Reply}
@@ -34,7 +34,7 @@ use Rattle.session_model.specs.Moments.{is_whole_flow}
 use Rattle.session_model.specs.Pass.{PassView}
 use Rattle.session_model.specs.Progress.{Moves}
 use Rattle.session_model.specs.Responses.{terms_of, early_head}
-use Rattle.session_model.specs.Session.{IsWritten, FollowCause}
+use Rattle.session_model.specs.Session.{FollowCause}
 use Rattle.session_model.specs.Turning.{Turn}
 use Rattle.session_model.proofs.TurnLemmas.{moves_on}
 use Rattle.attach_hub.specs.Waiting.{Awaits, AwaitSays, IsDropped, Drops}
@@ -62,13 +62,14 @@ is_chunked (b ∷ bytes) =
       append-nil (chunk_text (b ∷ bytes)),
     )
 
-pub no_chunk : (body : List ℕ) → length body ≡ 0 → [] ≡ one_chunk body
-no_chunk [] h = refl
-no_chunk (b ∷ bytes) h = absurd (omega (arith, h))
-
-pub its_chunk : (body : List ℕ) → 0 < length body → chunk_text body ≡ one_chunk body
+its_chunk : (body : List ℕ) → 0 < length body → chunk_text body ≡ one_chunk body
 its_chunk [] h = absurd (omega (arith, h))
 its_chunk (b ∷ bytes) h = refl
+
+pub behind_chunk : (body : List ℕ) (x : Unit {0}) (r : Result (Unit {0}) Failed) (u v w : SinkView) → 0 < length body
+    → WriteSays (Ok x) (chunk_text body) u v → WriteSays r last_chunk v w → WriteSays r (one_chunk body ++ last_chunk) u w
+behind_chunk body x r u v w some took last =
+    written_on x r (one_chunk body) last_chunk u v w (subst (λ y. SinkTook u y v) (its_chunk body some) took) last
 
 goes_behind : (result : Went) (flow : Flow) (head rest part : List ℕ) (u v w : SinkView) → u.faults ≤ v.faults
     → GoesSo flow result rest part v w → GoesSo flow result (head ++ rest) (head ++ part) u w
@@ -91,18 +92,6 @@ behind_head terms Awaited.Stopped result head u v w took sends =
     subst (λ x. Sends (broken_flow F.Stopped) result x u w) (append-nil head) (sends_behind result _ head [] u v w took sends)
 behind_head terms Awaited.NoMemory result head u v w took sends =
     subst (λ x. Sends (broken_flow F.NoMemory) result x u w) (append-nil head) (sends_behind result _ head [] u v w took sends)
-
--- nothing is sent
-pub sends_nothing : (f : Followed) (e : Ending) (u : SinkView) → IsWritten e (broken_flow f) [] [] u u → Sends (broken_flow f) (Went.Ends e) [] u u
-sends_nothing f e u is = ([], sink_none u, is)
-
-pub lost : (terms : Terms) (x : Failed) (u u' : SinkView) → WriteSays (Err x) (early_head terms) u u'
-    → Rose u.faults u'.faults × Sends (broken_flow F.WriteFault) (Went.Ends Ending.WriteFault) (early_head terms) u u'
-lost terms x u u' (part, front, took, rose) = (rose, (part, took, inr (refl, front, rose)))
-
-pub as_waited : (terms : Terms) (head : List ℕ) (awaited known : Awaited) (result : Went) (u u' : SinkView) → awaited ≡ known
-    → SendsBehind terms head known result u u' → SendsBehind terms head awaited result u u'
-as_waited terms head awaited known result u u' is sends = subst (λ a. SendsBehind terms head a result u u') (sym is) sends
 
 -- ---- the rows
 
