@@ -73,6 +73,7 @@ has_line dues moment few soon =
     ) in
     record {
       sound = refl;
+      fed = tt;
       told = omega arith;
       conn = omega arith;
       carried = object-sound 126 (members (entry_value (look dues moment 404 missing))) refl values;

@@ -1,5 +1,6 @@
 -- Which entries have a line of the journal, and which bytes are one (own: format 1).
 use Rattle.std.specs.Prelude.{◌≡◌, ℕ, ◌<◌, ◌^◌, ◌++◌, List, ⊤}
+use Rattle.hex.specs.Hex.{IsBytes}
 use Rattle.json_laws.specs.Sound.{IsCarried}
 use Rattle.machine_model.specs.JournalLines.{entry_value, journal_line}
 use Rattle.machine_model.specs.Soundness.{IsSound}
@@ -23,9 +24,15 @@ IsTold c (JournalStream count) = ⊤
 IsTold c (Fed taken) = ⊤
 IsTold c Dropped = IsDrop c
 
--- An entry that a line tells: of a call that a request can make, with numbers of 64 bits and texts of UTF-8.
+-- What is fed is bytes, each below 256.
+abbrev pub FeedsBytes : Call → Type 0
+FeedsBytes (Call.Feed owner run bytes) = IsBytes bytes
+FeedsBytes _ = ⊤
+
+-- An entry that a line tells: of a call that a request can make, with numbers of 64 bits, bytes and texts of UTF-8.
 pub record HasLine (e : Entry) : Type 0 where
   pub sound : IsSound e.call
+  pub fed : FeedsBytes e.call
   pub told : IsTold e.call e.reply
   pub conn : e.conn < 2 ^ 32
   pub carried : IsCarried (entry_value e)
