@@ -1,1 +1,2 @@
 pub mod VerdictFacts
+mod JournalLemmas

@@ -3,3 +3,5 @@ pub mod Stored
 pub mod Due
 pub mod Entry
 pub mod Verdict
+pub mod Kept
+pub mod KeptInside
