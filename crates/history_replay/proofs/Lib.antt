@@ -1,2 +1,4 @@
 pub mod VerdictFacts
+mod ValueLemmas
+mod FloatLemmas
 mod JournalLemmas

@@ -1,3 +1,5 @@
+pub mod Object
+pub mod CreateParts
 pub mod Line
 pub mod Stored
 pub mod Due

@@ -4,6 +4,8 @@
 mod journal;
 mod places;
 mod verdict;
+mod writing;
 
 pub use journal::Journal;
 pub use verdict::Verdict;
+pub use writing::write_line;
