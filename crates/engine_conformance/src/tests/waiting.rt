@@ -5,7 +5,7 @@ ghost use Rattle.daemon_core.specs.Passing.{whole_pass};
 ghost use Rattle.daemon_core.proofs.DaemonLemmas.{stands};
 
 use daemon_core::{Daemon, Turns};
-use engine_ports::{MemSink, MemSource, NoMemory, StepClock};
+use engine_ports::{MemSink, MemSource, StepClock};
 use engine_serve::{Ending, serve};
 use engine_text::Call;
 use session_model::Turned;
@@ -18,11 +18,11 @@ const MOMENT: u64 = 1_700_000_000_000;
 
 /// A create of a container that sleeps for a second, and its start.
 const SHORT: &str =
-    "POST /v1.43/containers/create?name=web HTTP/1.1\r\nHost: x\r\nContent-Length: 51\r\n\r\n{\"Image\":\"engine/tools:latest\",\"Cmd\":[\"sleep\",\"1\"]}POST /containers/web/start HTTP/1.1\r\nHost: x\r\n\r\n";
+    "POST /v1.43/containers/create?name=web HTTP/1.1\r\nHost: x\r\nContent-Length: 54\r\n\r\n{\"Image\":\"engine/tools:latest\",\"Cmd\":[\"sleep\",\"1000\"]}POST /containers/web/start HTTP/1.1\r\nHost: x\r\n\r\n";
 
-/// The same for a hundred seconds.
+/// The same of one that ignores the signal of a stop.
 const LONG: &str =
-    "POST /v1.43/containers/create?name=web HTTP/1.1\r\nHost: x\r\nContent-Length: 53\r\n\r\n{\"Image\":\"engine/tools:latest\",\"Cmd\":[\"sleep\",\"100\"]}POST /containers/web/start HTTP/1.1\r\nHost: x\r\n\r\n";
+    "POST /v1.43/containers/create?name=web HTTP/1.1\r\nHost: x\r\nContent-Length: 46\r\n\r\n{\"Image\":\"engine/tools:latest\",\"Cmd\":[\"deaf\"]}POST /containers/web/start HTTP/1.1\r\nHost: x\r\n\r\n";
 
 const WAIT: &str = "POST /containers/web/wait HTTP/1.1\r\nHost: x\r\n\r\n";
 
@@ -73,7 +73,7 @@ impl Turns for Counted {
 }
 
 /// What came of a session.
-#[derive(PartialEq, Eq, Debug)]
+#[derive(PartialEq, Eq, Debug, Drop)]
 struct Told {
     ending: Ending,
     /// The bytes that were wanted were written.
@@ -90,7 +90,7 @@ fn runs<W: Wait>(
     requests: &[&str],
     stop_at: Option<u64>,
     wanted: &[&str],
-) -> Result<Told, NoMemory> {
+) -> Result<Told, Fail> {
     let mut bytes = String::new(alloc);
     for request in requests {
         bytes.push_str(request)?;
@@ -118,7 +118,7 @@ fn runs<W: Wait>(
     })
 }
 
-/// A take each 50 ms: twenty aren't ready, and the next is, behind the due step of the end.
+/// A take each 50 ms: twenty aren't ready, and the next is. Two due steps: the sleep begins, and ends.
 #[test]
 fn a_take_before_its_ticket_is_ready_is_not_yet(rt: HostRuntime) -> Result<(), Fail> {
     let told = runs(&rt, rt.alloc(), &[SHORT, WAIT], None, &[STARTED, WAITED])?;
@@ -127,7 +127,7 @@ fn a_take_before_its_ticket_is_ready_is_not_yet(rt: HostRuntime) -> Result<(), F
         as_wanted: true,
         begun: 1,
         not_yet: 20,
-        steps: 5,
+        steps: 6,
     };
     assert_eq!(rt; told, wanted);
     Ok(())
@@ -145,7 +145,7 @@ fn an_early_head_is_followed_by_the_code(rt: HostRuntime) -> Result<(), Fail> {
     Ok(())
 }
 
-/// The clock stops in its first pause: 503, and behind create, start and stop a drop, the fourth step.
+/// The clock stops in its first pause: 503, and the last step is a drop, behind create, start, a due step and stop.
 #[test]
 fn a_stop_that_is_broken_off_is_dropped(rt: HostRuntime) -> Result<(), Fail> {
     let told = runs(
@@ -160,7 +160,7 @@ fn a_stop_that_is_broken_off_is_dropped(rt: HostRuntime) -> Result<(), Fail> {
         as_wanted: true,
         begun: 1,
         not_yet: 1,
-        steps: 4,
+        steps: 5,
     };
     assert_eq!(rt; told, wanted);
     Ok(())
@@ -181,7 +181,7 @@ fn an_early_head_is_broken_off(rt: HostRuntime) -> Result<(), Fail> {
         as_wanted: true,
         begun: 1,
         not_yet: 3,
-        steps: 4,
+        steps: 5,
     };
     assert_eq!(rt; told, wanted);
     Ok(())
