@@ -753,8 +753,8 @@ def in_chunks(*pieces, close=False):
     return head + "".join(f"{len(piece):x}\r\n{piece}\r\n" for piece in pieces) + "0\r\n\r\n"
 
 
-SHORT = [create("web", ["sleep", "10"]), post("/containers/web/start")]
-scenario("wait_early", SHORT + [post("/containers/web/wait", more=EARLY), post("/containers/web/wait", more="X-Engine-Early: now\r\n"),
+SOON = [create("web", ["sleep", "10"]), post("/containers/web/start")]
+scenario("wait_early", SOON + [post("/containers/web/wait", more=EARLY), post("/containers/web/wait", more="X-Engine-Early: now\r\n"),
                                 post("/containers/db/wait", more=EARLY), post("/containers/web/start", more=EARLY),
                                 post("/containers/web/stop", more=EARLY), post("/containers/web/wait", more=EARLY + "Connection: close\r\n")],
          [created(0), answer(204), in_chunks(compact({"StatusCode": 0})), answer(200, compact({"StatusCode": 0})),
