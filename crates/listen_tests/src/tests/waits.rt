@@ -1,14 +1,12 @@
 // Waits of several connections for one container, over real sockets.
 use super::clients::{connect, tells};
-use super::requests::MOMENT;
-use daemon_shared::run_daemon;
-use engine_ports::{Door, TcpDoor};
+use super::sockets::worst_of;
+use engine_ports::TcpDoor;
 use session_model::Worst;
 use std::io;
 use std::net::{Net, TcpListener, TcpStream};
-use std::sync::Wait;
 use std::test::Fail;
-use std::thread::{Threads, join};
+use std::thread::join;
 use std::time::Clock;
 
 const EXITS: &str =
@@ -64,34 +62,17 @@ fn wait_for_a_kill<R: Net<Stream = TcpStream> + Clock>(rt: &R, port: u16) -> io:
     Ok(begun && killed && first_told && second_told)
 }
 
-/// The worst of all sessions of a daemon that takes in so many connections at this port.
-fn worst_of<R: Threads + Wait + Sync + AllocGlobal, D: Door>(
-    rt: &R,
-    port: u16,
-    most: u32,
-    door: &mut D,
-) -> Worst {
-    let alloc = rt.alloc();
-    let Ok(addr) = format!(in alloc; "127.0.0.1:{port}") else {
-        return Worst::NoMemory;
-    };
-    if door.bind(addr.as_str()).is_err() {
-        return Worst::Fault;
-    }
-    let (worst, daemon) = run_daemon(rt, alloc, [0; 32], MOMENT, 100, Some(most), None, door);
-    drop(daemon);
-    worst
-}
-
 #[test]
 fn the_head_of_a_wait_comes_before_the_start(rt: HostRuntime) -> Result<(), Fail> {
+    let alloc = rt.alloc();
     let free = TcpListener::bind(&rt, "127.0.0.1:0")?;
     let port = free.local_addr()?.port();
     drop(free);
-    let mut door = TcpDoor::new(&rt, rt.alloc());
+    let addr = format!(in alloc; "127.0.0.1:{port}")?;
+    let mut door = TcpDoor::new(&rt, alloc);
     let (worst, told) = join(
         &rt,
-        || -> Worst { worst_of(&rt, port, 2, &mut door) },
+        || -> Worst { worst_of(&rt, addr.as_str(), 2, &mut door) },
         || -> io::Result<bool> { wait_before_the_start(&rt, port) },
     );
     assert_eq!(rt; worst, Worst::Closed);
@@ -101,13 +82,15 @@ fn the_head_of_a_wait_comes_before_the_start(rt: HostRuntime) -> Result<(), Fail
 
 #[test]
 fn two_waits_end_with_a_kill_by_a_third(rt: HostRuntime) -> Result<(), Fail> {
+    let alloc = rt.alloc();
     let free = TcpListener::bind(&rt, "127.0.0.1:0")?;
     let port = free.local_addr()?.port();
     drop(free);
-    let mut door = TcpDoor::new(&rt, rt.alloc());
+    let addr = format!(in alloc; "127.0.0.1:{port}")?;
+    let mut door = TcpDoor::new(&rt, alloc);
     let (worst, told) = join(
         &rt,
-        || -> Worst { worst_of(&rt, port, 3, &mut door) },
+        || -> Worst { worst_of(&rt, addr.as_str(), 3, &mut door) },
         || -> io::Result<bool> { wait_for_a_kill(&rt, port) },
     );
     assert_eq!(rt; worst, Worst::Closed);
