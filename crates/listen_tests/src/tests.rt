@@ -6,4 +6,3 @@ mod memory;
 mod program;
 mod requests;
 mod sockets;
-mod waits;
