@@ -1,18 +1,18 @@
 -- What a take and a drop obey.
-use Rattle.std.proofs.Common.{◌≡◌, ℕ, ◌==◌, Option, Some, None, refl, IsTrue}
+use Rattle.std.proofs.Common.{◌≡◌, ℕ, ◌==◌, Option, Some, None, unwrap_or, refl, IsTrue}
 use Rattle.machine_model.specs.State.{State}
 use Rattle.machine_model.specs.Chain.{change}
 use Rattle.machine_model.specs.Call.{outcome_of}
 use Rattle.machine_model.specs.Statuses.{is_reply_of}
 use Rattle.machine_model.specs.Tickets.{ticket_numbered}
-use Rattle.machine_model.specs.Calls.Take.{end_ticket, reply_of, ticket_reply}
+use Rattle.machine_model.specs.Calls.Take.{end_ticket, ticket_reply}
 use Rattle.machine_model.proofs.Fold.TellLemmas.{tells_apart}
 use Rattle.machine_model.proofs.ObeyLemmas.{HaveReplies, Obeys, obeys_apart, found_all, IsTicketReply}
 use Rattle.engine_text.specs.declared.call.Call.{Call}
 use Rattle.engine_text.specs.declared.reply.Reply.{Reply}
 use Rattle.engine_text.specs.declared.ticket.Ticket.{Ticket}
 
-given : (n : ℕ) (o : Option Reply) → IsTicketReply o → IsTrue (is_reply_of (Call.Take n) (reply_of o))
+given : (n : ℕ) (o : Option Reply) → IsTicketReply o → IsTrue (is_reply_of (Call.Take n) (unwrap_or o Reply.Dropped))
 given n None h = refl
 given n (Some (Reply.Answer status body)) h = h
 given n (Some (Reply.Begun ticket)) h = absurd h

@@ -1,4 +1,5 @@
 -- An owner's log is begun once and grows while its owner stands: the relation, and what changes of containers and outputs keep of it.
+use Rattle.std.specs.Prelude.{is_some, option_map}
 use Rattle.std.proofs.Common.{◌≡◌, ℕ, ◌+◌, ◌≤◌, ◌<◌, ◌==◌, Bool, true, false, List, [], ◌∷◌, ◌++◌, Option, Some, None, find, map, if◌then◌else◌, refl, ap, sym, ◌∙◌, subst, arith, ◌⊎◌, inl, inr}
 use Rattle.std.proofs.lemmas.Bool.{eqb-true}
 use Rattle.std.specs.List.{AllByRecursion, flat_map}
@@ -7,7 +8,7 @@ use Rattle.engine_text.specs.Owner.{same_owner}
 use Rattle.machine_model.specs.State.{State, owner_number, container_numbered}
 use Rattle.machine_model.specs.Chain.{Effect}
 use Rattle.machine_model.specs.Consistency.{AreDistinct}
-use Rattle.machine_model.specs.LogStream.{log_in, log_among, kept_log, container_log, standing_log, or_else, log_found, is_log}
+use Rattle.machine_model.specs.LogStream.{log_among, kept_log, standing_log, or_else, log_found}
 use Rattle.machine_model.proofs.ListLemmas.{append_nil, append_assoc}
 use Rattle.machine_model.proofs.Fold.RowLemmas.{made}
 use Rattle.machine_model.proofs.ChangeLemmas.{map_updated, all_updated}
@@ -52,7 +53,7 @@ KeptOnce o (k ∷ ks) = ((log_among o k.logs ≡ None) ⊎ AllByRecursion (Lacks
 -- an owner whose number is not given has no log, one that stands has none that is kept
 abbrev pub Owns : Owner → Option (List LogRecord) → List KeptLogs → ℕ → Type 0
 Owns o standing ks next =
-    (next ≤ owner_number o → (standing ≡ None) × AllByRecursion (Lacks o) ks) × (is_log standing ≡ true → AllByRecursion (Lacks o) ks) × KeptOnce o ks
+    (next ≤ owner_number o → (standing ≡ None) × AllByRecursion (Lacks o) ks) × (is_some standing ≡ true → AllByRecursion (Lacks o) ks) × KeptOnce o ks
 
 -- what is kept of an owner, and of the containers' numbers
 abbrev pub Logs : Owner → State → Type 0
@@ -69,7 +70,7 @@ pub later_refl : (low : Type 0) (x : Option (List LogRecord)) → Later low x x
 later_refl low None = tt
 later_refl low (Some l) = ([], sym (append_nil l))
 
-later_then : (low more : Type 0) (x y z : Option (List LogRecord)) → (is_log x ≡ true → more → ⊥) → (more → low) → Later low x y → Later more y z → Later low x z
+later_then : (low more : Type 0) (x y z : Option (List LogRecord)) → (is_some x ≡ true → more → ⊥) → (more → low) → Later low x y → Later more y z → Later low x z
 later_then low more None None None born less first second = tt
 later_then low more None None (Some n) born less first second = less second
 later_then low more None (Some m) None born less first second = tt
@@ -80,7 +81,7 @@ later_then low more (Some l) (Some m) None born less first second = tt
 later_then low more (Some l) (Some m) (Some n) born less first second =
     (first.0 ++ second.0, second.1 ∙ (ap (λ xs. xs ++ second.0) first.1 ∙ append_assoc l first.0 second.0))
 
-among_by : (b : Bool) (x : OwnedLog) (r t : Option OwnedLog) (u : Option (List LogRecord)) → log_in t ≡ or_else (log_in r) u → log_in (if b then Some x else t) ≡ or_else (log_in (if b then Some x else r)) u
+among_by : (b : Bool) (x : OwnedLog) (r t : Option OwnedLog) (u : Option (List LogRecord)) → option_map (λ (l : OwnedLog). l.log) t ≡ or_else (option_map (λ (l : OwnedLog). l.log) r) u → option_map (λ (l : OwnedLog). l.log) (if b then Some x else t) ≡ or_else (option_map (λ (l : OwnedLog). l.log) (if b then Some x else r)) u
 among_by true x r t u e = refl
 among_by false x r t u e = e
 
@@ -94,11 +95,11 @@ no_logs o (k ∷ ks) h =
     among_append o k.logs (flat_map (λ k. k.logs) ks) ∙ (ap (λ x. or_else x (among o ks)) h.0 ∙ no_logs o ks h.1)
 
 -- a log is of an owner whose number is given
-log_born : (o : Owner) (standing : Option (List LogRecord)) (ks : List KeptLogs) (next : ℕ) → Owns o standing ks next → is_log (or_else standing (among o ks)) ≡ true → next ≤ owner_number o → ⊥
+log_born : (o : Owner) (standing : Option (List LogRecord)) (ks : List KeptLogs) (next : ℕ) → Owns o standing ks next → is_some (or_else standing (among o ks)) ≡ true → next ≤ owner_number o → ⊥
 log_born o standing ks next owns is low =
     let none = owns.0 low in
     let gone : or_else standing (among o ks) ≡ None = ap (λ x. or_else x (among o ks)) none.0 ∙ no_logs o ks none.1 in
-    let never : false ≡ true = sym (ap is_log gone) ∙ is in
+    let never : false ≡ true = sym (ap is_some gone) ∙ is in
     absurd (cc)
 
 pub grows_after : (o : Owner) (s : State) (a b : Effect) → Grows o s a → Grows o a.state b
@@ -133,22 +134,22 @@ grew_refl (Some l) = ([], sym (append_nil l))
 -- ---- changes of containers
 
 grew_at : (b : Bool) (c : Container) (f : Life → Life) (g : List ℕ → List ℕ) (r : Option Container) → ((l : Life) → (rest : List LogRecord) × ((f l).log ≡ l.log ++ rest))
-    → Grew (container_log (if b then Some c else r)) (container_log (if b then Some (made g f c) else r))
+    → Grew (option_map (λ (c : Container). c.life.log) (if b then Some c else r)) (option_map (λ (c : Container). c.life.log) (if b then Some (made g f c) else r))
 grew_at true c f g r k = k c.life
-grew_at false c f g r k = grew_refl (container_log r)
+grew_at false c f g r k = grew_refl (option_map (λ (c : Container). c.life.log) r)
 
-grew_past : (b : Bool) (c : Container) (r t : Option Container) → Grew (container_log r) (container_log t) → Grew (container_log (if b then Some c else r)) (container_log (if b then Some c else t))
+grew_past : (b : Bool) (c : Container) (r t : Option Container) → Grew (option_map (λ (c : Container). c.life.log) r) (option_map (λ (c : Container). c.life.log) t) → Grew (option_map (λ (c : Container). c.life.log) (if b then Some c else r)) (option_map (λ (c : Container). c.life.log) (if b then Some c else t))
 grew_past true c r t h = grew_refl (Some c.life.log)
 grew_past false c r t h = h
 
 grew_cons : (hit : Bool) (m : ℕ) (c : Container) (f : Life → Life) (g : List ℕ → List ℕ) (cs new : List Container) → ((l : Life) → (rest : List LogRecord) × ((f l).log ≡ l.log ++ rest))
-    → Grew (container_log (find (λ c. c.number == m) cs)) (container_log (find (λ c. c.number == m) new))
-    → Grew (container_log (find (λ c. c.number == m) (c ∷ cs))) (container_log (find (λ c. c.number == m) (if hit then made g f c ∷ cs else c ∷ new)))
+    → Grew (option_map (λ (c : Container). c.life.log) (find (λ c. c.number == m) cs)) (option_map (λ (c : Container). c.life.log) (find (λ c. c.number == m) new))
+    → Grew (option_map (λ (c : Container). c.life.log) (find (λ c. c.number == m) (c ∷ cs))) (option_map (λ (c : Container). c.life.log) (find (λ c. c.number == m) (if hit then made g f c ∷ cs else c ∷ new)))
 grew_cons true m c f g cs new k h = grew_at (c.number == m) c f g (find (λ c. c.number == m) cs) k
 grew_cons false m c f g cs new k h = grew_past (c.number == m) c (find (λ c. c.number == m) cs) (find (λ c. c.number == m) new) h
 
 grew_updated : (n m : ℕ) (f : Life → Life) (g : List ℕ → List ℕ) → ((l : Life) → (rest : List LogRecord) × ((f l).log ≡ l.log ++ rest)) → (cs : List Container)
-    → Grew (container_log (find (λ c. c.number == m) cs)) (container_log (find (λ c. c.number == m) (update_first (λ c. c.number == n) (made g f) cs)))
+    → Grew (option_map (λ (c : Container). c.life.log) (find (λ c. c.number == m) cs)) (option_map (λ (c : Container). c.life.log) (find (λ c. c.number == m) (update_first (λ c. c.number == n) (made g f) cs)))
 grew_updated n m f g k [] = tt
 grew_updated n m f g k (c ∷ cs) = grew_cons (c.number == n) m c f g cs (update_first (λ c. c.number == n) (made g f) cs) k (grew_updated n m f g k cs)
 
@@ -177,11 +178,11 @@ grows_changed o s n f g k h =
 abbrev longer : LogRecord → OwnedLog → OwnedLog
 longer r o = record o { log = o.log ++ r ∷ [] }
 
-put_at : (b : Bool) (x : OwnedLog) (r : LogRecord) (rest : Option OwnedLog) → Grew (log_in (if b then Some x else rest)) (log_in (if b then Some (longer r x) else rest))
+put_at : (b : Bool) (x : OwnedLog) (r : LogRecord) (rest : Option OwnedLog) → Grew (option_map (λ (l : OwnedLog). l.log) (if b then Some x else rest)) (option_map (λ (l : OwnedLog). l.log) (if b then Some (longer r x) else rest))
 put_at true x r rest = (r ∷ [], refl)
-put_at false x r rest = grew_refl (log_in rest)
+put_at false x r rest = grew_refl (option_map (λ (l : OwnedLog). l.log) rest)
 
-put_past : (b : Bool) (x : OwnedLog) (r t : Option OwnedLog) → Grew (log_in r) (log_in t) → Grew (log_in (if b then Some x else r)) (log_in (if b then Some x else t))
+put_past : (b : Bool) (x : OwnedLog) (r t : Option OwnedLog) → Grew (option_map (λ (l : OwnedLog). l.log) r) (option_map (λ (l : OwnedLog). l.log) t) → Grew (option_map (λ (l : OwnedLog). l.log) (if b then Some x else r)) (option_map (λ (l : OwnedLog). l.log) (if b then Some x else t))
 put_past true x r t h = grew_refl (Some x.log)
 put_past false x r t h = h
 
@@ -195,7 +196,7 @@ put_grew o p r [] = tt
 put_grew o p r (x ∷ ls) = put_cons (same_owner x.owner p) o x r ls (update_first (λ l. same_owner l.owner p) (longer r) ls) (put_grew o p r ls)
 
 put_standing : (o p : Owner) (s : State) (r : LogRecord) → Grew (standing_log o s) (standing_log o (record s { outputs = update_first (λ l. same_owner l.owner p) (longer r) s.outputs }))
-put_standing (OfContainer m) p s r = grew_refl (container_log (container_numbered m s))
+put_standing (OfContainer m) p s r = grew_refl (option_map (λ (c : Container). c.life.log) (container_numbered m s))
 put_standing (OfExec m) p s r = put_grew (OfExec m) p r s.outputs
 
 pub grows_put : (o p : Owner) (s : State) (r : LogRecord)
@@ -216,7 +217,7 @@ Begins o next x y = (y ≡ x) ⊎ ((next ≤ owner_number o) × (owner_number o 
 
 pub owns_begun : (o : Owner) (x y : Option (List LogRecord)) (ks : List KeptLogs) (next : ℕ) → Begins o next x y → Owns o x ks next → Owns o y ks (next + 1)
 owns_begun o x y ks next (inl e) h =
-    (λ low. let none = h.0 (omega (arith, low)) in (e ∙ none.0, none.1), λ is. h.1 (sym (ap is_log e) ∙ is), h.2)
+    (λ low. let none = h.0 (omega (arith, low)) in (e ∙ none.0, none.1), λ is. h.1 (sym (ap is_some e) ∙ is), h.2)
 owns_begun o x y ks next (inr e) h = (λ low. absurd (omega (arith, low, e.1)), λ is. (h.0 e.0).1, h.2)
 
 pub later_begun : (o : Owner) (x y z : Option (List LogRecord)) (ks : List KeptLogs) (next : ℕ) → Begins o next x y → Owns o x ks next → z ≡ among o ks
@@ -231,26 +232,26 @@ later_begun o x y z ks next (inr e) h is =
     from_none None low = tt
     from_none (Some l) low = low
 
-new_by : (b c : Bool) (n m : ℕ) (x new : Container) (r t : Option Container) → (new.number == m) ≡ c → new.number ≡ n → Begins (OfContainer m) n (container_log r) (container_log t)
-    → Begins (OfContainer m) n (container_log (if b then Some x else r)) (container_log (if b then Some x else t))
+new_by : (b c : Bool) (n m : ℕ) (x new : Container) (r t : Option Container) → (new.number == m) ≡ c → new.number ≡ n → Begins (OfContainer m) n (option_map (λ (c : Container). c.life.log) r) (option_map (λ (c : Container). c.life.log) t)
+    → Begins (OfContainer m) n (option_map (λ (c : Container). c.life.log) (if b then Some x else r)) (option_map (λ (c : Container). c.life.log) (if b then Some x else t))
 new_by true c n m x new r t e is h = inl refl
 new_by false c n m x new r t e is h = h
 
-new_last : (c : Bool) (n m : ℕ) (new : Container) → (new.number == m) ≡ c → new.number ≡ n → Begins (OfContainer m) n None (container_log (if c then Some new else None))
+new_last : (c : Bool) (n m : ℕ) (new : Container) → (new.number == m) ≡ c → new.number ≡ n → Begins (OfContainer m) n None (option_map (λ (c : Container). c.life.log) (if c then Some new else None))
 new_last true n m new e is = let same : new.number ≡ m = eqb-true new.number m e in inr (omega (arith, same, is), omega (arith, same, is))
 new_last false n m new e is = inl refl
 
 new_container_log : (n m : ℕ) (new : Container) (cs : List Container) → new.number ≡ n
-    → Begins (OfContainer m) n (container_log (find (λ c. c.number == m) cs)) (container_log (find (λ c. c.number == m) (cs ++ new ∷ [])))
+    → Begins (OfContainer m) n (option_map (λ (c : Container). c.life.log) (find (λ c. c.number == m) cs)) (option_map (λ (c : Container). c.life.log) (find (λ c. c.number == m) (cs ++ new ∷ [])))
 new_container_log n m new [] is = new_last (new.number == m) n m new refl is
 new_container_log n m new (x ∷ cs) is =
     new_by (x.number == m) (new.number == m) n m x new (find (λ c. c.number == m) cs) (find (λ c. c.number == m) (cs ++ new ∷ [])) refl is (new_container_log n m new cs is)
 
-new_output_by : (b : Bool) (o : Owner) (n : ℕ) (x : OwnedLog) (r t : Option OwnedLog) → Begins o n (log_in r) (log_in t) → Begins o n (log_in (if b then Some x else r)) (log_in (if b then Some x else t))
+new_output_by : (b : Bool) (o : Owner) (n : ℕ) (x : OwnedLog) (r t : Option OwnedLog) → Begins o n (option_map (λ (l : OwnedLog). l.log) r) (option_map (λ (l : OwnedLog). l.log) t) → Begins o n (option_map (λ (l : OwnedLog). l.log) (if b then Some x else r)) (option_map (λ (l : OwnedLog). l.log) (if b then Some x else t))
 new_output_by true o n x r t h = inl refl
 new_output_by false o n x r t h = h
 
-new_output_last : (b : Bool) (n m : ℕ) (l : OwnedLog) → (n == m) ≡ b → Begins (OfExec m) n None (log_in (if b then Some l else None))
+new_output_last : (b : Bool) (n m : ℕ) (l : OwnedLog) → (n == m) ≡ b → Begins (OfExec m) n None (option_map (λ (l : OwnedLog). l.log) (if b then Some l else None))
 new_output_last true n m l e = let same : n ≡ m = eqb-true n m e in inr (omega (arith, same), omega (arith, same))
 new_output_last false n m l e = inl refl
 

@@ -1,4 +1,5 @@
 -- Logs only grow along every history, while they are kept.
+use Rattle.std.specs.Prelude.{is_some, unwrap_or, option_map}
 use Rattle.std.proofs.Common.{◌≡◌, ℕ, ◌+◌, ◌≤◌, ◌<◌, ◌==◌, true, List, [], ◌∷◌, ◌++◌, Option, Some, None, find, map, refl, ap, sym, ◌∙◌, subst, arith}
 use Rattle.std.specs.List.{AllByRecursion}
 use Rattle.machine_model.specs.State.{State, owner_number, change_process, drop_process, change_exec, initial_state}
@@ -9,7 +10,7 @@ use Rattle.machine_model.specs.Step.{at_moment, finished, step_of, or_still}
 use Rattle.machine_model.specs.History.{Charter, opening_state, after_step, state_from, state_after}
 use Rattle.machine_model.specs.Consistency.{AreDistinct}
 use Rattle.machine_model.specs.Effects.Meet.{logged, record_of}
-use Rattle.machine_model.specs.LogStream.{log_among, kept_log, container_log, standing_log, or_else, log_found, is_log, records_in}
+use Rattle.machine_model.specs.LogStream.{log_among, kept_log, standing_log, or_else, log_found}
 use Rattle.machine_model.specs.Laws.{LogGrowsLaw}
 use Rattle.machine_model.specs.Effects.Launch.{spawn}
 use Rattle.machine_model.specs.Tickets.{begun}
@@ -34,7 +35,7 @@ use Rattle.machine_model.proofs.ClosureLemmas.{runs_call, runs_due}
 -- ---- every effect
 
 same_standing : (o : Owner) (s t : State) → t.containers ≡ s.containers → t.outputs ≡ s.outputs → standing_log o t ≡ standing_log o s
-same_standing (OfContainer m) s t cs os = ap (λ xs. container_log (find (λ c. c.number == m) xs)) cs
+same_standing (OfContainer m) s t cs os = ap (λ xs. option_map (λ (c : Container). c.life.log) (find (λ c. c.number == m) xs)) cs
 same_standing (OfExec m) s t cs os = ap (log_among (OfExec m)) os
 
 -- the same by its parts
@@ -134,7 +135,7 @@ logs_opening o charter =
     let none = none_standing o charter.seed charter.opening in
     ((λ low. (none, tt), λ is. tt, tt), tt, tt)
 
-found_later : (low : Type 0) (x y : Option (List LogRecord)) → is_log x ≡ true → is_log y ≡ true → Later low x y → (rest : List LogRecord) × (records_in y ≡ records_in x ++ rest)
+found_later : (low : Type 0) (x y : Option (List LogRecord)) → is_some x ≡ true → is_some y ≡ true → Later low x y → (rest : List LogRecord) × (unwrap_or y [] ≡ unwrap_or x [] ++ rest)
 found_later low None y first second later = absurd (cc)
 found_later low (Some l) None first second later = absurd (cc)
 found_later low (Some l) (Some m) first second later = later

@@ -1,4 +1,5 @@
 -- A removal keeps the logs of the container and of its execs as they are, and those of all others.
+use Rattle.std.specs.Prelude.{is_some, option_map}
 use Rattle.std.proofs.Common.{◌≡◌, ℕ, zero, suc, ◌-◌, ◌≤◌, ◌<◌, ◌==◌, Bool, true, false, not, List, [], ◌∷◌, ◌++◌, Option, Some, None, find, filter, map, drop, length, if◌then◌else◌, refl, ap, sym, ◌∙◌, subst, arith, ◌⊎◌, inl, inr}
 use Rattle.std.proofs.lemmas.Bool.{eqb-true, eq-eqb}
 use Rattle.std.specs.List.{AllByRecursion, flat_map, list_any}
@@ -7,7 +8,7 @@ use Rattle.engine_text.specs.Owner.{same_owner}
 use Rattle.machine_model.specs.State.{State, owner_number, container_numbered, execs_of}
 use Rattle.machine_model.specs.Consistency.{AreDistinct}
 use Rattle.machine_model.specs.Effects.Destroy.{is_exec_of, logs_of, without}
-use Rattle.machine_model.specs.LogStream.{log_in, log_among, container_log, standing_log, or_else, log_found, is_log}
+use Rattle.machine_model.specs.LogStream.{log_among, standing_log, or_else, log_found}
 use Rattle.machine_model.proofs.ListLemmas.{append_nil, all_append, append_assoc}
 use Rattle.machine_model.proofs.ChangeLemmas.{all_removed, distinct_removed}
 use Rattle.machine_model.proofs.OwnerLemmas.{owner_is}
@@ -78,23 +79,23 @@ or_none (Some l) = refl
 among_more : (o : Owner) (ks : List KeptLogs) (k : KeptLogs) → among o (ks ++ k ∷ []) ≡ or_else (among o ks) (log_among o k.logs)
 among_more o ks k = ap (log_among o) (flat_append ks k) ∙ among_append o (flat_map (λ k. k.logs) ks) k.logs
 
-has_by : (x : Option (List LogRecord)) → (x ≡ None) ⊎ (is_log x ≡ true)
+has_by : (x : Option (List LogRecord)) → (x ≡ None) ⊎ (is_some x ≡ true)
 has_by None = inl refl
 has_by (Some l) = inr refl
 
 owns_moved : (o : Owner) (x y : Option (List LogRecord)) (ks : List KeptLogs) (k : KeptLogs) (next j : ℕ) → Moves x y (log_among o k.logs) → Owns o x ks next → Owns o y (drop j (ks ++ k ∷ [])) next
 owns_moved o x y ks k next j (inl e) h = (
   λ low. let none = h.0 low in (e.0, all_drop (Lacks o) j (ks ++ k ∷ []) (more_lacks o ks k none.1 (e.1 ∙ none.0))),
-  λ is. let never : false ≡ true = sym (ap is_log e.0) ∙ is in absurd (cc),
+  λ is. let never : false ≡ true = sym (ap is_some e.0) ∙ is in absurd (cc),
   once_drop o j (ks ++ k ∷ []) (once_more o ks k h.2 (of_it (has_by x))),
 )
   where
-    of_it : (x ≡ None) ⊎ (is_log x ≡ true) → (AllByRecursion (Lacks o) ks) ⊎ (log_among o k.logs ≡ None)
+    of_it : (x ≡ None) ⊎ (is_some x ≡ true) → (AllByRecursion (Lacks o) ks) ⊎ (log_among o k.logs ≡ None)
     of_it (inl none) = inr (e.1 ∙ none)
     of_it (inr is) = inl (h.1 is)
 owns_moved o x y ks k next j (inr e) h = (
   λ low. let none = h.0 low in (e.0 ∙ none.0, all_drop (Lacks o) j (ks ++ k ∷ []) (more_lacks o ks k none.1 e.1)),
-  λ is. all_drop (Lacks o) j (ks ++ k ∷ []) (more_lacks o ks k (h.1 (sym (ap is_log e.0) ∙ is)) e.1),
+  λ is. all_drop (Lacks o) j (ks ++ k ∷ []) (more_lacks o ks k (h.1 (sym (ap is_some e.0) ∙ is)) e.1),
   once_drop o j (ks ++ k ∷ []) (once_more o ks k h.2 (inr e.1)),
 )
 
@@ -112,13 +113,13 @@ found_moved : (o : Owner) (x y : Option (List LogRecord)) (ks : List KeptLogs) (
 found_moved o x y ks k next j moves h =
     by_drop moves (has_by x) (among_drop o j (ks ++ k ∷ []) (once_more o ks k h.2 (of_it moves (has_by x))))
   where
-    of_it : Moves x y (log_among o k.logs) → (x ≡ None) ⊎ (is_log x ≡ true) → (AllByRecursion (Lacks o) ks) ⊎ (log_among o k.logs ≡ None)
+    of_it : Moves x y (log_among o k.logs) → (x ≡ None) ⊎ (is_some x ≡ true) → (AllByRecursion (Lacks o) ks) ⊎ (log_among o k.logs ≡ None)
     of_it (inr e) has = inr e.1
     of_it (inl e) (inl none) = inr (e.1 ∙ none)
     of_it (inl e) (inr is) = inl (h.1 is)
 
     -- all that is kept afterwards, before anything is dropped
-    whole : Moves x y (log_among o k.logs) → (x ≡ None) ⊎ (is_log x ≡ true) → or_else y (among o (ks ++ k ∷ [])) ≡ or_else x (among o ks)
+    whole : Moves x y (log_among o k.logs) → (x ≡ None) ⊎ (is_some x ≡ true) → or_else y (among o (ks ++ k ∷ [])) ≡ or_else x (among o ks)
     whole (inr e) has = ap (λ w. or_else w (among o (ks ++ k ∷ []))) e.0 ∙ ap (or_else x) (among_more o ks k ∙ (ap (or_else (among o ks)) e.1 ∙ or_none (among o ks)))
     whole (inl e) (inl none) =
         ap (λ w. or_else w (among o (ks ++ k ∷ []))) (e.0 ∙ sym none) ∙ ap (or_else x) (among_more o ks k ∙ (ap (or_else (among o ks)) (e.1 ∙ none) ∙ or_none (among o ks)))
@@ -126,13 +127,13 @@ found_moved o x y ks k next j moves h =
         let lack : among o ks ≡ None = no_logs o ks (h.1 is) in
         ap (λ w. or_else w (among o (ks ++ k ∷ []))) e.0 ∙ (among_more o ks k ∙ (ap (λ w. or_else w (log_among o k.logs)) lack ∙ (e.1 ∙ (sym (or_none x) ∙ ap (or_else x) (sym lack)))))
 
-    stays : Moves x y (log_among o k.logs) → (x ≡ None) ⊎ (is_log x ≡ true) → among o (drop j (ks ++ k ∷ [])) ≡ None
+    stays : Moves x y (log_among o k.logs) → (x ≡ None) ⊎ (is_some x ≡ true) → among o (drop j (ks ++ k ∷ [])) ≡ None
         → (or_else y (among o (drop j (ks ++ k ∷ []))) ≡ None) ⊎ (or_else y (among o (drop j (ks ++ k ∷ []))) ≡ or_else x (among o ks))
     stays (inl e) has gone = inl (ap (or_else y) gone ∙ (or_none y ∙ e.0))
     stays (inr e) (inl none) gone = inl (ap (or_else y) gone ∙ (or_none y ∙ (e.0 ∙ none)))
     stays (inr e) (inr is) gone = inr (ap (or_else y) gone ∙ (or_none y ∙ (e.0 ∙ (sym (or_none x) ∙ ap (or_else x) (sym (no_logs o ks (h.1 is)))))))
 
-    by_drop : Moves x y (log_among o k.logs) → (x ≡ None) ⊎ (is_log x ≡ true) → (among o (drop j (ks ++ k ∷ [])) ≡ None) ⊎ (among o (drop j (ks ++ k ∷ [])) ≡ among o (ks ++ k ∷ []))
+    by_drop : Moves x y (log_among o k.logs) → (x ≡ None) ⊎ (is_some x ≡ true) → (among o (drop j (ks ++ k ∷ [])) ≡ None) ⊎ (among o (drop j (ks ++ k ∷ [])) ≡ among o (ks ++ k ∷ []))
         → (or_else y (among o (drop j (ks ++ k ∷ []))) ≡ None) ⊎ (or_else y (among o (drop j (ks ++ k ∷ []))) ≡ or_else x (among o ks))
     by_drop moves has (inl gone) = stays moves has gone
     by_drop moves has (inr same) = inr (ap (or_else y) same ∙ whole moves has)
@@ -176,17 +177,17 @@ not_exec n m s l e =
 
 moved_container : (b : Bool) (c : Container) (s : State) (m : ℕ) → (c.number == m) ≡ b → container_numbered c.number s ≡ Some c → AreDistinct (map (λ c. c.number) s.containers)
     → Moves (standing_log (OfContainer m) s) (standing_log (OfContainer m) (without c s))
-    (log_in (if b then Some (record { owner = OfContainer c.number; log = c.life.log }) else find (λ l. same_owner l.owner (OfContainer m)) (filter (is_exec_of c.number s) s.outputs)))
+    (option_map (λ (l : OwnedLog). l.log) (if b then Some (record { owner = OfContainer c.number; log = c.life.log }) else find (λ l. same_owner l.owner (OfContainer m)) (filter (is_exec_of c.number s) s.outputs)))
 moved_container true c s m e found distinct =
     let is : c.number ≡ m = eqb-true c.number m e in
     inl (
-      ap container_log (subst (λ k. find (λ d. d.number == k) (remove_first (λ d. d.number == c.number) s.containers) ≡ None) is (itself_gone c.number s.containers distinct)),
-      sym (ap container_log (subst (λ k. container_numbered k s ≡ Some c) is found)),
+      ap (option_map (λ (c : Container). c.life.log)) (subst (λ k. find (λ d. d.number == k) (remove_first (λ d. d.number == c.number) s.containers) ≡ None) is (itself_gone c.number s.containers distinct)),
+      sym (ap (option_map (λ (c : Container). c.life.log)) (subst (λ k. container_numbered k s ≡ Some c) is found)),
     )
 moved_container false c s m e found distinct =
     inr (
-      ap container_log (other_stands c.number m s.containers (λ same. let t : (c.number == m) ≡ true = eq-eqb c.number m same in let never : false ≡ true = sym e ∙ t in absurd (cc))),
-      ap log_in (find_gone (λ l. same_owner l.owner (OfContainer m)) (is_exec_of c.number s) s.outputs (λ l is. not_exec c.number m s l is)),
+      ap (option_map (λ (c : Container). c.life.log)) (other_stands c.number m s.containers (λ same. let t : (c.number == m) ≡ true = eq-eqb c.number m same in let never : false ≡ true = sym e ∙ t in absurd (cc))),
+      ap (option_map (λ (l : OwnedLog). l.log)) (find_gone (λ l. same_owner l.owner (OfContainer m)) (is_exec_of c.number s) s.outputs (λ l is. not_exec c.number m s l is)),
     )
 
 exec_is : (n m : ℕ) (s : State) (b : Bool) (l : OwnedLog) → list_any (λ x. same_owner (OfExec m) (OfExec x.number)) (execs_of n s) ≡ b → same_owner l.owner (OfExec m) ≡ true → is_exec_of n s l ≡ b
@@ -196,13 +197,13 @@ moved_exec : (b : Bool) (c : Container) (s : State) (m : ℕ) → list_any (λ x
     → Moves (standing_log (OfExec m) s) (standing_log (OfExec m) (without c s)) (log_among (OfExec m) (filter (is_exec_of c.number s) s.outputs))
 moved_exec true c s m e =
     inl (
-      ap log_in (find_gone (λ l. same_owner l.owner (OfExec m)) (λ l. not (is_exec_of c.number s l)) s.outputs (λ l is. ap not (exec_is c.number m s true l e is))),
-      ap log_in (find_filtered (λ l. same_owner l.owner (OfExec m)) (is_exec_of c.number s) s.outputs (λ l is. exec_is c.number m s true l e is)),
+      ap (option_map (λ (l : OwnedLog). l.log)) (find_gone (λ l. same_owner l.owner (OfExec m)) (λ l. not (is_exec_of c.number s l)) s.outputs (λ l is. ap not (exec_is c.number m s true l e is))),
+      ap (option_map (λ (l : OwnedLog). l.log)) (find_filtered (λ l. same_owner l.owner (OfExec m)) (is_exec_of c.number s) s.outputs (λ l is. exec_is c.number m s true l e is)),
     )
 moved_exec false c s m e =
     inr (
-      ap log_in (find_filtered (λ l. same_owner l.owner (OfExec m)) (λ l. not (is_exec_of c.number s l)) s.outputs (λ l is. ap not (exec_is c.number m s false l e is))),
-      ap log_in (find_gone (λ l. same_owner l.owner (OfExec m)) (is_exec_of c.number s) s.outputs (λ l is. exec_is c.number m s false l e is)),
+      ap (option_map (λ (l : OwnedLog). l.log)) (find_filtered (λ l. same_owner l.owner (OfExec m)) (λ l. not (is_exec_of c.number s l)) s.outputs (λ l is. ap not (exec_is c.number m s false l e is))),
+      ap (option_map (λ (l : OwnedLog). l.log)) (find_gone (λ l. same_owner l.owner (OfExec m)) (is_exec_of c.number s) s.outputs (λ l is. exec_is c.number m s false l e is)),
     )
 
 moved : (o : Owner) (c : Container) (s : State) → container_numbered c.number s ≡ Some c → AreDistinct (map (λ c. c.number) s.containers)
