@@ -17,7 +17,7 @@ abbrev pub IsTold : {A : Type 0} → Piece A → List ℕ → Type 0
 IsTold {A} G text = Begins G text ⊎ ((a : A) (rest : List ℕ) → G a text rest → ⊥)
 
 -- one piece and then another
-then_told : {A B : Type 0} (G : Piece A) (H : Piece B) → IsDeterministic G → ((text : List ℕ) → IsTold G text) → ((text : List ℕ) → IsTold H text) → (text : List ℕ) → IsTold (Then G H) text
+pub then_told : {A B : Type 0} (G : Piece A) (H : Piece B) → IsDeterministic G → ((text : List ℕ) → IsTold G text) → ((text : List ℕ) → IsTold H text) → (text : List ℕ) → IsTold (Then G H) text
 then_told {A} {B} G H det first second text = go (first text)
   where
     later : (a : A) (middle : List ℕ) → G a text middle → IsTold H middle → IsTold (Then G H) text
@@ -29,14 +29,14 @@ then_told {A} {B} G H det first second text = go (first text)
     go (inr none) = inr (λ ab rest x. none ab.0 x.0 x.1)
 
 -- given bytes at the front
-abbrev HasFront : List ℕ → List ℕ → Type 0
+abbrev pub HasFront : List ℕ → List ℕ → Type 0
 HasFront front text = ((rest : List ℕ) × (text ≡ front ++ rest)) ⊎ ((rest : List ℕ) → text ≡ front ++ rest → ⊥)
 
 front_more : (b c : ℕ) (front text : List ℕ) → b ≡ c → HasFront front text → HasFront (b ∷ front) (c ∷ text)
 front_more b c front text same (inl x) = let e = x.1 in inl (x.0, cc)
 front_more b c front text same (inr none) = inr (λ rest e. none rest (cc))
 
-front_told : (front text : List ℕ) → HasFront front text
+pub front_told : (front text : List ℕ) → HasFront front text
 front_told [] text = inl (text, refl)
 front_told (b ∷ front) [] = inr (λ rest e. cc)
 front_told (b ∷ front) (c ∷ text) = go (cases_order b c) (front_told front text)
@@ -249,7 +249,7 @@ section_step text (inr none) (inr other) shorter = inr (λ s rest x. neither (Se
     neither (inr x) = other x.0 x.1 x.2
 
 -- the field lines and the empty line after them, by the length of the text
-section_told : (n : ℕ) (text : List ℕ) → length text ≤ n → IsTold Section text
+pub section_told : (n : ℕ) (text : List ℕ) → length text ≤ n → IsTold Section text
 section_told zero text le = section_step text (newline_told text) (field_told text) (λ rest less. absurd (omega (arith, less, le)))
 section_told (suc n) text le = section_step text (newline_told text) (field_told text) (λ rest less. section_told n rest (omega (arith, less, le)))
 

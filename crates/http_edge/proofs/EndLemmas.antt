@@ -1,7 +1,6 @@
 -- What is refused or unfinished begins with no request.
-use Rattle.std.proofs.Common.{arith, ◌≡◌, ◌<◌, ◌≤◌, ◌⊎◌, inl, inr, append_assoc, ℕ, List, [], length, ◌+◌, ◌-◌, ◌++◌, take, sym, ap, subst, ◌∙◌, length-append}
-use Rattle.std.proofs.lemmas.List.{append-nil, take-append-le, take_all}
-use Rattle.std.proofs.lemmas.Bool.{cases_lt}
+use Rattle.std.proofs.Common.{arith, ◌≡◌, ◌<◌, ◌≤◌, append_assoc, ℕ, List, [], length, ◌+◌, ◌-◌, ◌++◌, take, sym, ap, subst, ◌∙◌, length-append}
+use Rattle.std.proofs.lemmas.List.{append-nil, take-append-le}
 use Rattle.std.proofs.Math.Seq.{take-append-add}
 use Rattle.httparse.proofs.GrammarLemmas.{request_unique, ReadsRequest-append}
 use Rattle.httparse.specs.Grammar.{RequestHead, print_request, ReadsRequest, NeverHasRequest, MayBecomeRequest}
@@ -10,6 +9,8 @@ use Rattle.http_edge.specs.Spelling.{head_framing, SpellsBody, Begins, HasNoRequ
 use Rattle.http_edge.specs.Refusal.{window, RefusesBody, CutsBody, IsRefused, never, too_long, by_framing, IsUnfinished, in_head, in_body}
 use Rattle.http_edge.specs.declared.framing.Framing.{Framing}
 use Rattle.http_edge.specs.declared.framing.Framing.TheVariants.{Length, Chunked, Refused}
+use Rattle.http_edge.proofs.PartLemmas.{window_longer}
+use Rattle.http_edge.proofs.ChunkedLemmas.{refused_body, cut_body, chunks_longer}
 use Rattle.http_edge.proofs.StreamLemmas.{begins_head}
 
 -- a request's head stands in the window
@@ -24,15 +25,15 @@ in_window bytes behind r b =
     )
 
 -- a framing that is refused spells no body
-refuses_body : (f : Framing) (behind coded body : List ℕ) (status : ℕ) → RefusesBody f behind status → SpellsBody f coded body → ⊥
-refuses_body (Length n) behind coded body status u v = u
-refuses_body Chunked behind coded body status u v = v
-refuses_body (Refused s) behind coded body status u v = v
+refuses_body : (f : Framing) (behind coded body rest : List ℕ) (status : ℕ) → RefusesBody f behind status → SpellsBody f coded body → behind ≡ coded ++ rest → ⊥
+refuses_body (Length n) behind coded body rest status u v e = u
+refuses_body Chunked behind coded body rest status u v e = refused_body behind coded body rest status u v e
+refuses_body (Refused s) behind coded body rest status u v e = v
 
 -- a part of a body is no body
 cuts_body : (f : Framing) (behind coded body rest : List ℕ) → CutsBody f behind → SpellsBody f coded body → behind ≡ coded ++ rest → ⊥
 cuts_body (Length n) behind coded body rest u v e = omega (arith, u, v.1, ap length e, length-append coded rest)
-cuts_body Chunked behind coded body rest u v e = v
+cuts_body Chunked behind coded body rest u v e = cut_body behind coded body rest u v e
 cuts_body (Refused s) behind coded body rest u v e = v
 
 -- what is refused begins with no request
@@ -44,8 +45,8 @@ refused_none bytes status (too_long is long lacks may) r behind b =
     lacks b.1.head (take (16384 - length (print_request b.1.head)) (b.1.coded ++ behind)) (in_window bytes behind r b)
 refused_none bytes status (by_framing h rest begins refuses) r behind b =
     let same = request_unique bytes h b.1.head rest (b.1.coded ++ behind) begins.0 (begins_head bytes behind r b) in
-    refuses_body (head_framing h) rest b.1.coded r.body status refuses
-    (subst (λ k. SpellsBody (head_framing k) b.1.coded r.body) (sym same.0) b.1.body)
+    refuses_body (head_framing h) rest b.1.coded r.body behind status refuses
+    (subst (λ k. SpellsBody (head_framing k) b.1.coded r.body) (sym same.0) b.1.body) same.1
 
 -- what is unfinished begins with no request
 pub unfinished_none : (bytes : List ℕ) → IsUnfinished bytes → HasNoRequest bytes
@@ -60,23 +61,15 @@ unfinished_none bytes (in_body h rest begins cuts) r behind b =
 pub headless_none : (bytes : List ℕ) → Rattle.httparse.specs.Grammar.HasNoRequest bytes → HasNoRequest bytes
 headless_none bytes lacks r behind b = lacks b.1.head (b.1.coded ++ behind) (begins_head bytes behind r b)
 
--- the window of more bytes begins with that of these
-window_longer : (bytes more : List ℕ) → (rest : List ℕ) × (window (bytes ++ more) ≡ window bytes ++ rest)
-window_longer bytes more = go (cases_lt 16384 (length bytes))
-  where
-    go : (16384 < length bytes) ⊎ (length bytes ≤ 16384) → (rest : List ℕ) × (window (bytes ++ more) ≡ window bytes ++ rest)
-    go (inl long) = ([], take-append-le 16384 bytes more (omega arith) ∙ sym (append-nil (window bytes)))
-    go (inr short) = (take (16384 - length bytes) more, ap (λ n. take n (bytes ++ more)) (let n : 16384 ≡ length bytes + (16384 - length bytes) = omega arith in n) ∙ take-append-add bytes more (16384 - length bytes) ∙ ap (λ l. l ++ take (16384 - length bytes) more) (sym (take_all 16384 bytes short)))
-
 longer_refuses : (f : Framing) (behind more : List ℕ) (status : ℕ) → RefusesBody f behind status → RefusesBody f (behind ++ more) status
 longer_refuses (Length n) behind more status u = u
-longer_refuses Chunked behind more status u = u
+longer_refuses Chunked behind more status u = chunks_longer behind more status u
 longer_refuses (Refused s) behind more status u = u
 
 -- what is refused stays refused
 pub refused_stays : (bytes more : List ℕ) (status : ℕ) → IsRefused bytes status → IsRefused (bytes ++ more) status
 refused_stays bytes more status (never is lacks) =
-    let w = window_longer bytes more in
+    let w = window_longer 16384 bytes more in
     never is (subst NeverHasRequest (sym w.1) (λ later h rest reads. lacks (w.0 ++ later) h rest (subst (λ l. ReadsRequest l h rest) (append_assoc (window bytes) w.0 later) reads)))
 refused_stays bytes more status (too_long is long lacks may) =
     let same : window (bytes ++ more) ≡ window bytes = take-append-le 16384 bytes more long in

@@ -2,6 +2,9 @@ pub mod RoomLemmas
 pub mod FieldLemmas
 pub mod ReadLemmas
 pub mod DigitLemmas
+pub mod PieceLemmas
+pub mod PartLemmas
+pub mod ChunkedLemmas
 pub mod StreamLemmas
 pub mod EndLemmas
 pub mod RequestLemmas
@@ -10,5 +13,7 @@ pub mod PhraseLemmas
 pub mod AskLemmas
 pub mod HexLemmas
 pub mod DecideLemmas
+pub mod ToldLemmas
 pub mod ReadingLemmas
+pub mod ChunkingLemmas
 mod StandardFacts

@@ -1,6 +1,6 @@
 -- Phrases of statuses.
-use Rattle.std.proofs.Common.{arith, ◌≡◌, ◌<◌, ◌≤◌, ◌⊎◌, ℕ, zero, suc, List, [], length, sym, ap, subst, refl, ◌∙◌, Bool, true, false, inl, inr, lit<}
-use Rattle.std.specs.Prelude.{◌&&◌, ◌==◌, nat_le, nat_eq}
+use Rattle.std.proofs.Common.{arith, ◌≡◌, ◌<◌, ◌≤◌, ◌⊎◌, ℕ, zero, suc, [], length, ap, refl, ◌∙◌, Bool, true, false, inl, inr, lit<}
+use Rattle.std.specs.Prelude.{◌&&◌, ◌==◌, nat_le}
 use Rattle.std.proofs.lemmas.Bool.{cases_lt, and_parts}
 use Rattle.std.proofs.lemmas.Bool.Decides.{nat_tests}
 use Rattle.std.proofs.lemmas.List.{nil_from_length}

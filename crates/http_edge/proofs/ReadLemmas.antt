@@ -1,13 +1,23 @@
 -- What reads into a buffer give goes on.
-use Rattle.std.proofs.Common.{arith, ◌≡◌, ◌<◌, ◌≤◌, ◌⊎◌, inl, inr, ℕ, List, [], length, ◌+◌, ◌++◌, take, drop, sym, ap, ◌∙◌, length-append, append_assoc, append-nil}
-use Rattle.std.proofs.lemmas.List.{take-append-le, take_at, length-take-le, take-append-drop, drop-drop}
+use Rattle.std.proofs.Common.{arith, ◌≡◌, ◌<◌, ◌≤◌, ◌⊎◌, inl, inr, ℕ, List, [], ◌∷◌, length, ◌+◌, ◌++◌, take, drop, sym, ap, subst, refl, ◌∙◌, length-append, append_assoc, append-nil}
+use Rattle.std.specs.Prelude.{min}
+use Rattle.std.proofs.lemmas.Bool.{cases_lt}
+use Rattle.std.proofs.lemmas.List.{take-append-le, take_at, length-take-le, take-append-drop, take_all, drop_all}
 use Rattle.std.proofs.Math.Seq.{take-append-add}
-use Rattle.std.proofs.Math.Nat.{eq-or-lt_of_le}
-use Rattle.engine_ports.specs.Source.{SourceView, SourceGave, ReadSays}
+use Rattle.engine_ports.specs.Rose.{Rose}
+use Rattle.engine_ports.specs.Source.{SourceView, SourceGave, SourceEnded, ReadSays}
 use Rattle.engine_ports.specs.declared.ports.Got.{Got}
 use Rattle.engine_ports.specs.declared.ports.Got.TheVariants.{Bytes, End, Failed}
-use Rattle.engine_ports.proofs.PortLemmas.{source_none, source_on}
-use Rattle.http_edge.specs.Reading.{Fills, Reached, IsBehind, ReadsBehind}
+use Rattle.engine_ports.proofs.PortLemmas.{source_none, source_on, rose_since}
+use Rattle.http_edge.specs.Reading.{Fills, Reached, ReadsBehind, FillFacts, FillSays, HeadFacts}
+use Rattle.http_edge.specs.Bodies.{BodyBy}
+use Rattle.http_edge.specs.Refusal.{CutsBody}
+use Rattle.http_edge.specs.declared.framing.Framing.TheVariants.{Length}
+use Rattle.httparse.specs.Grammar.{HasNoRequest, MayBecomeRequest}
+use Rattle.httparse.specs.declared.spans.HeaderSpan.{HeaderSpan}
+use Rattle.http_edge.specs.declared.front.HeadRead.TheVariants.{CutShort}
+use Rattle.http_edge.specs.declared.fill.Filled.{Filled}
+use Rattle.http_edge.specs.declared.fill.Filled.TheVariants as filled
 
 -- the front of a buffer after a write behind the first len
 front_after : (old mid post : List ℕ) (len n : ℕ) → len ≤ length old → n ≤ length mid
@@ -46,19 +56,102 @@ fills_on a b c s t u f g = record {
   grows = g.grows ∙ ap (λ l. l ++ g.read) f.grows ∙ append_assoc a f.read g.read;
 }
 
--- what was read ahead is given up, from its front on
-pub given_ahead : (ahead bytes front : List ℕ) (used count : ℕ) (s : SourceView) → drop used bytes ≡ ahead → front ≡ take count (drop used bytes)
-    → Reached ahead s s (λ all. all ≡ front ++ drop (used + count) bytes)
-given_ahead ahead bytes front used count s is copied = record {
-  read = [];
-  gave = source_none s;
-  holds = append-nil ahead ∙ sym is ∙ sym (rw (copied, ← drop-drop count used bytes) (take-append-drop count (drop used bytes)));
+-- what holds of the bytes that stand there holds of those before and those read
+pub reached : (before got : List ℕ) (s s' : SourceView) (P : List ℕ → Type 0) → Fills before got s s' → P got → Reached before s s' P
+reached before got s s' P f holds = record { read = f.read; gave = f.gave; holds = subst P f.grows holds }
+
+-- one read, and then what was reached by others
+pub reached_on : (before got : List ℕ) (s t u : SourceView) (P : List ℕ → Type 0) → Fills before got s t → Reached got t u P → Reached before s u P
+reached_on before got s t u P f x = record {
+  read = f.read ++ x.read;
+  gave = source_on s t u f.read x.read f.gave x.gave;
+  holds = subst P (ap (λ l. l ++ x.read) f.grows ∙ append_assoc before f.read x.read) x.holds;
 }
 
--- something is taken where something stands there and has room
-pub some_taken : (bytes : List ℕ) (used count size : ℕ) → IsBehind bytes used count size → used < length bytes → 0 < size → 0 < count
-some_taken bytes used count size b some room = go (eq-or-lt_of_le b.le)
+-- what holds of the bytes behind a front, of all of them
+pub reached_behind : (all behind : List ℕ) (s s' : SourceView) (P Q : List ℕ → Type 0) → ((more : List ℕ) → P (behind ++ more) → Q (all ++ more))
+    → Reached behind s s' P → Reached all s s' Q
+reached_behind all behind s s' P Q on x = record { read = x.read; gave = x.gave; holds = on x.read x.holds }
+
+-- the source ended, or failed, in a later read
+pub ended_on : (before got : List ℕ) (s t u : SourceView) → Fills before got s t → SourceEnded t u → SourceEnded s u
+ended_on before got s t u f e = record { rose = rose_since s.ends t.ends u.ends f.gave.ends e.rose; spent = e.spent }
+
+pub failed_on : (before got : List ℕ) (s t u : SourceView) → Fills before got s t → Rose t.faults u.faults → Rose s.faults u.faults
+failed_on before got s t u f e = rose_since s.faults t.faults u.faults f.gave.faults e
+
+-- what was read ahead is given up, from its front on
+pub given_ahead : (ahead front : List ℕ) (count : ℕ) (s : SourceView) → front ≡ take count ahead
+    → Reached ahead s s (λ all. all ≡ front ++ drop count ahead)
+given_ahead ahead front count s copied = record {
+  read = [];
+  gave = source_none s;
+  holds = append-nil ahead ∙ sym (take-append-drop count ahead) ∙ ap (λ l. l ++ drop count ahead) (sym copied);
+}
+
+-- all that stood ahead was taken, or the place was full
+none_left : (before read : List ℕ) (count size : ℕ) → count ≡ min (length before) size → count + length read ≤ size → (drop count before ≡ []) ⊎ (read ≡ [])
+none_left before read count size is le = go (cases_lt count (length before))
   where
-    go : (count ≡ size) ⊎ (count < size) → 0 < count
-    go (inl same) = omega (arith, same, room)
-    go (inr less) = omega (arith, b.whole less, some)
+    empty : (l : List ℕ) → length l ≡ 0 → l ≡ []
+    empty [] e = refl
+    empty (x ∷ xs) e = absurd (omega (arith, e))
+
+    go : (count < length before) ⊎ (length before ≤ count) → (drop count before ≡ []) ⊎ (read ≡ [])
+    go (inl less) = inr (empty read (omega (arith, is, le, less)))
+    go (inr all) = inl (drop_all count before all)
+
+swapped : (front read rest : List ℕ) → (rest ≡ []) ⊎ (read ≡ []) → (front ++ rest) ++ read ≡ (front ++ read) ++ rest
+swapped front read rest (inl none) = rw (none, append-nil front, append-nil (front ++ read)) refl
+swapped front read rest (inr none) = rw (none, append-nil front, append-nil (front ++ rest)) refl
+
+-- a place that is filled from what stood ahead, and then by the source
+module _ (before place place2 : List ℕ) (count : ℕ) (s s' : SourceView) (is : count ≡ min (length before) (length place))
+    (front : take count place ≡ take count before) where
+  pub fill_whole : Fills (take count place) place2 s s' → length place2 ≡ length place → Reached before s s' (λ bytes. bytes ≡ place2 ++ drop count before)
+  fill_whole f len =
+      let fits : length (take count place) ≡ count = length-take-le count place (omega (arith, is)) in
+      let most : count + length f.read ≤ length place = omega (arith, fits, len, ap length f.grows, length-append (take count place) f.read) in
+      let swap = swapped (take count before) f.read (drop count before) (none_left before f.read count (length place) is most) in
+      record {
+        read = f.read;
+        gave = f.gave;
+        holds = ap (λ l. l ++ f.read) (sym (take-append-drop count before)) ∙ swap
+            ∙ ap (λ l. (l ++ f.read) ++ drop count before) (sym front) ∙ ap (λ l. l ++ drop count before) (sym f.grows);
+      }
+
+  pub fill_part : (len : ℕ) → Fills (take count place) (take len place2) s s' → length place2 ≡ length place → len < length place2
+      → Reached before s s' (λ bytes. length bytes < length place2)
+  fill_part len f same less =
+      let fits : length (take count place) ≡ count = length-take-le count place (omega (arith, is)) in
+      let part : length (take len place2) ≡ len = length-take-le len place2 (omega (arith, less)) in
+      let sum : len ≡ count + length f.read = omega (arith, part, fits, ap length f.grows, length-append (take count place) f.read) in
+      record {
+        read = f.read;
+        gave = f.gave;
+        holds = omega (arith, sum, less, same, is, length-append before f.read);
+      }
+
+  pub fill_says : (r : Filled) (len : ℕ) → Fills (take count place) (take len place2) s s' → length place2 ≡ length place → FillFacts r len (length place2) s s'
+      → FillSays r before (drop count before) place2 s s'
+  fill_says filled.Whole len f same facts =
+      let all : take len place2 ≡ place2 = take_all len place2 (omega (arith, facts)) in
+      fill_whole (record { read = f.read; gave = f.gave; grows = sym all ∙ f.grows }) same
+  fill_says filled.CutShort len f same facts = (fill_part len f same facts.0, facts.1)
+  fill_says filled.Failed len f same facts = (fill_part len f same facts.0, facts.1)
+
+-- a body of so many bytes
+pub sized_whole : (before body ahead : List ℕ) (size : ℕ) (s s' : SourceView) → length body ≡ size → Reached before s s' (λ bytes. bytes ≡ body ++ ahead)
+    → Reached before s s' (BodyBy (Length size) body size ahead)
+sized_whole before body ahead size s s' len x = record { read = x.read; gave = x.gave; holds = (body, (refl, len), len, x.holds) }
+
+pub sized_cut : (before body : List ℕ) (size : ℕ) (s s' : SourceView) → length body ≡ size → Reached before s s' (λ bytes. length bytes < length body)
+    → Reached before s s' (CutsBody (Length size))
+sized_cut before body size s s' len x = record { read = x.read; gave = x.gave; holds = let less = x.holds in omega (arith, less, len) }
+
+-- the input ended inside a head
+pub head_is_cut : (start before after : List ℕ) (spans : List HeaderSpan) (s t u : SourceView) → Fills start before s t → (after ≡ before) × Fills before after t u × SourceEnded t u
+    → 0 < length before → length before < 16384 → HasNoRequest before → MayBecomeRequest before → HeadFacts CutShort after spans s u
+head_is_cut start before after spans s t u f (same, g, e) some short lacks may =
+    subst (λ b. HeadFacts CutShort b spans s u) (sym same)
+    (some, short, lacks, may, record { rose = rose_since s.ends t.ends u.ends f.gave.ends e.rose; spent = e.spent })

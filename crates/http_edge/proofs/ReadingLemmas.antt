@@ -13,6 +13,7 @@ use Rattle.http_edge.proofs.RoomLemmas.{head_takes}
 use Rattle.http_edge.proofs.StreamLemmas.{begins_head}
 use Rattle.http_edge.proofs.EndLemmas.{headless_none}
 use Rattle.http_edge.proofs.DecideLemmas.{head_told}
+use Rattle.http_edge.proofs.ToldLemmas.{chunked_told}
 
 -- whether a body stands there can be told
 body_told : (f : Framing) (behind : List ℕ) → ((coded : List ℕ) × (body : List ℕ) × (rest : List ℕ) × SpellsBody f coded body × (behind ≡ coded ++ rest)) ⊎ ((coded body rest : List ℕ) → SpellsBody f coded body → behind ≡ coded ++ rest → ⊥)
@@ -21,7 +22,7 @@ body_told (Length n) behind = go (cases_lt (length behind) n)
     go : (length behind < n) ⊎ (n ≤ length behind) → ((coded : List ℕ) × (body : List ℕ) × (rest : List ℕ) × SpellsBody (Length n) coded body × (behind ≡ coded ++ rest)) ⊎ ((coded body rest : List ℕ) → SpellsBody (Length n) coded body → behind ≡ coded ++ rest → ⊥)
     go (inl less) = inr (λ coded body rest x e. omega (arith, ap length e, length-append coded rest, x.1, less))
     go (inr all) = inl (take n behind, take n behind, drop n behind, (refl, length-take-le n behind all), sym (take-append-drop n behind))
-body_told Chunked behind = inr (λ coded body rest x e. x)
+body_told Chunked behind = chunked_told behind
 body_told (Refused s) behind = inr (λ coded body rest x e. x)
 
 -- whether the bytes begin with a request can be told

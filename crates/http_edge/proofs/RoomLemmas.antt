@@ -2,10 +2,10 @@ use Rattle.std.proofs.Common.{arith, ◌≤◌, ℕ, List, [], ◌∷◌, length
 use Rattle.std.specs.Prelude.{All}
 use Rattle.std.specs.List.{flat_map}
 use Rattle.std.proofs.lemmas.List.Elements.{All-head, All-tail}
-use Rattle.httparse.specs.Grammar.{Field, IsField, LineEnd, crlf, lf, print_end, print_field, RequestHead, IsRequestHead, print_request}
+use Rattle.httparse.specs.Grammar.{Field, IsField, LineEnd, crlf, lf, print_end, print_field, print_section, RequestHead, IsRequestHead, print_request}
 use Rattle.std.proofs.lemmas.List.{append-nil}
 use Rattle.httparse.proofs.GrammarLemmas.{print_request-append}
-use Rattle.httparse.specs.Spans.{RequestExceeds}
+use Rattle.httparse.specs.Spans.{RequestExceeds, SectionExceeds}
 
 pub end_takes : (e : LineEnd) → 1 ≤ length (print_end e)
 end_takes crlf = omega arith
@@ -37,3 +37,11 @@ fields_have_room bytes room le big e =
     let same = ap length e.4.1 in
     let whole = ap length e.2 in
     omega (arith, takes, same, whole, e.5, length-append e.0 e.1, length-append e.0 (print_end lf), length-append (print_request e.3) [])
+
+-- in 4,096 bytes no more than 1,365 fields have room
+pub trailers_have_room : (bytes : List ℕ) (room : ℕ) → length bytes ≤ 4096 → 1366 ≤ room → SectionExceeds room bytes → ⊥
+trailers_have_room bytes room le big e =
+    let takes = fields_take e.3 e.4.0 in
+    let same = ap length e.4.1 in
+    let whole = ap length e.2 in
+    omega (arith, takes, same, whole, e.5, length-append e.0 e.1, length-append e.0 (print_end lf), length-append (print_section e.3 lf) [], length-append (flat_map print_field e.3) (print_end lf))

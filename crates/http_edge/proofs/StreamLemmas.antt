@@ -1,6 +1,5 @@
 -- Bytes begin with one request at most, and have one reading.
-use Rattle.std.proofs.Common.{◌≡◌, ℕ, List, [], ◌∷◌, length, ◌++◌, take, drop, map, sym, ap, subst, refl, ◌∙◌, append_assoc}
-use Rattle.std.proofs.lemmas.List.{take_at, drop_at}
+use Rattle.std.proofs.Common.{◌≡◌, ℕ, List, [], ◌∷◌, length, ◌++◌, map, sym, ap, subst, refl, ◌∙◌, append_assoc}
 use Rattle.httparse.proofs.GrammarLemmas.{request_unique}
 use Rattle.httparse.specs.Grammar.{print_request, ReadsRequest}
 use Rattle.httparse.specs.Spans.{name_and_value}
@@ -8,19 +7,15 @@ use Rattle.http_edge.specs.Message.{Request}
 use Rattle.http_edge.specs.Spelling.{head_framing, SpellsBody, Begins, HasNoRequest, ReadsRequests, ReadsAll}
 use Rattle.http_edge.specs.declared.framing.Framing.{Framing}
 use Rattle.http_edge.specs.declared.framing.Framing.TheVariants.{Length, Chunked, Refused}
-
-same_parts : (a b c d : List ℕ) → length a ≡ length b → a ++ c ≡ b ++ d → (a ≡ b) × (c ≡ d)
-same_parts a b c d len e = (
-  sym (take_at a c (length a) refl) ∙ ap (take (length a)) e ∙ take_at b d (length a) (sym len),
-  sym (drop_at a c (length a) refl) ∙ ap (drop (length a)) e ∙ drop_at b d (length a) (sym len),
-)
+use Rattle.http_edge.proofs.PartLemmas.{same_parts}
+use Rattle.http_edge.proofs.ChunkedLemmas.{one_chunked}
 
 -- a framing reads one body
 one_body : (f : Framing) (a b x y after rest : List ℕ) → SpellsBody f a x → SpellsBody f b y → a ++ after ≡ b ++ rest → (x ≡ y) × (after ≡ rest)
 one_body (Length n) a b x y after rest u v e =
     let same = same_parts a b after rest (u.1 ∙ sym v.1) e in
     (u.0 ∙ same.0 ∙ sym v.0, same.1)
-one_body Chunked a b x y after rest u v e = absurd u
+one_body Chunked a b x y after rest u v e = one_chunked a b x y after rest u v e
 one_body (Refused s) a b x y after rest u v e = absurd u
 
 -- the head of the request that the bytes begin with

@@ -1,5 +1,5 @@
 -- How a request's body is framed (RFC 9112, section 6.3), and the rules that refuse a head, in order.
-use Rattle.std.specs.Prelude.{ℕ, Bool, ◌&&◌, ◌==◌, not, nat_lt, nat_le, if◌then◌else◌, List, [], ◌∷◌, length, codes}
+use Rattle.std.specs.Prelude.{ℕ, ◌≤◌, Bool, ◌&&◌, ◌==◌, not, nat_lt, nat_le, if◌then◌else◌, List, [], ◌∷◌, length, codes}
 use Rattle.std.specs.List.{list_all}
 use Rattle.std.specs.Char.{is_ascii_digit}
 use Rattle.std.specs.Str.Parse.{digits_value}
@@ -26,6 +26,11 @@ body_framing [] [] = Length 0
 body_framing [] (digits ∷ []) = length_framing digits
 body_framing (coding ∷ []) [] = if is_same_text coding (codes "chunked") then Chunked else Refused 400
 body_framing codings lengths = Refused 400
+
+-- a body of that length is at most the greatest
+abbrev pub IsWithinLimit : Framing → Type 0
+IsWithinLimit (Length n) = n ≤ body_limit
+IsWithinLimit framing = Unit {0}
 
 -- how often a field stands
 abbrev pub times : List ℕ → List Header → ℕ

@@ -2,10 +2,14 @@ pub mod Limits
 pub mod Message
 pub mod Given
 pub mod Framing
+pub mod Parts
+pub mod Chunked
 pub mod Spelling
 pub mod Refusal
 pub mod Fields
 pub mod Reading
+pub mod Bodies
+pub mod Chunking
 pub mod Outcome
 pub mod Shown
 pub mod Held
@@ -13,6 +17,7 @@ pub mod Reader
 pub mod Lending
 pub mod Asks
 pub mod Room
+pub mod Rooms
 pub mod Response
 pub mod Chunks
 pub mod Laws

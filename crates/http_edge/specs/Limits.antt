@@ -20,3 +20,15 @@ body_limit = 1048576
 -- the most digits of a length
 abbrev pub digit_limit : ℕ
 digit_limit = 18
+
+-- the greatest line of a chunk, in bytes, with its line end
+abbrev pub line_limit : ℕ
+line_limit = 256
+
+-- the greatest trailers, in bytes, with the empty line that ends them
+abbrev pub trailer_limit : ℕ
+trailer_limit = 4096
+
+-- the most fields that can stand in trailers of the greatest size
+abbrev pub trailer_places : ℕ
+trailer_places = 1366

@@ -20,11 +20,11 @@ use Rattle.http_edge.specs.declared.reader.Next.TheVariants as next
 abbrev pub request_of : RequestView → Request
 request_of view =
     let buffers = view.buffers.now in
-    request_at (take view.len buffers.head.items) buffers.spans.items view.found buffers.body.items view.size
+    request_at (take view.found.len buffers.head.items) buffers.spans.items view.found buffers.body.items
 
 -- how many bytes spell it
 abbrev pub count_of : RequestView → ℕ
-count_of view = view.found.len + view.size
+count_of view = view.found.len + view.coded
 
 -- the place behind so many bytes
 abbrev pub place_after : ℕ → ℕ → ℕ

@@ -2,6 +2,7 @@
 use Rattle.std.specs.Prelude.{ℕ, ◌≡◌, ◌<◌, ◌≤◌, List, length, take}
 use Rattle.httparse.specs.Grammar.{RequestHead, print_request, ReadsRequest, NeverHasRequest, MayBecomeRequest, HasNoRequest as HasNoHead}
 use Rattle.http_edge.specs.Limits.{head_limit}
+use Rattle.http_edge.specs.Chunked.{RefusesChunks, CutsChunks}
 use Rattle.http_edge.specs.Spelling.{head_framing}
 use Rattle.http_edge.specs.declared.framing.Framing.{Framing}
 use Rattle.http_edge.specs.declared.framing.Framing.TheVariants.{Length, Chunked, Refused}
@@ -14,16 +15,16 @@ window bytes = take head_limit bytes
 abbrev pub BeginsWithHead : List ℕ → RequestHead → List ℕ → Type 0
 BeginsWithHead bytes h behind = ReadsRequest bytes h behind × (length (print_request h) ≤ head_limit)
 
--- the framing, or the bytes behind the head, are refused; chunks aren't built, and are by 501
+-- the framing, or the bytes behind the head, are refused
 abbrev pub RefusesBody : Framing → List ℕ → ℕ → Type 0
 RefusesBody (Length n) behind status = ⊥
-RefusesBody Chunked behind status = status ≡ 501
+RefusesBody Chunked behind status = RefusesChunks behind status
 RefusesBody (Refused s) behind status = status ≡ s
 
 -- the bytes behind the head are part of a body
 abbrev pub CutsBody : Framing → List ℕ → Type 0
 CutsBody (Length n) behind = length behind < n
-CutsBody Chunked behind = ⊥
+CutsBody Chunked behind = CutsChunks behind
 CutsBody (Refused s) behind = ⊥
 
 -- the first rule that decides on the bytes refuses them with the status

@@ -5,6 +5,7 @@ use Rattle.httparse.specs.Spans.{name_and_value}
 use Rattle.http_edge.specs.Limits.{head_limit}
 use Rattle.http_edge.specs.Message.{Request}
 use Rattle.http_edge.specs.Framing.{framing_of}
+use Rattle.http_edge.specs.Chunked.{SpellsChunks}
 use Rattle.http_edge.specs.declared.framing.Framing.{Framing}
 use Rattle.http_edge.specs.declared.framing.Framing.TheVariants.{Length, Chunked, Refused}
 
@@ -12,10 +13,10 @@ use Rattle.http_edge.specs.declared.framing.Framing.TheVariants.{Length, Chunked
 abbrev pub head_framing : RequestHead → Framing
 head_framing h = framing_of h.minor (map name_and_value h.fields)
 
--- the bytes behind a head spell the body; by chunks none does, as these aren't built
+-- the bytes behind a head spell the body
 abbrev pub SpellsBody : Framing → List ℕ → List ℕ → Type 0
 SpellsBody (Length n) bytes body = (body ≡ bytes) × (length bytes ≡ n)
-SpellsBody Chunked bytes body = ⊥
+SpellsBody Chunked bytes body = SpellsChunks bytes body
 SpellsBody (Refused status) bytes body = ⊥
 
 -- the bytes spell the request: a head of the grammar within its limit, and its body

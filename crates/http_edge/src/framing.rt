@@ -5,7 +5,7 @@ ghost use Rattle.std.specs.Char.{is_ascii_digit};
 ghost use Rattle.std.specs.Str.Parse.{digits_value};
 ghost use Rattle.httparse.specs.Spans.{IsHeaderWithin, header_bytes};
 ghost use Rattle.http_edge.specs.Fields.{Counts};
-ghost use Rattle.http_edge.specs.Framing.{is_length, length_framing, body_framing, framing_of};
+ghost use Rattle.http_edge.specs.Framing.{is_length, length_framing, body_framing, IsWithinLimit, framing_of};
 
 use crate::fields::{Occurrences, find_named};
 use crate::limits::{BODY_LIMIT, DIGIT_LIMIT, FIELD_LIMIT};
@@ -25,7 +25,8 @@ pub enum Framing {
 /// The framing of a head, whose fields stand in these bytes.
 pub(crate) fn frame_head(bytes: &[u8], minor: u8, fields: &[HeaderSpan]) -> Framing
     requires { All (IsHeaderWithin (length bytes.now)) fields.now }
-    ensures { result ≡ framing_of minor (map (header_bytes bytes.now) fields.now) }
+    ensures framing { result ≡ framing_of minor (map (header_bytes bytes.now) fields.now) }
+    ensures fits { IsWithinLimit result }
 {
     if minor == 0 {
         return Framing::Refused(505);
@@ -48,7 +49,8 @@ pub(crate) fn frame_head(bytes: &[u8], minor: u8, fields: &[HeaderSpan]) -> Fram
 
 /// The framing by the values of Transfer-Encoding and Content-Length.
 fn body_framing(codings: Occurrences<'_>, lengths: Occurrences<'_>) -> Framing
-    ensures { (cs ls : List (List ℕ)) → Counts codings.entry cs → Counts lengths.entry ls → result ≡ body_framing cs ls }
+    ensures framing { (cs ls : List (List ℕ)) → Counts codings.entry cs → Counts lengths.entry ls → result ≡ body_framing cs ls }
+    ensures fits { IsWithinLimit result }
 {
     match (codings, lengths) {
         (Occurrences::None, Occurrences::None) => Framing::Length(0),
@@ -60,7 +62,8 @@ fn body_framing(codings: Occurrences<'_>, lengths: Occurrences<'_>) -> Framing
 
 /// The framing by a value of Transfer-Encoding.
 fn coding_framing(coding: &[u8]) -> Framing
-    ensures { result ≡ body_framing (coding.now ∷ []) [] }
+    ensures framing { result ≡ body_framing (coding.now ∷ []) [] }
+    ensures fits { IsWithinLimit result }
 {
     if coding.eq_ignore_ascii_case(b"chunked") {
         Framing::Chunked
@@ -71,7 +74,8 @@ fn coding_framing(coding: &[u8]) -> Framing
 
 /// The framing by a value of Content-Length.
 fn length_framing(digits: &[u8]) -> Framing
-    ensures { result ≡ length_framing digits.now }
+    ensures framing { result ≡ length_framing digits.now }
+    ensures fits { IsWithinLimit result }
 {
     if !is_length(digits) {
         return Framing::Refused(400);

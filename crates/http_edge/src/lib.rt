@@ -1,16 +1,21 @@
 //! The edge of HTTP/1.1: requests are read and answers are written.
 #![tactic(auto)]
 
+mod ahead;
 mod answer;
 mod asks;
+mod body;
 mod chunk;
+mod chunked;
 mod fields;
 mod fill;
 mod framing;
+mod front;
 mod head;
 mod laws;
 mod limits;
 mod line;
+mod parts;
 mod reader;
 mod request;
 mod shown_fields;

@@ -1,14 +1,11 @@
 // A reader of requests with buffers of its own.
-ghost use Rattle.std.specs.Prelude.{◌≡◌, ◌<◌, ◌≤◌, List, ℕ, [], None, length, take, drop, IfOk};
+ghost use Rattle.std.specs.Prelude.{◌≡◌, ◌<◌, List, ℕ, [], None, length, IfOk};
 ghost use Rattle.std.specs.Borrow.{sem};
-ghost use Rattle.http_edge.specs.Limits.{head_limit, field_places, body_limit};
-ghost use Rattle.http_edge.specs.Outcome.{Facts};
 
-use crate::limits::{BODY_LIMIT, FIELD_PLACES, HEAD_LIMIT};
-use crate::request::{Outcome, copy_behind, read_request, shift};
+use crate::ahead::Ahead;
+use crate::request::{Outcome, read_request};
 use crate::view::{Buffers, RequestView};
 use engine_ports::{Got, NoMemory, Source};
-use httparse::spans::EMPTY_HEADER_SPAN;
 use std::alloc::Global;
 use std::marker::Model;
 
@@ -38,79 +35,36 @@ pub enum Next<'r> {
 /// A reader of the requests of one connection.
 #[derive(Drop)]
 pub struct RequestReader {
+    ahead: Ahead,
     buffers: Buffers,
-    len: usize,
-    used: usize,
     taken: u64,
     stopped: Option<Stopped>,
 }
 
 impl Model for RequestReader {
-    ghost use Rattle.std.specs.Prelude.{◌≡◌, ◌≤◌, drop, take, length};
     ghost use Rattle.http_edge.specs.Held.{Reading};
-    ghost use Rattle.http_edge.specs.Limits.{head_limit, field_places, body_limit};
+    ghost use Rattle.http_edge.specs.Rooms.{HaveRoom};
 
     ghost Value = { Reading };
 
-    ghost view = { λ r. record {
-      ahead = drop r.used (take r.len r.buffers.head.items);
-      taken = r.taken;
-      stopped = r.stopped;
-    } };
+    ghost view = { λ r. record { ahead = r.ahead; taken = r.taken; stopped = r.stopped } };
 
-    ghost invariant = { λ r. (r.used ≤ r.len) × (r.len ≤ length r.buffers.head.items)
-        × (length r.buffers.head.items ≡ head_limit) × (field_places ≤ length r.buffers.spans.items)
-        × (length r.buffers.body.items ≡ body_limit) };
-}
-
-/// Drops the bytes of the request before, and reads one request.
-fn read_ahead<S: Source>(
-    source: &mut S,
-    buffers: &mut Buffers,
-    used: usize,
-    len: usize,
-) -> (Outcome, usize, usize)
-    requires used { used ≤ len }
-    requires len { len ≤ length buffers.old.head.items }
-    requires head { length buffers.old.head.items ≡ head_limit }
-    requires room { field_places ≤ length buffers.old.spans.items }
-    requires body { length buffers.old.body.items ≡ body_limit }
-    ensures len { result.1 ≤ length buffers.new.head.items }
-    ensures used { result.2 ≤ result.1 }
-    ensures head { length buffers.new.head.items ≡ head_limit }
-    ensures room { field_places ≤ length buffers.new.spans.items }
-    ensures body { length buffers.new.body.items ≡ body_limit }
-    ensures facts { Facts result.0 (drop used (take len buffers.old.head.items))
-        (drop result.2 (take result.1 buffers.new.head.items)) (take result.1 buffers.new.head.items)
-        buffers.new.spans.items buffers.new.body.items (S.gives source.old) (S.gives source.new) }
-{
-    let ahead = shift(&mut buffers.head, used, len);
-    read_request(
-        source,
-        &mut buffers.head,
-        ahead,
-        &mut buffers.spans,
-        &mut buffers.body,
-    )
+    ghost invariant = { λ r. HaveRoom r.buffers };
 }
 
 impl RequestReader {
     ghost use Rattle.http_edge.specs.Lending.{RestsAfter};
     ghost use Rattle.http_edge.specs.Reader.{RestSays};
 
-    /// Takes all memory that reading needs: 16,384 bytes and 5,462 field places for a head, and
-    /// 1,048,576 bytes for a body.
+    /// Takes all memory that reading needs: room for 16,384 bytes that are read ahead, for a head of as
+    /// many, for 5,462 field places and for a body of 1,048,576 bytes. It is written only as far as the
+    /// requests need it.
     pub fn new(alloc: Global) -> Result<RequestReader, NoMemory>
         ensures { IfOk result (λ r. r ≡ record { ahead = []; taken = 0; stopped = None }) }
     {
         Ok(RequestReader {
-            buffers: Buffers {
-                head: vec![in alloc; 0; HEAD_LIMIT]?,
-                spans: vec![in alloc; EMPTY_HEADER_SPAN; FIELD_PLACES]?,
-                body: vec![in alloc; 0; BODY_LIMIT]?,
-            },
-            len: 0,
-            used: 0,
+            ahead: Ahead::new(alloc)?,
+            buffers: Buffers::new(alloc)?,
             taken: 0,
             stopped: None,
         })
@@ -127,20 +81,17 @@ impl RequestReader {
             Some(Stopped::ReadFault) => return Next::ReadFault,
             None => {}
         }
-        let (outcome, len, used) = read_ahead(source, &mut self.buffers, self.used, self.len);
-        self.len = len;
-        self.used = used;
-        match outcome {
-            Outcome::Whole(found, size) => {
+        self.buffers.clear();
+        match read_request(source, &mut self.ahead, &mut self.buffers) {
+            Outcome::Whole(found, coded) => {
                 self.taken = self
                     .taken
                     .saturating_add(found.len as u64)
-                    .saturating_add(size as u64);
+                    .saturating_add(coded as u64);
                 Next::Request(RequestView {
                     buffers: &self.buffers,
-                    len,
-                    size,
                     found,
+                    coded,
                 })
             }
             Outcome::End => Next::End,
@@ -166,11 +117,9 @@ impl RequestReader {
         requires { 0 < length into.old }
         ensures { RestSays result into.new self.old self.new (S.gives source.old) (S.gives source.new) }
     {
-        if self.used == self.len {
+        if self.ahead.len() == 0 {
             return source.read(into);
         }
-        let count = copy_behind(&self.buffers.head[..self.len], self.used, into);
-        self.used += count;
-        Got::Bytes(count)
+        Got::Bytes(self.ahead.take(into))
     }
 }

@@ -1,18 +1,23 @@
-// One request, from the bytes that stand in the buffer and those that the source gives.
-ghost use Rattle.std.specs.Prelude.{◌≡◌, ◌<◌, ◌≤◌, ◌-◌, List, ℕ, length, take, drop};
-ghost use Rattle.http_edge.specs.Limits.{head_limit, field_places, body_limit};
-ghost use Rattle.http_edge.specs.Reading.{IsBehind, BodyTaken};
+// One request, from the bytes that were read ahead and those that the source gives.
+ghost use Rattle.std.specs.Prelude.{◌≡◌, ◌≤◌, length};
+ghost use Rattle.std.specs.Vec.{vec_capacity};
+ghost use Rattle.httparse.specs.Spans.{IsRequestWithin, IsRequestOf};
+ghost use Rattle.http_edge.specs.Limits.{head_limit};
+ghost use Rattle.http_edge.specs.Rooms.{HaveRoom};
 ghost use Rattle.http_edge.specs.Outcome.{Facts};
 
-use crate::fill::{BodyRead, HeadRead, read_body, read_head};
-use crate::framing::{Framing, frame_head};
+use crate::ahead::Ahead;
+use crate::body::{BodyRead, read_body};
+use crate::framing::frame_head;
+use crate::front::{HeadRead, read_head};
+use crate::view::Buffers;
 use engine_ports::Source;
-use httparse::spans::{HeaderSpan, RequestSpans};
+use httparse::spans::RequestSpans;
 
 /// What the front of the input is.
 #[derive(Clone, Copy)]
 pub(crate) enum Outcome {
-    /// A request, with the parts of its head and the length of its body.
+    /// A request, with the parts of its head, and how many bytes spell it.
     Whole(RequestSpans, usize),
     End,
     Bad(u16),
@@ -20,80 +25,63 @@ pub(crate) enum Outcome {
     Failed,
 }
 
-/// Moves the bytes from `used` to `len` to the front, and answers how many they are.
-pub(crate) fn shift(buffer: &mut [u8], used: usize, len: usize) -> usize
-    requires used { used ≤ len }
-    requires len { len ≤ length buffer.old }
-    ensures count { result ≡ len - used }
-    ensures moved { take result buffer.new ≡ drop used (take len buffer.old) }
-{
-    buffer.copy_within(used..len, 0);
-    len - used
-}
-
-/// Copies the bytes behind the head, as many as the body has, and answers how many they are.
-pub(crate) fn copy_behind(bytes: &[u8], place: usize, body: &mut [u8]) -> usize
-    requires { place ≤ length bytes.now }
-    ensures behind { IsBehind bytes.now place result (length body.new) }
-    ensures copied { take result body.new ≡ take result (drop place bytes.now) }
-{
-    let count = (bytes.len() - place).min(body.len());
-    body[..count].copy_from_slice(&bytes[place..place + count]);
-    count
-}
-
-/// Takes the body from behind the head and from the source, and answers how many bytes stood behind
-/// the head.
-fn take_body<S: Source>(
-    source: &mut S,
-    bytes: &[u8],
-    place: usize,
-    body: &mut [u8],
-) -> (BodyRead, usize)
-    requires { place ≤ length bytes.now }
-    ensures behind { IsBehind bytes.now place result.1 (length body.new) }
-    ensures taken { BodyTaken result.0 (take result.1 (drop place bytes.now)) body.new (S.gives source.old) (S.gives source.new) }
-{
-    let behind = copy_behind(bytes, place, body);
-    let (read, _) = read_body(source, body, behind);
-    (read, behind)
-}
-
-/// Reads one request. It answers what it is, how many bytes stand in the head's buffer, and how many
-/// of them it took.
+/// Reads one request.
 pub(crate) fn read_request<S: Source>(
     source: &mut S,
-    head: &mut [u8],
-    len: usize,
-    spans: &mut [HeaderSpan],
-    body: &mut [u8],
-) -> (Outcome, usize, usize)
-    requires within { len ≤ length head.old }
-    requires size { length head.old ≡ head_limit }
-    requires room { field_places ≤ length spans.old }
-    requires body { length body.old ≡ body_limit }
-    ensures len { result.1 ≤ length head.new }
-    ensures used { result.2 ≤ result.1 }
-    ensures facts { Facts result.0 (take len head.old) (drop result.2 (take result.1 head.new)) (take result.1 head.new) spans.new body.new (S.gives source.old) (S.gives source.new) }
+    ahead: &mut Ahead,
+    buffers: &mut Buffers,
+) -> Outcome
+    requires room { HaveRoom buffers.old }
+    ensures room { HaveRoom buffers.new }
+    ensures facts { Facts result ahead.old ahead.new buffers.new.head.items buffers.new.spans.items
+        buffers.new.body.items (S.gives source.old) (S.gives source.new) }
 {
-    let (read, len) = read_head(source, head, len, spans);
-    let found = match read {
-        HeadRead::Head(found) => found,
-        HeadRead::Malformed => return (Outcome::Bad(400), len, 0),
-        HeadRead::TooLong => return (Outcome::Bad(431), len, 0),
-        HeadRead::End => return (Outcome::End, len, 0),
-        HeadRead::CutShort => return (Outcome::CutShort, len, 0),
-        HeadRead::Failed => return (Outcome::Failed, len, 0),
-    };
-    let bytes = &head[..len];
-    let size = match frame_head(bytes, found.version, &spans[..found.headers]) {
-        Framing::Length(size) => size,
-        Framing::Chunked => return (Outcome::Bad(501), len, 0),
-        Framing::Refused(status) => return (Outcome::Bad(status), len, 0),
-    };
-    match take_body(source, bytes, found.len, &mut body[..size]) {
-        (BodyRead::Whole, behind) => (Outcome::Whole(found, size), len, found.len + behind),
-        (BodyRead::CutShort, _) => (Outcome::CutShort, len, 0),
-        (BodyRead::Failed, _) => (Outcome::Failed, len, 0),
+    match read_head(source, ahead, &mut buffers.spans) {
+        HeadRead::Head(found) => read_framed(source, ahead, buffers, found),
+        HeadRead::Malformed => Outcome::Bad(400),
+        HeadRead::TooLong => Outcome::Bad(431),
+        HeadRead::End => Outcome::End,
+        HeadRead::CutShort => Outcome::CutShort,
+        HeadRead::Failed => Outcome::Failed,
     }
+}
+
+/// Keeps the head that the bytes ahead begin with, and reads the body behind it.
+fn read_framed<S: Source>(
+    source: &mut S,
+    ahead: &mut Ahead,
+    buffers: &mut Buffers,
+    found: RequestSpans,
+) -> Outcome
+    requires small { length ahead.old ≤ head_limit }
+    requires within { IsRequestWithin ahead.old buffers.old.spans.items found }
+    requires of { IsRequestOf ahead.old buffers.old.spans.items found }
+    requires room { HaveRoom buffers.old }
+    ensures room { HaveRoom buffers.new }
+    ensures facts { Facts result ahead.old ahead.new buffers.new.head.items buffers.new.spans.items
+        buffers.new.body.items (S.gives source.old) (S.gives source.new) }
+{
+    let bytes = ahead.as_slice();
+    let framing = frame_head(bytes, found.version, &buffers.spans[..found.headers]);
+    keep_head(&bytes[..found.len], &mut buffers.head);
+    ahead.skip(found.len);
+    match read_body(source, ahead, &mut buffers.body, framing) {
+        BodyRead::Whole(count) => Outcome::Whole(found, count),
+        BodyRead::Refused(status) => Outcome::Bad(status),
+        BodyRead::CutShort => Outcome::CutShort,
+        BodyRead::Failed => Outcome::Failed,
+    }
+}
+
+/// Keeps the head in the place of the last one.
+fn keep_head(bytes: &[u8], head: &mut Vec<u8>)
+    requires small { length bytes.now ≤ head_limit }
+    requires room { head_limit ≤ vec_capacity head.old }
+    ensures room { head_limit ≤ vec_capacity head.new }
+    ensures kept { head.new.items ≡ bytes.now }
+{
+    head.clear();
+    let Ok(()) = head.extend_from_slice(bytes) else {
+        unreachable!()
+    };
 }

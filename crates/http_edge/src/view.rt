@@ -1,13 +1,16 @@
 // A request, as it stands in the reader's buffers.
-ghost use Rattle.std.specs.Prelude.{◌≡◌, ◌≤◌, length, take, IsUtf8};
+ghost use Rattle.std.specs.Prelude.{◌≡◌, ◌≤◌, length, take, IsUtf8, IfOk};
 ghost use Rattle.http_edge.specs.Shown.{IsShown};
 
 use crate::asks::{Want, has_field};
+use crate::limits::{BODY_LIMIT, FIELD_LIMIT, FIELD_PLACES, HEAD_LIMIT};
 use crate::shown_fields::Fields;
-use httparse::spans::{HeaderSpan, RequestSpans};
+use engine_ports::NoMemory;
+use httparse::spans::{EMPTY_HEADER_SPAN, HeaderSpan, RequestSpans};
+use std::alloc::Global;
 use std::str;
 
-/// What reading a request fills.
+/// What reading a request fills: its head, where its fields stand, and its body.
 #[derive(Drop)]
 pub struct Buffers {
     pub(crate) head: Vec<u8>,
@@ -15,15 +18,41 @@ pub struct Buffers {
     pub(crate) body: Vec<u8>,
 }
 
+impl Buffers {
+    ghost use Rattle.http_edge.specs.Rooms.{HaveRoom};
+
+    /// Takes room for the greatest head, the most fields and the greatest body. Only what a request
+    /// needs is written, so most of an idle reader's room stays untouched.
+    pub(crate) fn new(alloc: Global) -> Result<Buffers, NoMemory>
+        ensures { IfOk result HaveRoom }
+    {
+        let mut spans = Vec::with_capacity(alloc, FIELD_PLACES)?;
+        spans.resize(FIELD_LIMIT, EMPTY_HEADER_SPAN)?;
+        Ok(Buffers {
+            head: Vec::with_capacity(alloc, HEAD_LIMIT)?,
+            spans,
+            body: Vec::with_capacity(alloc, BODY_LIMIT)?,
+        })
+    }
+
+    /// Drops what the last request wrote, and keeps the room.
+    pub(crate) fn clear(&mut self)
+        requires { HaveRoom self.old }
+        ensures { HaveRoom self.new }
+    {
+        self.spans.truncate(FIELD_LIMIT);
+        self.body.clear();
+    }
+}
+
 /// A request, as it stands in the reader's buffers.
 #[derive(Clone, Copy)]
 pub struct RequestView<'r> {
     pub(crate) buffers: &'r Buffers,
-    pub(crate) len: usize,
-    pub(crate) size: usize,
     pub(crate) found: RequestSpans,
-    ghost len_fits: { len ≤ length buffers.now.head.items },
-    ghost shown: { ∥ IsShown (take len buffers.now.head.items) buffers.now.spans.items found buffers.now.body.items size ∥₁ },
+    pub(crate) coded: usize,
+    ghost len_fits: { found.len ≤ length buffers.now.head.items },
+    ghost shown: { ∥ IsShown (take found.len buffers.now.head.items) buffers.now.spans.items found ∥₁ },
 }
 
 impl<'r> RequestView<'r> {
@@ -56,7 +85,7 @@ impl<'r> RequestView<'r> {
     pub fn body(&self) -> &'r [u8]
         ensures { result.now ≡ (request_of self.now).body }
     {
-        &self.buffers.body[..self.size]
+        &self.buffers.body
     }
 
     /// Whether the method is HEAD.
@@ -102,9 +131,9 @@ impl<'r> RequestView<'r> {
     }
 
     fn head(&self) -> &'r [u8]
-        ensures { result.now ≡ take self.now.len self.now.buffers.now.head.items }
+        ensures { result.now ≡ take self.now.found.len self.now.buffers.now.head.items }
     {
-        &self.buffers.head[..self.len]
+        &self.buffers.head[..self.found.len]
     }
 
     fn spans(&self) -> &'r [HeaderSpan]

@@ -1,4 +1,4 @@
-use Rattle.std.proofs.Common.{arith, rules, ◌≡◌, ◌≤◌, length, sym, ap}
+use Rattle.std.proofs.Common.{arith, rules, ◌≡◌, length, sym, ap}
 use Rattle.http_edge.specs.Response.{phrase_of}
 use Rattle.http_edge.proofs.PhraseLemmas.{phrase_short, no_phrase}
 use Rattle.http_edge.proofs.head.phrase.Goals as goal

@@ -1,6 +1,6 @@
 use Rattle.std.proofs.Common.{◌≤◌, ◌-◌, length, take}
 use Rattle.http_edge.specs.Reading.{Fills}
-use Rattle.http_edge.proofs.fill.read_body.Given as goal
+use Rattle.http_edge.proofs.fill.fill_on.Given as goal
 
 abbrev pub invariant-more : goal.invariant-more
 invariant-more g l = record {
