@@ -1,10 +1,12 @@
 mod bodies;
+mod chunked;
 mod creates;
 mod events;
 mod programs;
 mod reading;
 mod refusals;
 mod routes;
+mod streams;
 mod tables;
 mod texts;
 mod writing;

@@ -98,9 +98,9 @@ const FRAMED: &[Row] = &[
         stopped: Some(Stopped::Bad { status: 400, at: 0 }),
     },
     Row {
-        bytes: b"GET / HTTP/1.1\r\nHost: a\r\nTransfer-Encoding: Chunked\r\n\r\n",
+        bytes: b"GET / HTTP/1.1\r\nHost: a\r\nTransfer-Encoding: chunked\r\nTransfer-Encoding: chunked\r\n\r\n0\r\n\r\n",
         count: 0,
-        stopped: Some(Stopped::Bad { status: 501, at: 0 }),
+        stopped: Some(Stopped::Bad { status: 400, at: 0 }),
     },
     Row {
         bytes: b"GET / HTTP/1.1\r\nHost: a\r\nTransfer-Encoding: chunked\r\nContent-Length: 0\r\n\r\n",

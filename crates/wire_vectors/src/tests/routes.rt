@@ -38,7 +38,7 @@ GET /nothing/%ff  404 message page not found
 POST /containers//start  404 message page not found
 POST /containers/%ff/start  400 message bad path
 GET /containers/a/start  404 message page not found
-GET /containers/create/logs?stdout=1  501 message not built";
+POST /containers/create/attach?stream=1&stdout=1  501 message not built";
 
 const QUERIES: &str = "\
 POST /containers/a/stop?t=-2  400 message bad t
@@ -55,7 +55,7 @@ GET /containers/a/logs  400 message you must choose at least one stream
 GET /containers/a/logs?stdout=1&tail=x  400 message bad tail
 GET /containers/a/logs?stdout=1&since=1.1234567890  400 message bad time
 GET /containers/a/logs?stderr=1&until=12345678901  400 message bad time
-GET /containers/a/logs?stdout=1&since=5.&tail=all  501 message not built
+GET /events?since=5.  501 message not built
 GET /events?since=  400 message bad time
 GET /volumes?filters=[]  400 message invalid filter
 DELETE /containers/a?link=1  400 message links are left out";
@@ -105,8 +105,8 @@ fn class_read(alloc: Global, routes: &Routes, bytes: &[u8]) -> Result<Option<Cla
     }
 }
 
-// The class of a request.
-fn class_of(
+/// The class of a request.
+pub fn class_of(
     alloc: Global,
     routes: &Routes,
     method: &str,
