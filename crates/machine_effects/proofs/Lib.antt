@@ -3,6 +3,7 @@ pub mod UpdateLemmas
 pub mod MarkLemmas
 pub mod LifeLemmas
 pub mod RemoveLemmas
+pub mod RisingLemmas
 pub mod SiftLemmas
 pub mod LastLemmas
 pub mod TimeLemmas
@@ -28,6 +29,7 @@ pub mod DiedToldLemmas
 pub mod OnceLemmas
 pub mod HaltLemmas
 pub mod CreateLemmas
+pub mod LogLemmas
 pub mod NameLemmas
 pub mod IdLemmas
 pub mod NewExecLemmas

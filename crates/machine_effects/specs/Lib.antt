@@ -14,6 +14,7 @@ pub mod Ops
 pub mod Outputs
 pub mod Places
 pub mod Removing
+pub mod Rising
 pub mod Rooms
 pub mod Running
 pub mod Settled

@@ -20,6 +20,7 @@ mod kit;
 mod least;
 mod listing;
 mod lives;
+mod logs;
 mod marks;
 mod moments;
 mod names;

@@ -9,8 +9,8 @@ use std::marker::Model;
 /// The numbers of the removed containers in order of removal, and the logs of the last 64 of them.
 #[derive(Drop)]
 pub struct Removals {
-    numbers: Vec<Removed>,
-    logs: Vec<KeptLogs>,
+    pub(super) numbers: Vec<Removed>,
+    pub(super) logs: Vec<KeptLogs>,
 }
 
 impl Model for Removals {

@@ -11,10 +11,12 @@ use engine_text::{Asked, NoMemory};
 use std::alloc::Global;
 use std::marker::Model;
 
-/// The tickets in order of number.
+/// The tickets in order of their begins. Where each was begun with a number above the last, they are
+/// found by halving.
 #[derive(Drop)]
 pub struct Tickets {
     items: Vec<HeldTicket>,
+    rises: bool,
 }
 
 impl Model for Tickets {
@@ -23,8 +25,11 @@ impl Model for Tickets {
     ghost Value = { TicketRows };
 
     ghost use Rattle.machine_effects.specs.Views.Tickets.{ticket_rows};
+    ghost use Rattle.machine_effects.specs.Rising.{Rises};
 
     ghost view = { ticket_rows };
+
+    ghost invariant = { Rises };
 }
 
 // What a ticket is answered when its container goes, whose last code is this.
@@ -89,6 +94,7 @@ impl Tickets {
     {
         Tickets {
             items: Vec::new(alloc),
+            rises: true,
         }
     }
 
@@ -111,7 +117,11 @@ impl Tickets {
     pub fn numbered(&self, number: u64) -> Option<&HeldTicket>
         ensures { option_copied result ≡ find (λ t. t.number == number) self.now.tickets }
     {
-        ticket_rows::numbered(self.items.as_slice(), number)
+        if self.rises {
+            ticket_rows::halved(self.items.as_slice(), number)
+        } else {
+            ticket_rows::numbered(self.items.as_slice(), number)
+        }
     }
 
     /// Makes room for a ticket more.
@@ -131,6 +141,7 @@ impl Tickets {
         ensures tickets { self.new.tickets ≡ self.old.tickets ++ ticket ∷ [] }
         ensures room { self.new.room ≡ self.old.room }
     {
+        self.rises = ticket_rows::rises_on(self.rises, self.items.as_slice(), ticket.number);
         self.items.push_reserved(ticket);
     }
 
