@@ -4,7 +4,6 @@ use Rattle.engine_text.specs.declared.call.Call.{Call}
 
 -- Whether a call is built: all are but these.
 abbrev pub is_built : Call → Bool
-is_built (Call.Logs target ask) = false
 is_built (Call.Attach target ask) = false
 is_built (Call.ExecStart id detach) = false
 is_built (Call.Events since until filter) = false

@@ -9,7 +9,6 @@ pub fn is_built(call: &Call) -> bool
     ensures { result ≡ spec.is_built call.now }
 {
     match call {
-        Call::Logs { .. } => false,
         Call::Attach { .. } => false,
         Call::ExecStart { .. } => false,
         Call::Events { .. } => false,
