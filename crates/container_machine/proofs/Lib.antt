@@ -5,6 +5,7 @@ pub mod FilterLemmas
 pub mod InspectLemmas
 pub mod KillLemmas
 pub mod ListedLemmas
+pub mod LogsLemmas
 pub mod MakeLemmas
 pub mod ReadyLemmas
 pub mod CommitLemmas

@@ -1,6 +1,7 @@
 pub mod Calls
 pub mod DuePlans
 pub mod Dues
+pub mod LogParts
 pub mod Making
 pub mod Parts
 pub mod Plans

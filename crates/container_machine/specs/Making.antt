@@ -1,7 +1,8 @@
 -- own: what a call that is made ready will do.
 use Rattle.std.specs.Prelude.{◌≡◌, ℕ, List, [], Some}
 use Rattle.engine_text.specs.declared.container.Container.{Container}
-use Rattle.engine_text.specs.declared.reply.Reply.TheVariants.{Answer}
+use Rattle.engine_text.specs.declared.reply.LogSpec.{LogSpec}
+use Rattle.engine_text.specs.declared.reply.Reply.TheVariants.{Answer, LogStream}
 use Rattle.machine_model.specs.State.{State, container_numbered}
 use Rattle.machine_model.specs.Outcome.{Outcome, at_reference}
 use Rattle.machine_model.specs.Step.{at_moment}
@@ -15,6 +16,13 @@ use Rattle.container_machine.specs.declared.prepared.Prepared.{Prepared}
 pub record IsAnswer (at status : ℕ) (body : List ℕ) (p : Prepared) : Type 0 where
   pub moment : p.moment ≡ at
   pub reply : p.reply ≡ Answer status body
+  pub events : p.events.items ≡ []
+  pub plan : p.plan ≡ Plan.Nothing
+
+-- A stream of a log that changes nothing.
+pub record IsStream (at : ℕ) (spec : LogSpec) (p : Prepared) : Type 0 where
+  pub moment : p.moment ≡ at
+  pub reply : p.reply ≡ LogStream spec
   pub events : p.events.items ≡ []
   pub plan : p.plan ≡ Plan.Nothing
 

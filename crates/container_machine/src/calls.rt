@@ -4,6 +4,7 @@ pub mod execs;
 pub mod inspect;
 pub mod kill;
 pub mod list;
+pub mod logs;
 pub mod pause;
 pub mod remove;
 pub mod rename;

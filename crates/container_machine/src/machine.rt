@@ -110,6 +110,9 @@ impl Machine {
             Call::List { all, limit, filter } => {
                 calls::list::prepare(&self.tables, alloc, moment, *all, *limit, filter)
             }
+            Call::Logs { target, ask } => {
+                calls::logs::prepare(&self.tables, alloc, moment, target.as_str(), ask)
+            }
             Call::Pause { target } => {
                 calls::pause::prepare(&self.tables, alloc, moment, target.as_str())
             }

@@ -21,15 +21,6 @@ fn is_state(key: FilterKey) -> bool
     matches!(key, FilterKey::State)
 }
 
-fn is_some_limit(limit: Option<u32>) -> bool
-    ensures { result ≡ spec.is_some_limit limit }
-{
-    match limit {
-        None => false,
-        Some(_) => true,
-    }
-}
-
 fn asks_for_state(rows: &Filter) -> bool
     ensures { result ≡ list_any (λ r. spec.is_state r.key) rows.now }
 {
@@ -39,7 +30,7 @@ fn asks_for_state(rows: &Filter) -> bool
 fn shows_all(all: bool, limit: Option<u32>, rows: &Filter) -> bool
     ensures { result ≡ spec.shows_all all limit rows.now }
 {
-    all || is_some_limit(limit) || asks_for_state(rows)
+    all || limit.is_some() || asks_for_state(rows)
 }
 
 fn is_up(status: Status) -> bool

@@ -1,0 +1,70 @@
+// Logs: the stream of a container's records, in every state.
+ghost use Rattle.std.specs.Prelude.{◌≡◌, IfOk};
+ghost use Rattle.machine_model.specs.Calls.Logs as spec;
+ghost use Rattle.machine_effects.specs.Held.{container_in};
+ghost use Rattle.container_machine.specs.Making.{IsStream, Makes};
+
+use crate::lookup::{Looked, look};
+use crate::plan::Plan;
+use crate::prepared::Prepared;
+use crate::selection::first_place;
+use engine_text::{LogAsk, LogSpec, NoMemory, Owner, Reply, StopRule};
+use machine_effects::{Held, Tables};
+use std::alloc::Global;
+
+// Where the stream ends: without follow at the log's length.
+fn stop_rule(follow: bool, size: u64) -> StopRule
+    ensures { result ≡ spec.stop_rule follow size }
+{
+    if follow {
+        StopRule::NotRunning
+    } else {
+        StopRule::At(size)
+    }
+}
+
+// The stream of the container's log.
+fn log_spec(ask: &LogAsk, h: &Held) -> LogSpec
+    ensures { result ≡ spec.log_spec ask.now (container_in h.now) }
+{
+    let log = h.log.as_slice();
+    LogSpec {
+        owner: Owner::Container(h.container.number),
+        out: ask.out,
+        err: ask.err,
+        stamps: ask.stamps,
+        first: first_place(ask, log),
+        stop: stop_rule(ask.follow, log.len() as u64),
+        least: ask.least,
+        greatest: ask.greatest,
+        feed: None,
+    }
+}
+
+// A stream, which changes nothing.
+fn stream(alloc: Global, moment: u64, of: LogSpec) -> Prepared
+    ensures { IsStream moment of result }
+{
+    Prepared {
+        moment,
+        reply: Reply::LogStream { spec: of },
+        events: Vec::new(alloc),
+        plan: Plan::Nothing,
+    }
+}
+
+/// Makes the stream ready.
+pub fn prepare(
+    tables: &Tables,
+    alloc: Global,
+    moment: u64,
+    target: &str,
+    ask: &LogAsk,
+) -> Result<Prepared, NoMemory>
+    ensures { IfOk result (λ p. Makes p moment tables.now.state (spec.logs_outcome target.now ask.now)) }
+{
+    match look(tables, alloc, moment, target)? {
+        Looked::Stands(h) => Ok(stream(alloc, moment, log_spec(ask, h))),
+        Looked::Refused(prepared) => Ok(prepared),
+    }
+}

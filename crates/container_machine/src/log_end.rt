@@ -1,0 +1,120 @@
+// Where a log's stream ends.
+ghost use Rattle.std.specs.Prelude.{◌≡◌};
+ghost use Rattle.api_json.specs.Status.{is_restarting};
+ghost use Rattle.machine_effects.specs.Held.{container_in};
+ghost use Rattle.machine_model.specs.Effects.Settle.{is_at_rest};
+ghost use Rattle.machine_model.specs.LogStream as logs;
+ghost use Rattle.machine_model.specs.Streams.{run_state, runs_begun};
+ghost use Rattle.container_machine.specs.LogParts.{is_over};
+
+use engine_text::{LogRecord, LogSpec, Owner, Status, StopRule};
+use machine_effects::{Held, Tables};
+
+fn is_restarting(status: Status) -> bool
+    ensures { result ≡ is_restarting status }
+{
+    match status {
+        Status::Restarting => true,
+        Status::Created => false,
+        Status::Running => false,
+        Status::Paused => false,
+        Status::Removing => false,
+        Status::Exited => false,
+        Status::Dead => false,
+    }
+}
+
+// Whether the container has no process and no pending restart.
+fn is_at_rest(tables: &Tables, h: &Held) -> bool
+    ensures { result ≡ is_at_rest (container_in h.now) tables.now.state }
+{
+    !tables.stands(Owner::Container(h.container.number)) && !is_restarting(h.container.life.status)
+}
+
+// Whether no process of the owner lives and no restart is pending.
+fn at_rest(tables: &Tables, owner: Owner) -> bool
+    ensures { result ≡ logs.at_rest owner tables.now.state }
+{
+    match owner {
+        Owner::Container(number) => match tables.numbered(number) {
+            Some(h) => is_at_rest(tables, h),
+            None => true,
+        },
+        Owner::Exec(number) => !tables.stands(Owner::Exec(number)),
+    }
+}
+
+// How many runs have begun, of an owner that stands.
+fn runs_begun(tables: &Tables, owner: Owner) -> Option<u64>
+    ensures { result ≡ runs_begun owner tables.now.state }
+{
+    match owner {
+        Owner::Container(number) => match tables.numbered(number) {
+            Some(h) => Some(h.container.life.starts),
+            None => None,
+        },
+        Owner::Exec(number) => match tables.exec(number) {
+            Some(x) => Some(if x.started { 1 } else { 0 }),
+            None => None,
+        },
+    }
+}
+
+// Whether the run has ended.
+fn is_over(tables: &Tables, owner: Owner, run: u64) -> bool
+    ensures { result ≡ is_over (run_state owner run tables.now.state) }
+{
+    match runs_begun(tables, owner) {
+        None => true,
+        Some(begun) => {
+            if begun < run {
+                false
+            } else if run == begun {
+                !tables.stands(owner)
+            } else {
+                true
+            }
+        }
+    }
+}
+
+// How many records are of runs up to that one.
+fn length_at_end(log: &[LogRecord], run: u64) -> u64
+    ensures { result ≡ logs.length_at_end run log.now }
+{
+    log.iter().filter(|r| r.run <= run).count() as u64
+}
+
+/// Where the stream of an owner that stands ends, once that is known.
+pub fn standing_end(tables: &Tables, spec: &LogSpec, log: &[LogRecord]) -> Option<u64>
+    ensures { result ≡ logs.standing_end spec.now.stop spec.now.owner log.now tables.now.state }
+{
+    match spec.stop {
+        StopRule::At(place) => Some(place),
+        StopRule::RunEnd(run) => {
+            if is_over(tables, spec.owner, run) {
+                Some(length_at_end(log, run))
+            } else {
+                None
+            }
+        }
+        StopRule::NotRunning => {
+            if at_rest(tables, spec.owner) {
+                Some(log.len() as u64)
+            } else {
+                None
+            }
+        }
+    }
+}
+
+/// Where the stream of a removed owner ends, whose log is kept.
+pub fn kept_end(stop: StopRule, log: &[LogRecord]) -> u64
+    ensures { result ≡ logs.kept_end stop log.now }
+{
+    match stop {
+        StopRule::At(place) => place,
+        StopRule::RunEnd(run) => length_at_end(log, run),
+        StopRule::NotRunning => log.len() as u64,
+    }
+}
