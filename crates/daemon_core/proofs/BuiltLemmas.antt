@@ -1,4 +1,6 @@
--- What the calls that are built do: they stand at their moment, begin no stream, and may be made behind what is due.
+-- What the calls that are built do: they stand at their moment, begin no other stream than a log's, and may be made behind
+-- what is due.
+use Rattle.std.specs.Prelude.{is_some, unwrap_or}
 use Rattle.std.proofs.Common.{◌≡◌, ◌⊎◌, inl, inr, ℕ, List, [], ◌∷◌, refl, subst, sym, ◌∙◌, Bool, true, false, ◌&&◌, ◌||◌, ◌==◌, not, Option, Some, None, find, arith}
 use Rattle.std.specs.Prelude.{IsTrue, IsFalse, nat_le, nat_lt}
 use Rattle.std.specs.List.{AllByRecursion, list_all}
@@ -15,9 +17,9 @@ use Rattle.machine_model.specs.State.{State}
 use Rattle.machine_model.specs.Step.{at_moment}
 use Rattle.machine_model.specs.Statuses.{statuses_of, ticket_statuses, is_among, is_reply_of, gives_log, gives_events, gives_journal, is_feed, ends_ticket}
 use Rattle.call_bounds.specs.Soundness.{IsSound}
-use Rattle.machine_model.specs.Ready.{is_given, is_ready, ticket_is_ready}
+use Rattle.machine_model.specs.Ready.{is_ready, ticket_is_ready}
 use Rattle.machine_model.specs.Tickets.{ticket_numbered}
-use Rattle.machine_model.specs.Calls.Take.{ticket_reply, reply_of as taken}
+use Rattle.machine_model.specs.Calls.Take.{ticket_reply}
 use Rattle.machine_model.specs.Room.{HasRoom}
 use Rattle.machine_model.specs.History.{Charter, after_step, state_after, opening_state, reply_of, IsLawful, IsTimely, is_due, has_steps, is_drop}
 use Rattle.machine_model.proofs.ClosureLemmas.{runs_call}
@@ -77,12 +79,6 @@ are_codes : (c : Call) → list_all is_code (statuses_of c) ≡ true
 are_codes (call.Take ticket) = refl
 are_codes c = refl
 
-no_log : (c : Call) → IsTrue (is_built c) → IsTrue (gives_log c) → ⊥
-no_log (call.Logs target ask) built h = false≢true built
-no_log (call.Attach target ask) built h = false≢true built
-no_log (call.ExecStart id detach) built h = false≢true built
-no_log c built h = false≢true h
-
 no_events : (c : Call) → IsTrue (is_built c) → IsTrue (gives_events c) → ⊥
 no_events (call.Events since until filter) built h = false≢true built
 no_events c built h = false≢true h
@@ -99,33 +95,34 @@ no_feed c built h = false≢true h
 plain_reply : (c : Call) (r : Reply) → IsTrue (is_built c) → IsTrue (is_reply_of c r) → IsPlain r
 plain_reply c (reply.Answer status body) built h = is_one (statuses_of c) status (are_codes c) h
 plain_reply c (reply.Begun ticket) built h = tt
-plain_reply c (reply.LogStream spec) built h = no_log c built h
+plain_reply c (reply.LogStream spec) built h = tt
 plain_reply c (reply.EventStream first until filter) built h = no_events c built h
 plain_reply c (reply.JournalStream count) built h = no_journal c built h
 plain_reply c (reply.Fed taken) built h = no_feed c built h
 plain_reply c reply.Dropped built h = tt
 
--- a call that is built begins no stream and feeds none
+-- a call that is built begins no other stream than a log's, and feeds none
 pub built_answers : (c : Call) → IsTrue (is_built c) → (s : State) → HaveReplies s → (k t : ℕ) → IsPlain (reply_of s k t c)
 built_answers c built s have k t = plain_reply c (reply_of s k t c) built ((obeys c k (at_moment t s)).reply have)
 
--- and where it neither gives nor ends a ticket it is answered whole
-whole_reply : (c : Call) (r : Reply) → IsPlain r → GivesNoTicket r → IsFalse (ends_ticket c) → IsTrue (is_reply_of c r) → IsAnswer r
-whole_reply c (reply.Answer status body) plain gives none h = plain
-whole_reply c (reply.Begun ticket) plain gives none h = gives
-whole_reply c (reply.LogStream spec) plain gives none h = plain
-whole_reply c (reply.EventStream first until filter) plain gives none h = plain
-whole_reply c (reply.JournalStream count) plain gives none h = plain
-whole_reply c (reply.Fed taken) plain gives none h = plain
-whole_reply c reply.Dropped plain gives none h = false≢true (sym none ∙ h)
+-- and where it gives no log, and neither gives nor ends a ticket, it is answered whole
+whole_reply : (c : Call) (r : Reply) → IsPlain r → GivesNoTicket r → IsFalse (ends_ticket c) → IsFalse (gives_log c)
+    → IsTrue (is_reply_of c r) → IsAnswer r
+whole_reply c (reply.Answer status body) plain gives none log h = plain
+whole_reply c (reply.Begun ticket) plain gives none log h = gives
+whole_reply c (reply.LogStream spec) plain gives none log h = false≢true (sym log ∙ h)
+whole_reply c (reply.EventStream first until filter) plain gives none log h = plain
+whole_reply c (reply.JournalStream count) plain gives none log h = plain
+whole_reply c (reply.Fed taken) plain gives none log h = plain
+whole_reply c reply.Dropped plain gives none log h = false≢true (sym none ∙ h)
 
-pub built_whole : (c : Call) → IsTrue (is_built c) → IsFalse (ends_ticket c) → (s : State) → HaveReplies s → (k t : ℕ)
-    → GivesNoTicket (reply_of s k t c) → IsAnswer (reply_of s k t c)
-built_whole c built none s have k t gives =
-    whole_reply c (reply_of s k t c) (built_answers c built s have k t) gives none ((obeys c k (at_moment t s)).reply have)
+pub built_whole : (c : Call) → IsTrue (is_built c) → IsFalse (ends_ticket c) → IsFalse (gives_log c) → (s : State) → HaveReplies s
+    → (k t : ℕ) → GivesNoTicket (reply_of s k t c) → IsAnswer (reply_of s k t c)
+built_whole c built none log s have k t gives =
+    whole_reply c (reply_of s k t c) (built_answers c built s have k t) gives none log ((obeys c k (at_moment t s)).reply have)
 
 -- a take that is ready is answered whole
-given_whole : (o : Option Reply) → IsTrue (is_given o) → IsTicketReply o → IsAnswer (taken o)
+given_whole : (o : Option Reply) → IsTrue (is_some o) → IsTicketReply o → IsAnswer (unwrap_or o reply.Dropped)
 given_whole None given is = absurd (false≢true given)
 given_whole (Some (reply.Answer status body)) given is = is_one ticket_statuses status refl is
 given_whole (Some (reply.Begun ticket)) given is = absurd is

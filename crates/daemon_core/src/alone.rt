@@ -4,8 +4,8 @@ ghost use Rattle.session_model.proofs.PassLemmas.{none_joined};
 ghost use Rattle.daemon_core.specs.Passing.{whole_pass};
 
 use crate::{Daemon, Turns};
-use engine_text::Call;
-use session_model::Turned;
+use engine_text::{Call, LogSpec};
+use session_model::{Part, Turned};
 use std::alloc::Global;
 
 /// The owner of a daemon, who takes all turns.
@@ -35,6 +35,18 @@ impl Turns for Alone {
 
     fn turn(&mut self, alloc: Global, conn: u32, handed: u64, call: Option<&Call>) -> Turned {
         self.daemon.turn(alloc, conn, handed, call)
+    }
+
+    fn log_from(
+        &mut self,
+        alloc: Global,
+        conn: u32,
+        handed: u64,
+        spec: &LogSpec,
+        place: u64,
+        out: &mut Vec<u8>,
+    ) -> Part {
+        self.daemon.log_from(alloc, conn, handed, spec, place, out)
     }
 
     ghost sound = { λ a. a.daemon.legal };

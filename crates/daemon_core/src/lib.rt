@@ -4,6 +4,8 @@
 mod alone;
 mod daemon;
 mod due;
+mod frames;
+mod log_from;
 mod moment;
 mod ready;
 mod room;

@@ -5,9 +5,10 @@ ghost use Rattle.machine_model.specs.History.{IsLegal};
 ghost use Rattle.session_model.specs.Pass.{PassView, IsNumber, HasItsCalls};
 ghost use Rattle.session_model.specs.Turning.{MayAsk, Turn};
 ghost use Rattle.call_bounds.specs.Built.{AreBuilt};
+ghost use Rattle.daemon_core.specs.LogTurns.{LogTurn};
 
-use engine_text::Call;
-use session_model::Turned;
+use engine_text::{Call, LogSpec};
+use session_model::{Part, Turned};
 use std::alloc::Global;
 
 /// Turns on the one daemon, by whoever holds a pass to it.
@@ -21,6 +22,20 @@ pub trait Turns: Sized {
         requires may { MayAsk (pass self.old).charter conn (pass self.old).seen (option_map (λ c. c.now) call) }
         requires built { AreBuilt (option_map (λ c. c.now) call) }
         ensures { Turn conn handed (option_map (λ c. c.now) call.entry) result (pass self.old) (pass self.new) };
+
+    /// A part of a log's stream from a place on, behind all that is due by the moment that counts of
+    /// the handed one: its frames are appended. At every other answer `out` is as before.
+    fn log_from(
+        &mut self,
+        alloc: Global,
+        conn: u32,
+        handed: u64,
+        spec: &LogSpec,
+        place: u64,
+        out: &mut Vec<u8>,
+    ) -> Part
+        requires number { IsNumber (pass self.old).number conn }
+        ensures { LogTurn conn handed spec.now place result out.old.items out.new.items (pass self.old) (pass self.new) };
 
     /// What was seen is legal.
     ghost sound: { (t : Self) → IsLegal (pass t).charter (pass t).seen };
