@@ -1,2 +1,5 @@
 pub mod WaitLemmas
 pub mod StatusLemmas
+pub mod LogLemmas
+pub mod FollowLemmas
+pub mod OpenLemmas

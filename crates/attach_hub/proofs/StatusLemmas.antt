@@ -1,5 +1,5 @@
 -- A wait's ticket is answered with 200, whoever else makes steps meanwhile.
-use Rattle.std.proofs.Common.{◌≡◌, ℕ, ◌+◌, ◌<◌, ◌==◌, Bool, true, false, List, [], ◌∷◌, ◌++◌, Option, Some, None, find, map, if◌then◌else◌, refl, ap, sym, ◌∙◌, subst, arith}
+use Rattle.std.proofs.Common.{◌≡◌, ℕ, ◌+◌, ◌<◌, ◌==◌, Bool, true, false, List, [], ◌∷◌, ◌++◌, Option, Some, None, unwrap_or, find, map, if◌then◌else◌, refl, ap, sym, ◌∙◌, subst, arith}
 use Rattle.std.specs.List.{AllByRecursion}
 use Rattle.std.proofs.lemmas.Bool.{false≢true}
 use Rattle.std.proofs.lemmas.Bool.Decides.{nat_tests}
@@ -20,7 +20,7 @@ use Rattle.engine_text.specs.declared.ticket.Ticket.{Ticket}
 use Rattle.machine_model.specs.State.{State, container_numbered}
 use Rattle.machine_model.specs.Chain.{Effect, Died, still}
 use Rattle.machine_model.specs.Call.{outcome_of}
-use Rattle.machine_model.specs.Calls.Take.{ticket_reply, reply_of as taken}
+use Rattle.machine_model.specs.Calls.Take.{ticket_reply}
 use Rattle.machine_model.specs.Due.{least_due, due_effect, timed_out}
 use Rattle.machine_model.specs.Effects.Destroy.{answer, answered, last_reply, last_answer}
 use Rattle.machine_model.specs.Effects.Settle.{is_at_rest, has_died, reply_if, wait_reply, reply_of as settles, reply_by, settled, settle_tickets}
@@ -260,7 +260,7 @@ abbrev IsFine : Reply → Type 0
 IsFine (reply.Answer status body) = status ≡ 200
 IsFine r = Unit {0}
 
-given_fine : (o : Option Reply) → IsReply o → IsFine (taken o)
+given_fine : (o : Option Reply) → IsReply o → IsFine (unwrap_or o reply.Dropped)
 given_fine None h = tt
 given_fine (Some (reply.Answer status body)) h = h
 given_fine (Some (reply.Begun ticket)) h = absurd h

@@ -12,8 +12,8 @@ use session_model::{Awaited, Turned};
 use std::alloc::Global;
 use std::sync::Wait;
 
-/// How long a wait pauses between two turns, in milliseconds.
-const POLL: u64 = 50;
+/// How long a wait or a follower pauses between two turns, in milliseconds.
+pub(crate) const POLL: u64 = 50;
 
 // A turn with the take of the ticket.
 fn take<T: Turns>(turns: &mut T, alloc: Global, conn: u32, handed: u64, ticket: u64) -> Turned

@@ -1,0 +1,73 @@
+-- How following a stream goes on and ends (own: a follower asks for one part after another, and pauses where it is up to date).
+use Rattle.std.specs.Prelude.{ℕ, ◌≡◌, ◌≤◌, Bool, true, false, List, [], ◌∷◌, ◌++◌, length, IsTrue}
+use Rattle.engine_ports.specs.Rose.{Rose}
+use Rattle.engine_ports.specs.Sink.{SinkView, SinkTook, IsFront}
+use Rattle.engine_ports.specs.Clock.{ClockView}
+use Rattle.engine_text.specs.declared.reply.Reply.{Reply}
+use Rattle.engine_text.specs.declared.reply.LogSpec.{LogSpec}
+use Rattle.engine_text.specs.declared.reply.StopRule.{StopRule}
+use Rattle.engine_text.specs.declared.reply.StopRule.TheVariants as Stop
+use Rattle.engine_text.specs.declared.step.Step.{Step}
+use Rattle.machine_model.specs.State.{State}
+use Rattle.machine_model.specs.LogStream.{is_kept, log_of, log_reach}
+use Rattle.machine_model.specs.History.{Charter, state_after}
+use Rattle.http_edge.specs.Chunks.{IsChunked, chunk_text}
+use Rattle.session_model.specs.declared.followed.Followed.{Followed}
+use Rattle.session_model.specs.declared.followed.Followed.TheVariants as F
+use Rattle.session_model.specs.Pass.{PassView}
+use Rattle.session_model.specs.Exchange.{IsQuiet, IsBody, EndsSo, is_whole}
+use Rattle.session_model.specs.Progress.{Moves}
+
+-- ---- pieces of a body
+
+-- a piece as it is written: as a chunk or as it is; of an empty one nothing
+abbrev pub written_of : Bool → List ℕ → List ℕ
+written_of true [] = []
+written_of true (x ∷ piece) = chunk_text (x ∷ piece)
+written_of false piece = piece
+
+-- the pieces of a body, as chunks or as they are
+abbrev pub IsSent : Bool → List ℕ → List ℕ → Type 0
+IsSent true body bytes = IsChunked body bytes
+IsSent false body bytes = bytes ≡ body
+
+-- the sink took all of it, or a front of it where a write failed
+abbrev pub IsTaken : Followed → List ℕ → List ℕ → Type 0
+IsTaken F.WriteFault part bytes = IsFront part bytes
+IsTaken followed part bytes = part ≡ bytes
+
+-- ---- a stream that is followed
+
+-- it ends where a place says so, or where its owner rests; none of a run
+abbrev pub HasNoRun : StopRule → Type 0
+HasNoRun (Stop.At n) = Unit {0}
+HasNoRun (Stop.RunEnd run) = ⊥
+HasNoRun Stop.NotRunning = Unit {0}
+
+-- in this state its log is kept, and it begins within its log and before its end
+pub record MayFollow (s : State) (spec : LogSpec) : Type 0 where
+  pub kept : IsTrue (is_kept s spec.owner)
+  pub logged : spec.first ≤ length (log_of s spec.owner)
+  pub reached : spec.first ≤ log_reach s spec
+  pub runless : HasNoRun spec.stop
+
+-- what rose outside
+abbrev pub HasCause : Followed → SinkView → SinkView → ClockView → ClockView → Type 0
+HasCause F.Stopped u u' v v' = Rose v.stops v'.stops
+HasCause F.WriteFault u u' v v' = Rose u.faults u'.faults
+HasCause followed u u' v v' = Unit {0}
+
+-- the stream of a reply was followed and ended so: connection k made no call, and of the body that it
+-- has between the two histories the sink took these pieces
+pub record Follows (k : ℕ) (reply : Reply) (chunked : Bool) (result : Followed) (p q : PassView) (u u' : SinkView) (v v' : ClockView) : Type 0 where
+  pub moves : Moves k true p q v v'
+  pub quiet : IsQuiet k p.seen q.seen
+  pub body : List ℕ
+  pub sent : List ℕ
+  pub part : List ℕ
+  pub tells : IsBody p.charter reply (is_whole result) p.seen q.seen body
+  pub ends : EndsSo p.charter reply result body p.seen q.seen
+  pub pieces : IsSent chunked body sent
+  pub taken : IsTaken result part sent
+  pub sink : SinkTook u part u'
+  pub cause : HasCause result u u' v v'
