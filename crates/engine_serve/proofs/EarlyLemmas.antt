@@ -79,7 +79,7 @@ goes_behind (Went.Ends e) flow head rest part u v w le (inr (is, (cut, front), r
     inr (is, (cut, append_assoc head part cut ∙ ap (λ x. head ++ x) front), rose_since u.faults v.faults w.faults le rose)
 
 -- behind a head that was written
-sends_behind : (result : Went) (flow : Flow) (head rest : List ℕ) (u v w : SinkView) → SinkTook u head v
+pub sends_behind : (result : Went) (flow : Flow) (head rest : List ℕ) (u v w : SinkView) → SinkTook u head v
     → Sends flow result rest v w → Sends flow result (head ++ rest) u w
 sends_behind result flow head rest u v w took (part, more, goes) =
     (head ++ part, sink_on u v w head part took more, goes_behind result flow head rest part u v w took.faults goes)

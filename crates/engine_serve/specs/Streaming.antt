@@ -1,0 +1,72 @@
+-- What is sent of a stream, and how the session goes on behind it (own).
+use Rattle.std.specs.Prelude.{ℕ, ◌≡◌, ◌⊎◌, true, List, [], ◌++◌, Option, Some, None, if◌then◌else◌, IsFalse}
+use Rattle.engine_ports.specs.Source.{SourceView}
+use Rattle.engine_ports.specs.Sink.{SinkView, SinkTook}
+use Rattle.engine_ports.specs.Clock.{ClockView}
+use Rattle.engine_ports.specs.Door.{outside}
+use Rattle.engine_text.specs.declared.call.Call.{Call}
+use Rattle.engine_text.specs.declared.call.Call.TheVariants as call
+use Rattle.engine_text.specs.declared.reply.LogSpec.{LogSpec}
+use Rattle.engine_text.specs.declared.reply.Reply.{Reply}
+use Rattle.engine_text.specs.declared.reply.Reply.TheVariants.{LogStream}
+use Rattle.engine_text.specs.declared.step.Step.{Step}
+use Rattle.machine_model.specs.History.{Charter}
+use Rattle.http_edge.specs.Chunks.{IsChunked, last_chunk}
+use Rattle.api_routes.specs.declared.class.Takeover.{Takeover}
+use Rattle.session_model.specs.declared.followed.Followed.{Followed}
+use Rattle.session_model.specs.declared.followed.Followed.TheVariants as F
+use Rattle.session_model.specs.declared.terms.Terms.{Terms}
+use Rattle.session_model.specs.Pass.{PassView}
+use Rattle.session_model.specs.Responses.{head_of_stream}
+use Rattle.session_model.specs.Exchange.{Flow, Leaves, flow_of, IsQuiet, IsBody, EndsSo, is_whole}
+use Rattle.session_model.specs.Session.{Cause, ending_of_ends, is_pumped}
+use Rattle.session_model.specs.Progress.{Moves}
+use Rattle.engine_serve.specs.declared.went.Went.{Went}
+use Rattle.engine_serve.specs.Serving.{GoesSo, Sends}
+
+-- the call for a log
+abbrev pub IsLogs : Call → Type 0
+IsLogs (call.Logs target ask) = Unit {0}
+IsLogs c = ⊥
+
+-- the log stream that a reply gives
+abbrev pub spec_of : Reply → Option LogSpec
+spec_of (LogStream spec) = Some spec
+spec_of reply = None
+
+-- ---- behind a stream in chunks
+
+-- the session goes on where it is whole, and else ends by how it was followed
+abbrev pub flow_behind : Terms → Followed → Flow
+flow_behind terms f = if is_whole f then flow_of terms else Leaves f None
+
+-- its last chunk is written exactly where it is whole
+abbrev pub EndsStream : Terms → Followed → Went → SinkView → SinkView → Type 0
+EndsStream terms F.Whole result u u' = Sends (flow_of terms) result last_chunk u u'
+EndsStream terms followed result u u' = (result ≡ Went.Ends (ending_of_ends followed None)) × (u' ≡ u)
+
+-- ---- a stream in chunks
+
+-- its head, of which a write failed; or its head, chunks of its body, and the last chunk exactly where
+-- it is whole
+abbrev pub IsStreamed : Charter → Terms → Reply → Flow → List ℕ → List Step → List Step → Type 0
+IsStreamed ch terms reply flow whole a b =
+    ((a ≡ b) × (flow ≡ Leaves F.WriteFault None) × (whole ≡ head_of_stream terms Takeover.None reply))
+    ⊎ ((f : Followed) × (body : List ℕ) × (chunks : List ℕ)
+    × IsBody ch reply (is_whole f) a b body × EndsSo ch reply f body a b × IsChunked body chunks
+    × (flow ≡ flow_behind terms f)
+    × (whole ≡ head_of_stream terms Takeover.None reply ++ chunks ++ (if is_whole f then last_chunk else [])))
+
+-- the stream of a reply was sent, also where a write failed in it, and connection k made no call
+pub record SendsStream (k : ℕ) (terms : Terms) (reply : Reply) (result : Went) (p q : PassView)
+    (u u' : SinkView) (t t' : ClockView) : Type 0 where
+  pub flow : Flow
+  pub whole : List ℕ
+  pub part : List ℕ
+  pub told : IsStreamed p.charter terms reply flow whole p.seen q.seen
+  pub goes : GoesSo flow result whole part u u'
+  pub sink : SinkTook u part u'
+  pub cause : (s s' : SourceView) → Cause flow (outside s u t) (outside s' u' t')
+  pub quiet : IsQuiet k p.seen q.seen
+  pub moves : Moves k true p q t t'
+  pub pumped : IsFalse (is_pumped flow)

@@ -1,0 +1,125 @@
+// A request for a stream, answered.
+ghost use Rattle.std.specs.Prelude.{◌≡◌, IsTrue};
+ghost use Rattle.call_bounds.specs.Built.{is_built};
+ghost use Rattle.call_bounds.specs.Soundness.{IsSound};
+ghost use Rattle.engine_text.specs.declared.reply.Reply.TheVariants.{LogStream};
+ghost use Rattle.machine_model.specs.History.{state_after};
+ghost use Rattle.http_edge.specs.Reader.{request_of};
+ghost use Rattle.api_routes.specs.Class.{class_of};
+ghost use Rattle.api_routes.specs.declared.class.Class.TheVariants.{Stream};
+ghost use Rattle.api_routes.specs.declared.class.Takeover.TheVariants as takes;
+ghost use Rattle.session_model.specs.Pass.{IsNumber};
+ghost use Rattle.session_model.specs.Session.{ending_of_ends};
+ghost use Rattle.attach_hub.specs.Following.{MayFollow};
+ghost use Rattle.engine_serve.specs.Serving.{Tries};
+ghost use Rattle.engine_serve.specs.Streaming.{IsLogs, spec_of, EndsStream, SendsStream};
+
+use crate::answer::{behind, send_journal_full, send_out_of_memory, send_reply};
+use crate::went::Went;
+use attach_hub::follow_log;
+use daemon_core::Turns;
+use engine_ports::{Clock, Failed, Sink};
+use engine_text::{Call, LogSpec, Reply};
+use http_edge::{Form, Head, RequestView, write_head, write_last};
+use session_model::{Ending, Followed, Terms, Turned};
+use std::alloc::Global;
+use std::sync::Wait;
+
+/// The log stream that a reply gives.
+fn spec_of(reply: &Reply) -> Option<LogSpec>
+    ensures { result ≡ spec_of reply.now }
+{
+    match reply {
+        Reply::LogStream { spec } => Some(*spec),
+        _ => None,
+    }
+}
+
+/// The ending of a session whose last stream was followed so.
+fn ending_of(followed: Followed) -> Ending
+    ensures { result ≡ ending_of_ends followed None }
+{
+    match followed {
+        Followed::Whole => Ending::Closed,
+        Followed::Stopped => Ending::Stopped,
+        Followed::Lagged { next, first } => Ending::Lagged { next, first },
+        Followed::WriteFault => Ending::WriteFault,
+        Followed::NoMemory => Ending::NoMemory,
+    }
+}
+
+/// Ends a stream in chunks: by the last chunk exactly where it is whole. It takes no memory.
+fn end_stream<K: Sink>(sink: &mut K, terms: Terms, followed: Followed) -> Went
+    ensures { EndsStream terms followed result (K.takes sink.old) (K.takes sink.new) }
+{
+    match followed {
+        Followed::Whole => {
+            let written = write_last(sink);
+            behind(terms, written)
+        }
+        broken => Went::Ends(ending_of(broken)),
+    }
+}
+
+/// Sends a log in chunks: the head at once, and then its parts as they come.
+fn send_log<W: Wait, T: Turns, K: Sink, C: Clock>(
+    rt: &W,
+    turns: &mut T,
+    alloc: Global,
+    conn: u32,
+    terms: Terms,
+    spec: &LogSpec,
+    sink: &mut K,
+    clock: &mut C,
+) -> Went
+    requires number { IsNumber (T.pass turns.old).number conn }
+    requires pair { IsTrue (T.pass turns.old).pair }
+    requires may { MayFollow (state_after (T.pass turns.old).charter (T.pass turns.old).seen) spec.now }
+    ensures { SendsStream conn terms (LogStream spec.now) result
+        (T.pass turns.old) (T.pass turns.new) (K.takes sink.old) (K.takes sink.new) (C.times clock.old) (C.times clock.new) }
+{
+    let head = Head {
+        status: 200,
+        form: Form::ChunkedFrames,
+        close: terms.close,
+    };
+    match write_head(sink, &head) {
+        Err(Failed) => Went::Ends(Ending::WriteFault),
+        Ok(()) => {
+            let followed = follow_log(rt, turns, alloc, conn, spec, true, sink, clock);
+            end_stream(sink, terms, followed)
+        }
+    }
+}
+
+/// Answers a request for a log by its call: with the stream that it gives, or with its refusal.
+pub(crate) fn stream<W: Wait, T: Turns, K: Sink, C: Clock>(
+    rt: &W,
+    turns: &mut T,
+    alloc: Global,
+    conn: u32,
+    request: &RequestView<'_>,
+    call: &Call,
+    sink: &mut K,
+    clock: &mut C,
+) -> Went
+    requires number { IsNumber (T.pass turns.old).number conn }
+    requires pair { IsTrue (T.pass turns.old).pair }
+    requires class { class_of (request_of request.now) ≡ Stream call.now takes.None }
+    requires sound { IsSound call.now }
+    requires built { IsTrue (is_built call.now) }
+    requires logs { IsLogs call.now }
+    ensures { Tries conn (request_of request.now) result (T.pass turns.old) (T.pass turns.new) (K.takes sink.old) (K.takes sink.new) (C.times clock.old) (C.times clock.new) }
+{
+    let terms = Terms::of(request);
+    let handed = clock.now();
+    match turns.turn(alloc, conn, handed, Some(call)) {
+        Turned::Replied(reply) => match spec_of(&reply) {
+            Some(spec) => send_log(rt, turns, alloc, conn, terms, &spec, sink, clock),
+            None => send_reply(sink, terms, &reply),
+        },
+        Turned::JournalFull => send_journal_full(sink, terms),
+        Turned::NoMemory => send_out_of_memory(sink, terms),
+        Turned::Begun { .. } | Turned::NotYet | Turned::Nothing => unreachable!(),
+    }
+}
