@@ -176,18 +176,18 @@ whole_same d o e = ap (λ x. pass_of (charter_by x) d.stored.steps.items) e
 module _ {Q S K C P : Type 0} (seat : Q → SharedSeat) (told : S → K → C → Outside) (tells : P → Outside) (steps : Option (ℕ × ℕ)) where
   pub runs : (table : TableId) (oc : Option Opening) (o : Opening) (most m' : ℕ) (root : SharedSeat) (one : OneDaemon) (w : Worst) (d d' : DoorView) → oc ≡ Some o → most ≡ m'
       → ServesAll seat told tells steps table oc most root w d d'
-      → Meets author_of IsKept (λ (x : OneDaemon). (whole_pass x.daemon).seen) (λ (x : OneDaemon). opening_in x.daemon) root.me.0 one
-      → RunsDaemon (charter_by o) steps m' w one.daemon d d'
+      → Meets author_of IsKept (λ (x : OneDaemon). (whole_pass x.daemon.value).seen) (λ (x : OneDaemon). opening_in x.daemon.value) root.me.0 one
+      → RunsDaemon (charter_by o) steps m' w one.daemon.value d d'
   runs table oc o most m' root one w d d' is_o is_m s0 m =
       let s = subst (λ (z : Option Opening × ℕ). ServesAll seat told tells steps table z.0 z.1 root w d d') (λ i. (is_o i, is_m i)) s0 in
-      let h = one.daemon.stored.steps.items in
+      let h = one.daemon.value.stored.steps.items in
       let so = s.begins in
-      let same : opening_in one.daemon ≡ o = some_same _ o (sym m.one_charter ∙ s.is_root.charter) in
+      let same : opening_in one.daemon.value ≡ o = some_same _ o (sym m.one_charter ∙ s.is_root.charter) in
       let all = all_lived seat told tells steps table o h root.me.0 m.more m.goes_on m.stand 0 s.xs s.closes.rs so.running s.closes.taken in
       let count : s.n ≡ length all.lives = sym so.count ∙ sym all.count in
       record {
         history = h;
-        holds = whole_same one.daemon o same;
+        holds = whole_same one.daemon.value o same;
         legal = (subst (λ (z : Opening). IsKept z h) same m.met_legal).0;
         lives = all.lives;
         few = subst (λ z. z ≤ m') count so.few;

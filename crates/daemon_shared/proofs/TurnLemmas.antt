@@ -7,12 +7,16 @@ use Rattle.std.proofs.lemmas.Bool.Decides.{nat_tests}
 use Rattle.std.proofs.lemmas.List.Elements.{filter-append}
 use Rattle.engine_text.specs.declared.call.Call.{Call}
 use Rattle.engine_text.specs.declared.call.Call.TheVariants as call
+use Rattle.engine_text.specs.declared.reply.LogSpec.{LogSpec}
 use Rattle.engine_text.specs.declared.step.Step.{Step}
-use Rattle.machine_model.specs.History.{Charter, IsLegal, HasNone, HasNoCall, own_calls, is_own, calls_of, bears, input_of, state_after}
+use Rattle.machine_model.specs.State.{State}
+use Rattle.machine_model.specs.History.{Charter, IsLegal, HasNone, HasNoCall, own_calls, is_own, calls_of, bears, input_of, state_after, moment_used}
+use Rattle.session_model.specs.declared.turned.Part.{Part}
 use Rattle.session_model.specs.declared.turned.Turned.{Turned}
 use Rattle.session_model.specs.Pass.{Only, is_call}
-use Rattle.session_model.specs.Turning.{Turn, TurnSays, MayAsk, HasBegun, ends_ticket}
+use Rattle.session_model.specs.Turning.{Turns, Turn, TurnSays, MayAsk, HasBegun, ends_ticket}
 use Rattle.call_bounds.specs.Built.{AreBuilt}
+use Rattle.daemon_core.specs.LogTurns.{LogTurn, LogDues, LogSays}
 use Rattle.daemon_core.specs.Storing.{pass_of}
 use Rattle.atomic_table.specs.Seated.{TableId}
 use Rattle.atomic_table.specs.declared.shared.Seat.{Seat}
@@ -24,7 +28,7 @@ use Rattle.turnstile.proofs.Lists.{none_of_others}
 use Rattle.turnstile.specs.Turns.{IsPass, EachMet, Turned as TurnedBy}
 use Rattle.daemon_shared.specs.declared.one_daemon.OneDaemon.{OneDaemon}
 use Rattle.daemon_shared.specs.declared.one_daemon.Opening.{Opening}
-use Rattle.daemon_shared.specs.Sharing.{author_of, charter_by, IsKept, charter_in, with_calls, shared_pass, home_of, MayMeet, Makes}
+use Rattle.daemon_shared.specs.Sharing.{author_of, charter_by, IsKept, charter_in, with_calls, shared_pass, home_of, MayMeet, Makes, MakesPart}
 
 -- ---- steps of one number
 
@@ -173,16 +177,17 @@ makes_of o ch' k handed c a h h' turn =
 pub makes_by_one : (o : Opening) (k handed : ℕ) (c : Option Call) (a : Turned) (h h' : List Step) → Makes o k handed c a h h' → ByOne author_of k h h'
 makes_by_one o k handed c a h h' m = record { more = m.own; is = m.is; own = only_of k m.own m.only }
 
-pub shared : (t t' : TableId) → t' ≡ t → (k handed : ℕ) (c : Option Call) (a : Turned) (v w : View Step Opening) → v.number ≡ k
-    → times v.number v.joined_calls ≡ 0 → TurnedBy author_of IsKept (λ o h h'. Makes o k handed c a h h') v w → Turn k handed c a (shared_pass t v) (shared_pass t' w)
-shared table table' same_table k handed c a v w num apart t =
+-- the own steps of a turn, and those of others before them
+unfoldable pub shared_turns : (t t' : TableId) → t' ≡ t → (k : ℕ) (told : Opening → List Step → List Step → Type 0) (v w : View Step Opening)
+    → v.number ≡ k → times v.number v.joined_calls ≡ 0 → (turned : TurnedBy author_of IsKept told v w) → (own : List Step)
+    → w.seen ≡ turned.met ++ own → filter is_call own ≡ calls_of k own → Turns k (shared_pass t v) (shared_pass t' w)
+shared_turns table table' same_table k told v w num apart t own is only =
     let more = t.others.more in
-    let own = t.answer.own in
     let opening : charter_in w.charter ≡ charter_in v.charter = ap (λ (x : View Step Opening). charter_in x.charter) t.after in
-    let told : charter_in v.charter ≡ charter_by t.charter = ap charter_in t.charter_is in
+    let under : charter_in v.charter ≡ charter_by t.charter = ap charter_in t.charter_is in
     let number : w.number ≡ v.number = ap (λ (x : View Step Opening). x.number) t.after in
     let none : HasNoCall k more = sym (by_same k more) ∙ subst (λ n. steps_by author_of n more ≡ []) num t.others.none_own in
-    let seen : w.seen ≡ v.seen ++ more ++ own = t.answer.is ∙ ap (λ x. x ++ own) t.others.is in
+    let seen : w.seen ≡ v.seen ++ more ++ own = is ∙ ap (λ x. x ++ own) t.others.is in
     let before : calls_of k (v.seen ++ more) ≡ calls_of k v.seen =
     filter-append (bears k) v.seen more ∙ ap (λ x. calls_of k v.seen ++ x) none ∙ append-nil (calls_of k v.seen) in
     let calls : calls_of k w.seen ≡ calls_of k v.seen ++ calls_of k own =
@@ -190,33 +195,81 @@ shared table table' same_table k handed c a v w num apart t =
     let joined_stand = each_last (Stands author_of t.met more) (pair_claim v.pair v.number) v.joined_calls t.stand.1 in
     let looks : w.looks ≡ v.looks + 1 = ap (λ (x : View Step Opening). x.looks) t.after in
     record {
-      turns = record {
-        others = more;
-        own = own;
-        seen = seen;
-        apart = none;
-        strangers = λ on.
-            let claimed = subst (λ b. Each (Stands author_of t.met more) ((v.number, v.own_calls) ∷ (pair_claim b v.number ++ v.joined_calls))) on t.stand in
-            none_both k more none (sym (by_same (input_of k) more) ∙ subst (λ n. steps_by author_of (n + 2147483648) more ≡ []) num claimed.1.0.1);
-        alone = λ h. absurd (false≢true h);
-        legal = subst (λ x. IsLegal x w.seen) (sym (opening ∙ told)) t.seen_legal.0;
-        own_calls = ap (λ n. calls_of n w.seen) (number ∙ num) ∙ calls ∙ ap (λ n. calls_of n v.seen ++ calls_of k own) (sym num);
-        looks = omega (arith, looks);
-        looked = λ _. inl (omega (arith, looks));
-        stays = record {
-          joined_calls = ap (λ (x : View Step Opening). map (with_calls w.seen) x.joined_calls) t.after
-              ∙ ap (λ h. map (with_calls h) v.joined_calls) seen
-              ∙ counted_same v.number t.met v.seen more own v.joined_calls apart joined_stand
-              (only_of v.number own (t.answer.only ∙ ap (λ n. calls_of n own) (sym num)));
-          number = ap Only number;
-          pair = ap (λ (x : View Step Opening). x.pair) t.after;
-          charter = opening;
-          alone = refl;
-          home = ap home_of same_table;
-        };
+      others = more;
+      own = own;
+      seen = seen;
+      apart = none;
+      strangers = λ on.
+          let claimed = subst (λ b. Each (Stands author_of t.met more) ((v.number, v.own_calls) ∷ (pair_claim b v.number ++ v.joined_calls))) on t.stand in
+          none_both k more none (sym (by_same (input_of k) more) ∙ subst (λ n. steps_by author_of (n + 2147483648) more ≡ []) num claimed.1.0.1);
+      alone = λ h. absurd (false≢true h);
+      legal = subst (λ x. IsLegal x w.seen) (sym (opening ∙ under)) t.seen_legal.0;
+      own_calls = ap (λ n. calls_of n w.seen) (number ∙ num) ∙ calls ∙ ap (λ n. calls_of n v.seen ++ calls_of k own) (sym num);
+      looks = omega (arith, looks);
+      looked = λ _. inl (omega (arith, looks));
+      stays = record {
+        joined_calls = ap (λ (x : View Step Opening). map (with_calls w.seen) x.joined_calls) t.after
+            ∙ ap (λ h. map (with_calls h) v.joined_calls) seen
+            ∙ counted_same v.number t.met v.seen more own v.joined_calls apart joined_stand
+            (only_of v.number own (only ∙ ap (λ n. calls_of n own) (sym num)));
+        number = ap Only number;
+        pair = ap (λ (x : View Step Opening). x.pair) t.after;
+        charter = opening;
+        alone = refl;
+        home = ap home_of same_table;
       };
-      says = subst (λ (z : Charter × List Step). TurnSays z.0 (state_after z.0 z.1) k handed c a own) (λ i. (sym told i, t.others.is i)) t.answer.says;
     }
+
+pub shared : (t t' : TableId) → t' ≡ t → (k handed : ℕ) (c : Option Call) (a : Turned) (v w : View Step Opening) → v.number ≡ k
+    → times v.number v.joined_calls ≡ 0 → TurnedBy author_of IsKept (λ o h h'. Makes o k handed c a h h') v w → Turn k handed c a (shared_pass t v) (shared_pass t' w)
+unfolding shared_turns
+shared table table' same_table k handed c a v w num apart t =
+    let under : charter_in v.charter ≡ charter_by t.charter = ap charter_in t.charter_is in
+    let own = t.answer.own in
+    record {
+      turns = shared_turns table table' same_table k (λ o h h'. Makes o k handed c a h h') v w num apart t own t.answer.is t.answer.only;
+      says = subst (λ (z : Charter × List Step). TurnSays z.0 (state_after z.0 z.1) k handed c a own) (λ i. (sym under i, t.others.is i)) t.answer.says;
+    }
+
+-- ---- a part of a log
+
+-- what a daemon's own asking for it makes
+pub part_of : (o : Opening) (ch' : Charter) (k handed : ℕ) (spec : LogSpec) (place : ℕ) (a : Part) (old new : List ℕ) (h h' : List Step)
+    → LogTurn k handed spec place a old new (pass_of (charter_by o) h) (pass_of ch' h') → MakesPart o k handed spec place a old new h h'
+part_of o ch' k handed spec place a old new h h' turn =
+    let t = turn.turns in
+    let here : h ++ t.others ≡ h = ap (λ x. h ++ x) (t.alone refl) ∙ append-nil h in
+    let at : h' ≡ h ++ t.own = t.seen ∙ ap (λ x. x ++ t.own) here in
+    let Dues : State → Type 0 = λ s. LogDues s (moment_used s handed) a t.own in
+    record {
+      own = t.own;
+      is = at;
+      only = cancel (filter is_call h) (filter is_call t.own) (calls_of k t.own)
+          (sym (filter-append is_call h t.own) ∙ sym (ap (filter is_call) at) ∙ t.own_calls);
+      dues = subst (λ x. Dues (state_after (charter_by o) x)) here turn.dues;
+      says = turn.says;
+    }
+
+pub part_by_one : (o : Opening) (k handed : ℕ) (spec : LogSpec) (place : ℕ) (a : Part) (old new : List ℕ) (h h' : List Step)
+    → MakesPart o k handed spec place a old new h h' → ByOne author_of k h h'
+part_by_one o k handed spec place a old new h h' m = record { more = m.own; is = m.is; own = only_of k m.own m.only }
+
+pub shared_part : (t t' : TableId) → t' ≡ t → (k handed : ℕ) (spec : LogSpec) (place : ℕ) (a : Part) (old new : List ℕ) (v w : View Step Opening)
+    → v.number ≡ k → times v.number v.joined_calls ≡ 0
+    → TurnedBy author_of IsKept (λ o h h'. MakesPart o k handed spec place a old new h h') v w
+    → LogTurn k handed spec place a old new (shared_pass t v) (shared_pass t' w)
+unfolding shared_turns
+shared_part table table' same_table k handed spec place a old new v w num apart t =
+    let under : charter_in v.charter ≡ charter_by t.charter = ap charter_in t.charter_is in
+    let own = t.answer.own in
+    let Dues : State → Type 0 = λ s. LogDues s (moment_used s handed) a own in
+    record {
+      turns = shared_turns table table' same_table k (λ o h h'. MakesPart o k handed spec place a old new h h') v w num apart t own t.answer.is t.answer.only;
+      dues = subst (λ (z : Charter × List Step). Dues (state_after z.0 z.1)) (λ i. (sym under i, t.others.is i)) t.answer.dues;
+      says = subst (λ ch. LogSays (state_after ch w.seen) spec place a old new) (sym under) t.answer.says;
+    }
+
+-- ---- the pass
 
 none_of_length : {A : Type 0} (l : List A) → length l ≡ 0 → l ≡ []
 none_of_length [] e = refl

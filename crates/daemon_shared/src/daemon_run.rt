@@ -69,7 +69,7 @@ pub fn run_daemon<R: Threads + Wait + Sync, D: Door>(
             let _ = back;
             let Room { rt: _, lock } = room;
             let OneDaemon { daemon } = lock.close(rt, root);
-            (worst, Some(daemon))
+            (worst, Some(Box::into_inner(daemon)))
         }
     }
 }

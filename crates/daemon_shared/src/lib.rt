@@ -5,6 +5,7 @@
 mod daemon_run;
 mod gate;
 mod hall;
+mod log_job;
 mod one_daemon;
 mod pairing;
 mod room;

@@ -17,10 +17,11 @@ pub struct Opening {
     pub greatest: u64,
 }
 
-/// A daemon behind a turnstile.
+/// A daemon behind a turnstile. It lies in a box, so that a turn that takes it out and puts it back
+/// moves a word.
 #[derive(Drop)]
 pub struct OneDaemon {
-    pub daemon: Daemon,
+    pub daemon: Box<Daemon>,
 }
 
 impl Chronicle for OneDaemon {
@@ -35,9 +36,9 @@ impl Chronicle for OneDaemon {
 
     ghost legal = { IsKept };
 
-    ghost history = { λ d. (whole_pass d.daemon).seen };
+    ghost history = { λ d. (whole_pass d.daemon.value).seen };
 
-    ghost charter = { λ d. opening_in d.daemon };
+    ghost charter = { λ d. opening_in d.daemon.value };
 
     fn steps(&self) -> u64 {
         self.daemon.steps()
@@ -58,7 +59,9 @@ pub fn open(
     ensures { IfOk result (λ r. IsPass r.0.table.shared.table_id r.1
         × (r.1.me.0 ≡ root [] (record { seed = seed; moment = moment; greatest = greatest }))) }
 {
-    let daemon = Daemon::new(alloc, seed, moment, greatest)?;
+    let Ok(daemon) = Box::new(alloc, Daemon::new(alloc, seed, moment, greatest)?) else {
+        return Err(NoMemory);
+    };
     match Turnstile::new(alloc, OneDaemon { daemon }) {
         Ok(opened) => Ok(opened),
         Err(_) => Err(NoMemory),

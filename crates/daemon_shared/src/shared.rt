@@ -7,11 +7,13 @@ ghost use Rattle.turnstile.specs.Turns.{IsPass};
 ghost use Rattle.daemon_shared.specs.Sharing.{charter_in, with_calls, shared_pass};
 ghost use Rattle.std.proofs.lemmas.List.Elements.{All-map};
 
+use crate::log_job::LogJob;
 use crate::one_daemon::OneDaemon;
 use daemon_core::Turns;
-use engine_text::Call;
-use session_model::Turned;
+use engine_text::{Call, LogSpec};
+use session_model::{Part, Turned};
 use std::alloc::Global;
+use std::mem;
 use std::sync::Wait;
 use turnstile::{Job, Pass, Turnstile};
 
@@ -99,6 +101,29 @@ impl<'a, R: Wait> Turns for Shared<'a, R> {
             call,
         };
         self.lock.turn(self.rt, &mut self.pass, &mut job)
+    }
+
+    fn log_from(
+        &mut self,
+        alloc: Global,
+        conn: u32,
+        handed: u64,
+        spec: &LogSpec,
+        place: u64,
+        out: &mut Vec<u8>,
+    ) -> Part {
+        let so_far = mem::replace(&mut *out, Vec::new(alloc));
+        let mut job = LogJob {
+            alloc,
+            conn,
+            handed,
+            spec: *spec,
+            place,
+            out: so_far,
+        };
+        let part = self.lock.turn(self.rt, &mut self.pass, &mut job);
+        *out = job.out;
+        part
     }
 
     ghost sound = { λ s. s.legal };
