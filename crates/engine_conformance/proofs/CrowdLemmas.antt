@@ -8,14 +8,19 @@ use Rattle.engine_ports.specs.Rose.{Rose}
 use Rattle.engine_text.specs.declared.call.Call.{Call}
 use Rattle.engine_text.specs.declared.call.Call.TheVariants as call
 use Rattle.engine_text.specs.declared.memory.NoMemory.{NoMemory}
+use Rattle.engine_text.specs.declared.reply.LogSpec.{LogSpec}
 use Rattle.engine_text.specs.declared.step.Step.{Step}
-use Rattle.machine_model.specs.History.{Charter, HasNone, HasNoCall, own_calls, is_own, calls_of, bears, input_of, state_after}
+use Rattle.machine_model.specs.State.{State}
+use Rattle.machine_model.specs.History.{Charter, HasNone, HasNoCall, own_calls, is_own, calls_of, bears, input_of, state_after, moment_used}
+use Rattle.session_model.specs.declared.turned.Part.{Part}
 use Rattle.session_model.specs.declared.turned.Turned.{Turned}
 use Rattle.session_model.specs.Pass.{PassView, IsConnection}
 use Rattle.session_model.specs.Turning.{Turns, Turn, TurnSays, MayAsk, HasBegun, ends_ticket}
 use Rattle.session_model.specs.Exchange.{IsQuiet}
 use Rattle.session_model.proofs.HistoryLemmas.{uncalled, quiet_same}
+use Rattle.daemon_core.specs.LogTurns.{LogTurn, LogDues, LogSays}
 use Rattle.daemon_core.specs.Storing.{pass_of, is_call}
+use Rattle.engine_conformance.specs.Bystanding.{Bystands}
 use Rattle.engine_conformance.specs.Crowding.{pass_among}
 use Rattle.engine_conformance.specs.Other.{nameless}
 
@@ -64,7 +69,7 @@ cancel (s ∷ a) x y e = cancel a x y cc
 -- ---- the other's turn
 
 -- who takes all turns meets no other's steps
-here : (j : ℕ) (ch ch' : Charter) (h h' : List Step) (t : Turns j (pass_of ch h) (pass_of ch' h')) → h ++ t.others ≡ h
+pub here : (j : ℕ) (ch ch' : Charter) (h h' : List Step) (t : Turns j (pass_of ch h) (pass_of ch' h')) → h ++ t.others ≡ h
 here j ch ch' h h' t = ap (λ x. h ++ x) (t.alone refl) ∙ append-nil h
 
 -- another's turn is quiet
@@ -77,32 +82,19 @@ quiet_by j k ch ch' h h' fits fits' apart t =
     (sym (filter-append is_call h t.own) ∙ sym (ap (filter is_call) at) ∙ t.own_calls) in
     (t.own, none_else j k t.own fits fits' apart same, at)
 
--- what it leaves behind: a history with no step of ours, of the same daemon
-pub record Bystands (k : ℕ) (p q : PassView) : Type 0 where
-  pub quiet : IsQuiet k p.seen q.seen
-  pub charter : q.charter ≡ p.charter
-
-bystands_own : (r : Result Turned NoMemory) (j k handed : ℕ) (ch ch' : Charter) (h h' : List Step)
+-- what it leaves behind
+pub bystands : (r : Result Turned NoMemory) (j k handed : ℕ) (ch ch' : Charter) (h h' : List Step)
     → IsConnection j → IsConnection k → IsFalse (k == j)
     → IfOk r (λ t. Turn j handed (Some nameless) t (pass_of ch h) (pass_of ch' h'))
     → OnErr r (pass_of ch' h' ≡ pass_of ch h) → Bystands k (pass_of ch h) (pass_of ch' h')
-bystands_own (Ok x) j k handed ch ch' h h' fits fits' apart made _ = record {
+bystands (Ok x) j k handed ch ch' h h' fits fits' apart made _ = record {
   quiet = quiet_by j k ch ch' h h' fits fits' apart made.turns;
   charter = made.turns.stays.charter;
 }
-bystands_own (Err x) j k handed ch ch' h h' fits fits' apart _ same = record {
+bystands (Err x) j k handed ch ch' h h' fits fits' apart _ same = record {
   quiet = subst (λ (q : PassView). IsQuiet k h q.seen) (sym same) (quiet_same k h);
   charter = ap (λ (q : PassView). q.charter) same;
 }
-
--- by the number that the connection has
-pub bystands : (r : Result Turned NoMemory) (j own k handed : ℕ) (ch ch' : Charter) (h h' : List Step)
-    → own ≡ k → IsConnection j → IsConnection own → IsFalse (own == j)
-    → IfOk r (λ t. Turn j handed (Some nameless) t (pass_of ch h) (pass_of ch' h'))
-    → OnErr r (pass_of ch' h' ≡ pass_of ch h) → Bystands k (pass_of ch h) (pass_of ch' h')
-bystands r j own k handed ch ch' h h' is fits fits' apart made same =
-    subst (λ n. Bystands n (pass_of ch h) (pass_of ch' h')) is
-    (bystands_own r j own handed ch ch' h h' fits fits' apart made same)
 
 -- ---- the own turn behind it
 
@@ -149,12 +141,11 @@ rises l r is = rises_by (nat_lt l 18446744073709551615) l r refl is
 pub not_less : (l r : ℕ) → l < 18446744073709551616 → r ≡ min (l + 1) 18446744073709551615 → l ≤ r
 not_less l r fits is = grind (arith, fits, is)
 
-pub turn_behind : (k handed : ℕ) (c : Option Call) (result : Turned) (ch ch' ch'' : Charter) (h h' h'' : List Step)
-    → Bystands k (pass_of ch h) (pass_of ch' h') → Turn k handed c result (pass_of ch' h') (pass_of ch'' h'')
-    → (looks looks' : ℕ) → looks ≤ looks' → Rose looks looks'
-    → Turn k handed c result (pass_among k looks (pass_of ch h)) (pass_among k looks' (pass_of ch'' h''))
-turn_behind k handed c result ch ch' ch'' h h' h'' by turn looks looks' later rose =
-    let t = turn.turns in
+-- steps of the own turn, with the other's before them
+unfoldable pub turns_behind : (k : ℕ) (ch ch' ch'' : Charter) (h h' h'' : List Step) → Bystands k (pass_of ch h) (pass_of ch' h')
+    → Turns k (pass_of ch' h') (pass_of ch'' h'') → (looks looks' : ℕ) → looks ≤ looks' → Rose looks looks'
+    → Turns k (pass_among k looks (pass_of ch h)) (pass_among k looks' (pass_of ch'' h''))
+turns_behind k ch ch' ch'' h h' h'' by t looks looks' later rose =
     let others = by.quiet.0 in
     let none : HasNone k others = by.quiet.1 in
     let met : h' ++ t.others ≡ h ++ others = here k ch' ch'' h' h'' t ∙ by.quiet.2 in
@@ -163,21 +154,49 @@ turn_behind k handed c result ch ch' ch'' h h' h'' by turn looks looks' later ro
     let before : calls_of k (h ++ others) ≡ calls_of k h =
     filter-append (bears k) h others ∙ ap (λ x. calls_of k h ++ x) (uncalled k others none) ∙ append-nil (calls_of k h) in
     record {
-      turns = record {
-        others = others;
-        own = t.own;
-        seen = at;
-        apart = uncalled k others none;
-        strangers = λ _. none;
-        alone = λ e. absurd (false≢true e);
-        legal = t.legal;
-        own_calls = ap (calls_of k) at ∙ filter-append (bears k) (h ++ others) t.own ∙ ap (λ x. x ++ calls_of k t.own) before;
-        looks = later;
-        looked = λ _. rose;
-        stays = record { joined_calls = refl; number = refl; pair = refl; charter = charter; alone = refl; home = refl };
-      };
-      says = subst (λ x. TurnSays x (state_after x (h ++ others)) k handed c result t.own) by.charter
-          (subst (λ x. TurnSays ch' (state_after ch' x) k handed c result t.own) met turn.says);
+      others = others;
+      own = t.own;
+      seen = at;
+      apart = uncalled k others none;
+      strangers = λ _. none;
+      alone = λ e. absurd (false≢true e);
+      legal = t.legal;
+      own_calls = ap (calls_of k) at ∙ filter-append (bears k) (h ++ others) t.own ∙ ap (λ x. x ++ calls_of k t.own) before;
+      looks = later;
+      looked = λ _. rose;
+      stays = record { joined_calls = refl; number = refl; pair = refl; charter = charter; alone = refl; home = refl };
+    }
+
+-- the history that the own turn met
+met_behind : (k : ℕ) (ch ch' ch'' : Charter) (h h' h'' : List Step) (by : Bystands k (pass_of ch h) (pass_of ch' h'))
+    → (t : Turns k (pass_of ch' h') (pass_of ch'' h'')) → h' ++ t.others ≡ h ++ by.quiet.0
+met_behind k ch ch' ch'' h h' h'' by t = here k ch' ch'' h' h'' t ∙ by.quiet.2
+
+pub turn_behind : (k handed : ℕ) (c : Option Call) (result : Turned) (ch ch' ch'' : Charter) (h h' h'' : List Step)
+    → Bystands k (pass_of ch h) (pass_of ch' h') → Turn k handed c result (pass_of ch' h') (pass_of ch'' h'')
+    → (looks looks' : ℕ) → looks ≤ looks' → Rose looks looks'
+    → Turn k handed c result (pass_among k looks (pass_of ch h)) (pass_among k looks' (pass_of ch'' h''))
+unfolding turns_behind
+turn_behind k handed c result ch ch' ch'' h h' h'' by turn looks looks' later rose = record {
+  turns = turns_behind k ch ch' ch'' h h' h'' by turn.turns looks looks' later rose;
+  says = subst (λ x. TurnSays x (state_after x (h ++ by.quiet.0)) k handed c result turn.turns.own) by.charter
+      (subst (λ x. TurnSays ch' (state_after ch' x) k handed c result turn.turns.own)
+      (met_behind k ch ch' ch'' h h' h'' by turn.turns) turn.says);
+}
+
+-- a part of a log was told behind it
+pub log_behind : (k handed : ℕ) (spec : LogSpec) (place : ℕ) (part : Part) (old new : List ℕ) (ch ch' ch'' : Charter) (h h' h'' : List Step)
+    → Bystands k (pass_of ch h) (pass_of ch' h') → LogTurn k handed spec place part old new (pass_of ch' h') (pass_of ch'' h'')
+    → (looks looks' : ℕ) → looks ≤ looks' → Rose looks looks'
+    → LogTurn k handed spec place part old new (pass_among k looks (pass_of ch h)) (pass_among k looks' (pass_of ch'' h''))
+unfolding turns_behind
+log_behind k handed spec place part old new ch ch' ch'' h h' h'' by turn looks looks' later rose =
+    let Dues : State → Type 0 = λ s. LogDues s (moment_used s handed) part turn.turns.own in
+    record {
+      turns = turns_behind k ch ch' ch'' h h' h'' by turn.turns looks looks' later rose;
+      dues = subst (λ x. Dues (state_after x (h ++ by.quiet.0))) by.charter
+          (subst (λ x. Dues (state_after ch' x)) (met_behind k ch ch' ch'' h h' h'' by turn.turns) turn.dues);
+      says = subst (λ x. LogSays (state_after x h'') spec place part old new) by.charter turn.says;
     }
 
 -- by the number that the connection has
@@ -187,3 +206,10 @@ pub turn_numbered : (looks looks' own own' k handed : ℕ) (c : Option Call) (re
 turn_numbered looks looks' own own' k handed c result p q is same turn =
     subst (λ n. Turn k handed c result (pass_among own looks p) (pass_among n looks' q)) (sym (same ∙ is))
     (subst (λ n. Turn k handed c result (pass_among n looks p) (pass_among k looks' q)) (sym is) turn)
+
+pub log_numbered : (looks looks' own own' k handed : ℕ) (spec : LogSpec) (place : ℕ) (part : Part) (old new : List ℕ) (p q : PassView)
+    → own ≡ k → own' ≡ own → LogTurn k handed spec place part old new (pass_among k looks p) (pass_among k looks' q)
+    → LogTurn k handed spec place part old new (pass_among own looks p) (pass_among own' looks' q)
+log_numbered looks looks' own own' k handed spec place part old new p q is same turn =
+    subst (λ n. LogTurn k handed spec place part old new (pass_among own looks p) (pass_among n looks' q)) (sym (same ∙ is))
+    (subst (λ n. LogTurn k handed spec place part old new (pass_among n looks p) (pass_among k looks' q)) (sym is) turn)

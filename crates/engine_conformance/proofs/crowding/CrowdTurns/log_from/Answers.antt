@@ -1,0 +1,19 @@
+use Rattle.std.proofs.Common.{subst}
+use Rattle.daemon_core.specs.Passing.{charter, whole_pass}
+use Rattle.engine_conformance.specs.Bystanding.{Bystands}
+use Rattle.engine_conformance.proofs.CrowdLemmas.{log_behind, log_numbered}
+use Rattle.engine_conformance.proofs.crowding.CrowdTurns.log_from.Goals as goal
+
+pub returns : goal.returns
+returns c =
+    let s = c.args.self.now in
+    let d = s.daemon in
+    let d' = c.let_other.new.self.daemon in
+    let d'' = c.log_from.new.self in
+    let by : Bystands c.args.conn (whole_pass d) (whole_pass d') =
+    subst (λ n. Bystands n (whole_pass d) (whole_pass d')) c.requires.number c.let_other.ensures.stands in
+    log_numbered _ _ s.own c.let_other.new.self.own c.args.conn c.args.handed _ c.args.place c.log_from.result _ _ (whole_pass d) (whole_pass d'')
+    c.requires.number c.let_other.ensures.own
+    (log_behind c.args.conn c.args.handed _ c.args.place c.log_from.result _ _ (charter d) (charter d') (charter d'')
+    d.stored.steps.items d'.stored.steps.items d''.stored.steps.items by c.log_from.ensures _ _
+    c.let_other.ensures.later c.let_other.ensures.looked)
