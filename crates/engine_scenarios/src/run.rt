@@ -21,7 +21,7 @@ struct Ran {
     sink: MemSink,
 }
 
-// Runs the daemon over these bytes, at most `cut` of them at once.
+// Runs the daemon over these bytes, at most `cut` of them at once; that pause is answered by a stop.
 fn run_over<R: Threads + Wait + Sync + AllocGlobal>(
     rt: &R,
     words: &[Text],
@@ -29,12 +29,13 @@ fn run_over<R: Threads + Wait + Sync + AllocGlobal>(
     cut: usize,
     failing_reads: &[u64],
     failing_writes: &[u64],
+    stop_at: Option<u64>,
 ) -> Result<Ran, NoMemory>
     requires { 0 < cut }
 {
     let mut source = MemSource::new(rt.alloc(), bytes, cut, failing_reads)?;
     let mut sink = MemSink::new(rt.alloc(), failing_writes)?;
-    let mut clock = StepClock::new(MOMENT, 0, None);
+    let mut clock = StepClock::new(MOMENT, 0, stop_at);
     let status = run_engined(
         rt,
         rt.alloc(),
@@ -68,7 +69,7 @@ fn tell_cuts<R: Threads + Wait + Sync + AllocGlobal + Print>(
 ) -> io::Result<()> {
     let mut as_cut = 0u64;
     for length in 1..bytes.len() {
-        let Ok(ran) = run_over(rt, words, &bytes[..length], 4096, &[], &[]) else {
+        let Ok(ran) = run_over(rt, words, &bytes[..length], 4096, &[], &[], None) else {
             return println!(rt; "out of memory");
         };
         let written = ran.sink.bytes().len();
@@ -99,7 +100,7 @@ pub fn tell<R: Threads + Wait + Sync + AllocGlobal + Files + Print>(
             if cut == 0 {
                 return println!(rt; "no piece has no byte");
             }
-            tell_ran(rt, run_over(rt, words, bytes, cut, &[], &[]))
+            tell_ran(rt, run_over(rt, words, bytes, cut, &[], &[], None))
         }
         Coming::Cuts => {
             println!(rt; "== {name} cut after each byte")?;
@@ -107,11 +108,15 @@ pub fn tell<R: Threads + Wait + Sync + AllocGlobal + Files + Print>(
         }
         Coming::FailingRead(number) => {
             println!(rt; "== {name} with read {number} failing")?;
-            tell_ran(rt, run_over(rt, words, bytes, 4096, &[number], &[]))
+            tell_ran(rt, run_over(rt, words, bytes, 4096, &[number], &[], None))
         }
         Coming::FailingWrite(number) => {
             println!(rt; "== {name} with write {number} failing")?;
-            tell_ran(rt, run_over(rt, words, bytes, 4096, &[], &[number]))
+            tell_ran(rt, run_over(rt, words, bytes, 4096, &[], &[number], None))
+        }
+        Coming::StoppedPause(number) => {
+            println!(rt; "== {name} with pause {number} stopped")?;
+            tell_ran(rt, run_over(rt, words, bytes, 4096, &[], &[], Some(number)))
         }
     }
 }

@@ -14,6 +14,8 @@ pub enum Coming {
     /// The read or the write of that number, from 0, fails.
     FailingRead(u64),
     FailingWrite(u64),
+    /// The pause of that number, from 0, is answered by a stop.
+    StoppedPause(u64),
 }
 
 /// A file of `data/`, how its bytes come, and the words of the daemon's line.
@@ -24,7 +26,7 @@ pub struct Scenario {
     pub words: Vec<Text>,
 }
 
-// `cuts`, `pieces=N`, `read=N` or `write=N`.
+// `cuts`, `pieces=N`, `read=N`, `write=N` or `stop=N`.
 fn read_coming(word: &str) -> Option<Coming> {
     if word == "cuts" {
         return Some(Coming::Cuts);
@@ -34,6 +36,7 @@ fn read_coming(word: &str) -> Option<Coming> {
         "pieces" => Some(Coming::Pieces(number.parse().ok()?)),
         "read" => Some(Coming::FailingRead(number.parse().ok()?)),
         "write" => Some(Coming::FailingWrite(number.parse().ok()?)),
+        "stop" => Some(Coming::StoppedPause(number.parse().ok()?)),
         _ => None,
     }
 }
