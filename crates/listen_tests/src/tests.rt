@@ -2,7 +2,9 @@
 // side by side, and whole runs, over ports in memory and over real sockets.
 mod clients;
 mod listening;
+mod logs;
 mod memory;
 mod program;
 mod requests;
 mod sockets;
+mod waits;

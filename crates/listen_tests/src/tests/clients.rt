@@ -46,6 +46,20 @@ pub fn tells(
     Ok(is_told)
 }
 
+/// Whether the bytes that come next are just these. It waits for as many.
+pub fn goes_on(mut stream: &TcpStream, text: &str) -> io::Result<bool> {
+    let mut place = [0; PLACE];
+    let count = text.len().min(PLACE);
+    stream.read_exact(&mut place[..count])?;
+    Ok(&place[..count] == text.as_bytes())
+}
+
+/// Sends a request, and tells whether just this comes back.
+pub fn is_answered(stream: &TcpStream, request: &str, answer: &str) -> io::Result<bool> {
+    send(stream, request)?;
+    goes_on(stream, answer)
+}
+
 /// Two orders between two connections, which only side by side can both be kept: the first creates
 /// `web` and stays; only then the second creates `db`; only then the first lists both. A third that
 /// comes behind them lists both.

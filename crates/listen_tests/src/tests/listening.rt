@@ -1,5 +1,6 @@
 // The program with a line that listens.
 use super::clients::{keep_two_orders, leave_halfway};
+use super::waits::wait_before_the_start;
 use engine_ports::{Door, MemSink, MemSource, NoMemory, StepClock, TcpDoor};
 use engine_program::run_engined;
 use engine_text::Text;
@@ -51,6 +52,24 @@ fn connections_at_the_port_of_the_line_are_served(rt: HostRuntime) -> Result<(),
         &rt,
         || -> Result<(u8, bool), NoMemory> { runs(&rt, &words, &mut door) },
         || -> io::Result<bool> { keep_two_orders(&rt, alloc, port) },
+    );
+    assert_eq!(rt; ran, Ok((0, true)));
+    assert!(rt; told.unwrap_or(false));
+    Ok(())
+}
+
+#[test]
+fn a_wait_before_the_start_is_answered(rt: HostRuntime) -> Result<(), Fail> {
+    let alloc = rt.alloc();
+    let free = TcpListener::bind(&rt, "127.0.0.1:0")?;
+    let port = free.local_addr()?.port();
+    drop(free);
+    let words = words_of(alloc, port, "3")?;
+    let mut door = TcpDoor::new(&rt, alloc);
+    let (ran, told) = join(
+        &rt,
+        || -> Result<(u8, bool), NoMemory> { runs(&rt, &words, &mut door) },
+        || -> io::Result<bool> { wait_before_the_start(&rt, port) },
     );
     assert_eq!(rt; ran, Ok((0, true)));
     assert!(rt; told.unwrap_or(false));

@@ -1,5 +1,7 @@
 // Connections of one daemon through a door in memory, each in a thread of its own.
-use super::requests::{IDS, LIST, MOMENT, create};
+use super::requests::{
+    CREATE_TICKS, FOLLOW_TICKS, IDS, LAST_CHUNK, LIST, LOG_HEAD, MOMENT, START_TICKS, TICK, create,
+};
 use daemon_shared::run_daemon;
 use engine_ports::{MemDoor, MemSink, MemSource, NoMemory, StepClock};
 use session_model::Worst;
@@ -79,5 +81,39 @@ fn a_list_beside_a_create_shows_it_or_not(rt: HostRuntime) -> Result<(), Fail> {
     let before = answered(&door, "HTTP/1.1 200 OK\r\n", "\r\n\r\n[]");
     let behind = answered(&door, "HTTP/1.1 200 OK\r\n", IDS[0]);
     assert!(rt; (before == 1) != (behind == 1));
+    Ok(())
+}
+
+/// Whether the connection of that number was written to its end by these texts, one behind the other.
+fn ends_with(door: &MemDoor<StepClock>, number: u32, parts: &[&str]) -> bool {
+    for gone in door.past() {
+        if gone.number == number {
+            let mut left = gone.parts.into.bytes();
+            for part in parts.iter().rev() {
+                match left.strip_suffix(part.as_bytes()) {
+                    Some(rest) => left = rest,
+                    None => return false,
+                }
+            }
+            return true;
+        }
+    }
+    false
+}
+
+/// A log that is read while its container runs on, and another connection looks at it.
+#[test]
+fn a_log_is_followed_beside_lists(rt: HostRuntime) -> Result<(), Fail> {
+    let alloc = rt.alloc();
+    let mut follows = String::new(alloc);
+    for request in [CREATE_TICKS, START_TICKS, FOLLOW_TICKS] {
+        follows.push_str(request)?;
+    }
+    let mut door = door_of(alloc, &[follows.as_str(), LIST, LIST])?;
+    let (worst, daemon) = run_daemon(&rt, alloc, [0; 32], MOMENT, 100, None, None, &mut door);
+    assert_eq!(rt; worst, Worst::Closed);
+    drop(daemon);
+    let parts = [LOG_HEAD, TICK, TICK, TICK, LAST_CHUNK];
+    assert!(rt; ends_with(&door, 0, &parts));
     Ok(())
 }

@@ -11,7 +11,7 @@ use std::test::Fail;
 use std::thread::{Threads, join};
 
 /// The worst of all sessions of a daemon that takes in so many connections at this address.
-fn worst_of<R: Threads + Wait + Sync + AllocGlobal, D: Door>(
+pub(super) fn worst_of<R: Threads + Wait + Sync + AllocGlobal, D: Door>(
     rt: &R,
     addr: &str,
     most: u32,
