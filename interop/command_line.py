@@ -71,6 +71,68 @@ step("logs --timestamps web", r"\d{4}-\d\d-\d\dT\d\d:\d\d:\d\d\.\d{9}Z hi")
 step("logs --follow web", "hi")
 step("logs --since 2000-01-01T00:00:00Z web", "hi")
 step("logs --until 2000-01-01T00:00:00Z web", "")
+step("logs nobody", ".*No such container: nobody.*", 1)
+
+
+def apart(line, on_stdout, on_stderr):
+    """A step whose output and message are these, each by itself."""
+    ended, out, message = typed(line)
+    if is_absent(message):
+        return steps.tell(line, absent=True)
+    same = (ended, out, message) == (0, on_stdout, on_stderr)
+    return steps.tell(line, None if same else f"status {ended}, {out!r} and {message!r}")
+
+
+def follow(line, pattern, ends, seconds=20):
+    """A step that follows, while a second command makes an end of it."""
+    words = ["docker", *shlex.split(line)]
+    with subprocess.Popen(words, stdout=subprocess.PIPE, stderr=subprocess.STDOUT, text=True, stdin=subprocess.DEVNULL) as run:
+        first = run.stdout.readline()
+        ended = typed(ends)[0]
+        try:
+            rest = run.communicate(timeout=seconds)[0]
+        except subprocess.TimeoutExpired:
+            run.kill()
+            return steps.tell(line, f"no end within {seconds} seconds")
+    if is_absent(first):
+        return steps.tell(line, absent=True)
+    same = ended == 0 and run.returncode == 0 and re.fullmatch(pattern, (first + rest).strip(), re.DOTALL)
+    return steps.tell(line, None if same else f"status {run.returncode}: {first + rest!r} isn't {pattern!r}")
+
+
+# a log as it grows, by its last lines, and from and to each of its moments
+step(f"create --name ticks {TOOLS} tick 3 300", ID)
+step("start ticks", "ticks")
+step("logs --follow ticks", "tick\ntick\ntick")
+state("ticks", "exited 0")
+for tail, lines in (("0", 0), ("1", 1), ("2", 2), ("3", 3), ("4", 3), ("all", 3)):
+    step(f"logs --tail {tail} ticks", "\n".join(["tick"] * lines))
+told = [line.split(" ")[0] for line in typed("logs --timestamps ticks")[1].splitlines()]
+steps.tell("its three moments rise", None if len(told) == 3 and told == sorted(set(told)) else f"they are {told}")
+for moment, since, until in zip(told, (3, 2, 1), (1, 2, 3)):
+    step(f"logs --since {moment} ticks", "\n".join(["tick"] * since))
+    step(f"logs --until {moment} ticks", "\n".join(["tick"] * until))
+    step(f"logs --since {moment} --until {moment} ticks", "tick")
+    step(f"logs --timestamps --tail 1 --until {moment} ticks", re.escape(f"{moment} tick"))
+step("rm ticks", "ticks")
+step("logs ticks", ".*No such container: ticks.*", 1)
+
+# the two streams apart, over a restart, and a log that ends with its container
+step(f"create --name two --restart on-failure:3 {TOOLS} flaky 1", ID)
+step("start two", "two")
+state("two", "exited 0")
+apart("logs two", "ok\n", "attempt 1\n")
+apart("logs --tail 1 two", "ok\n", "")
+step("rm two", "two")
+step(f"create --name lasting {TOOLS} tick 0 100", ID)
+step("start lasting", "lasting")
+follow("logs --follow lasting", "tick(\ntick)*", "rm --force lasting")
+step(f"create --name long {TOOLS} noise 100000", ID)
+step("start long", "long")
+state("long", "exited 0")
+step("logs long", "x{100000}")
+step("logs --timestamps long", r"(\d{4}-\d\d-\d\dT\d\d:\d\d:\d\d\.\d{9}Z x+){4}")
+step("rm long", "long")
 
 # signals, stops and waits
 step(f"create --name deaf --label tier=back {TOOLS} deaf", ID)
