@@ -1,5 +1,6 @@
 #!/usr/bin/env python3
-"""Waits of many connections for one container: what they cost while they wait, and how soon they are answered.
+"""Waits of many connections for one container: what they cost while they wait, and how soon they are answered; and what as
+many threads cost that only sleep.
 
 waiters.py PATH_OF_ENGINED [COUNT] [PORT]
 """
@@ -9,8 +10,10 @@ import select
 import socket
 import subprocess
 import sys
+import tempfile
 import time
 
+HERE = os.path.dirname(os.path.abspath(__file__))
 SECONDS = 10
 WAIT = b"POST /containers/web/wait HTTP/1.1\r\nHost: x\r\n%b\r\n"
 
@@ -67,8 +70,22 @@ def answers(links, ends):
     return first * 1000, (time.monotonic() - begun) * 1000
 
 
+def sleepers(count):
+    """The share of as many threads that sleep 50 ms again and again."""
+    with tempfile.TemporaryDirectory() as folder:
+        program = f"{folder}/sleepers"
+        subprocess.run(["cc", "-O2", "-pthread", "-o", program, f"{HERE}/sleepers.c"], check=True)
+        with subprocess.Popen([program, str(count)]) as process:
+            try:
+                time.sleep(2)
+                return used(process.pid, SECONDS)
+            finally:
+                process.kill()
+
+
 def main(engined, count=1000, port=23751):
     count, port = int(count), int(port)
+    print(f"{count} threads that only sleep: {sleepers(count) * 100:.1f}% of a processor", flush=True)
     with subprocess.Popen([engined, "--listen", f"127.0.0.1:{port}"], stdin=subprocess.DEVNULL) as daemon:
         try:
             for _ in range(100):
@@ -89,6 +106,13 @@ def main(engined, count=1000, port=23751):
                       f"the last after {last:.0f} ms", flush=True)
                 for link in links:
                     link.close()
+            late = []
+            for _ in range(5):
+                ask(port, "POST", "/containers/web/start")
+                begun = time.monotonic()
+                ask(port, "POST", "/containers/web/stop?t=1")
+                late.append((time.monotonic() - begun - 1) * 1000)
+            print(f"five stops with a deadline of a second: answered {min(late):.0f} to {max(late):.0f} ms behind it", flush=True)
         finally:
             daemon.kill()
 
