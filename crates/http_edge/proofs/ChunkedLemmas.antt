@@ -1,10 +1,9 @@
 -- Bytes spell one body by chunks at most, and none where they are refused or cut.
 use Rattle.std.proofs.Common.{arith, ◌≡◌, ◌<◌, ◌≤◌, ℕ, List, [], ◌∷◌, ◌++◌, length, ◌+◌, sym, ap, subst, refl, ◌∙◌, append_assoc, length-append}
 use Rattle.std.specs.Prelude.{codes, All}
-use Rattle.std.proofs.lemmas.List.{append_cancel_left}
 use Rattle.std.proofs.lemmas.List.Elements.{All-head, All-tail}
-use Rattle.http_edge.specs.Parts.{IsText, IsPart}
-use Rattle.http_edge.specs.Chunked.{Chunk, IsChunk, print_open, print_chunks, joined, BeginsWithChunks, SpellsChunks, RefusesNext, by_line, by_sum, by_end, by_trailers, CutsNext, in_line, in_chunk, in_end, in_trailers, RefusesChunks, CutsChunks}
+use Rattle.http_edge.specs.Parts.{IsPart}
+use Rattle.http_edge.specs.Chunked.{Chunk, IsChunk, print_open, print_chunks, joined, SpellsChunks, RefusesNext, by_line, by_sum, by_end, by_trailers, CutsNext, in_line, in_chunk, in_end, in_trailers, RefusesChunks, CutsChunks}
 use Rattle.http_edge.specs.declared.parts.Part.TheVariants.{Line, End, Trailers}
 use Rattle.http_edge.proofs.PartLemmas.{same_parts, part_unique, refused_part, cut_part, refused_longer}
 

@@ -1,16 +1,15 @@
 -- What reads of a body by chunks say, part by part.
 use Rattle.std.proofs.Common.{arith, ◌≡◌, ◌<◌, ◌≤◌, inl, inr, ℕ, List, [], ◌∷◌, length, ◌+◌, ◌*◌, ◌++◌, take, drop, sym, ap, subst, refl, ◌∙◌, length-append, append_assoc, append-nil, length-take, length-drop, take-append-drop}
-use Rattle.std.specs.Prelude.{codes, min, All}
+use Rattle.std.specs.Prelude.{codes, All}
 use Rattle.std.proofs.lemmas.List.{drop_at, take_all}
 use Rattle.std.proofs.lemmas.List.Elements.{All-nil, All-push}
-use Rattle.std.specs.List.{flat_map}
 use Rattle.std.proofs.lemmas.Grind.{flat_map-append}
 use Rattle.engine_ports.specs.Rose.{Rose}
 use Rattle.engine_ports.specs.Source.{SourceView, SourceEnded}
 use Rattle.engine_ports.proofs.PortLemmas.{source_none, source_on}
 use Rattle.http_edge.specs.Parts.{part_limit, part_window, IsPart, HasNoPart, NeverHasPart, MayBecomePart, RefusesPart, CutsPart}
 use Rattle.http_edge.specs.Chunked.{Chunk, IsChunk, print_open, print_chunks, joined, RefusesNext, by_line, by_sum, by_end, by_trailers, CutsNext, in_line, in_chunk, in_end, in_trailers, RefusesChunks, CutsChunks}
-use Rattle.http_edge.specs.Chunking.{PartBy, PartFacts, PartSays, GrowSays, ChunkBy, LastBy, ChunkSays, BehindLine}
+use Rattle.http_edge.specs.Chunking.{PartBy, PartFacts, GrowSays, ChunkBy, LastBy, ChunkSays, BehindLine}
 use Rattle.http_edge.specs.Bodies.{BodyBy}
 use Rattle.http_edge.specs.Reading.{Fills, Reached, FillSays}
 use Rattle.http_edge.specs.declared.framing.Framing.TheVariants.{Chunked}

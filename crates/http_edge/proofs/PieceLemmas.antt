@@ -1,8 +1,8 @@
 -- What the parser says of bytes, as parts of a body by chunks.
-use Rattle.std.proofs.Common.{arith, ◌≡◌, ◌<◌, ◌≤◌, ℕ, List, [], ◌∷◌, ◌++◌, length, get_or, sym, ap, subst, refl, ◌∙◌, append-nil, length-append}
+use Rattle.std.proofs.Common.{arith, ◌≡◌, ◌<◌, ◌≤◌, ℕ, List, [], ◌∷◌, ◌++◌, length, get_or, ap, refl, ◌∙◌, append-nil, length-append}
 use Rattle.std.specs.Prelude.{codes}
 use Rattle.httparse.specs.Grammar.{print_chunk_line, HasNoChunkLine, NeverHasChunkLine, MayBecomeChunkLine, print_section, HasNoSection, NeverHasSection, MayBecomeSection, chunk_size}
-use Rattle.http_edge.specs.Parts.{IsText, HasNoPart, NeverHasPart, MayBecomePart}
+use Rattle.http_edge.specs.Parts.{HasNoPart, NeverHasPart, MayBecomePart}
 use Rattle.http_edge.specs.declared.parts.Part.TheVariants.{Line, End, Trailers}
 
 no_line : (bytes : List ℕ) → HasNoChunkLine bytes → HasNoPart Line bytes

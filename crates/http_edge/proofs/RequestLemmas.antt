@@ -13,9 +13,7 @@ use Rattle.httparse.specs.Spans.{span_bytes, header_bytes, IsWithin, IsHeaderWit
 use Rattle.httparse.specs.declared.spans.Span.{Span}
 use Rattle.httparse.specs.declared.spans.HeaderSpan.{HeaderSpan}
 use Rattle.httparse.specs.declared.spans.RequestSpans.{RequestSpans}
-use Rattle.engine_ports.specs.Rose.{Rose}
 use Rattle.engine_ports.specs.Source.{SourceView, SourceEnded}
-use Rattle.engine_ports.proofs.PortLemmas.{source_on, rose_since}
 use Rattle.http_edge.specs.Framing.{framing_of}
 use Rattle.http_edge.specs.Spelling.{head_framing, SpellsBody, HasNoRequest}
 use Rattle.http_edge.specs.Refusal.{BeginsWithHead, RefusesBody, CutsBody, IsRefused, never, too_long, by_framing, IsUnfinished, in_head, in_body}

@@ -5,10 +5,9 @@ use Rattle.std.specs.Char.{is_ascii_hexdigit}
 use Rattle.std.proofs.lemmas.Bool.{cases_lt, cases_Bool}
 use Rattle.std.proofs.lemmas.List.{take-append-drop, length-take-le}
 use Rattle.std.proofs.lemmas.List.Elements.{All-nil, All-cons, All-head, All-tail}
-use Rattle.httparse.specs.Grammar.{is_ows, is_extension_byte, AllPass, LineEnd, crlf, print_end, ChunkLine, print_chunk_line, chunk_size, print_section}
-use Rattle.httparse.specs.Pieces.{Piece, Begins, Then, Stops, Run, HexDigits, Extension, Chunk as Pieces, Section}
+use Rattle.httparse.specs.Grammar.{is_ows, is_extension_byte, AllPass, crlf, print_end, print_chunk_line, chunk_size, print_section}
+use Rattle.httparse.specs.Pieces.{Then, Run, HexDigits, Extension, Chunk as Pieces, Section}
 use Rattle.httparse.proofs.ChunkLemmas.{Run_deterministic, HexDigits_deterministic, chunk_line, chunk_pieces, chunk_from_pieces}
-use Rattle.httparse.proofs.RunLemmas.{run_unstopped}
 use Rattle.http_edge.specs.Parts.{part_limit, IsText, IsPart}
 use Rattle.http_edge.specs.Chunked.{Chunk, IsChunk, print_open, print_chunks, joined, SpellsChunks}
 use Rattle.http_edge.specs.declared.parts.Part.{Part}

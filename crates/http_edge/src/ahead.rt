@@ -16,7 +16,7 @@ const FIRST_PLACE: usize = 4_096;
 /// The bytes that were read and not yet taken, in order: at most as many as a head may have. There is
 /// room for as many; a place of it is written only where it is needed.
 #[derive(Drop)]
-pub(crate) struct Ahead {
+pub struct Ahead {
     bytes: Vec<u8>,
     used: usize,
     len: usize,
@@ -37,7 +37,7 @@ impl Model for Ahead {
 
 impl Ahead {
     /// Takes the memory of a head.
-    pub(crate) fn new(alloc: Global) -> Result<Ahead, NoMemory>
+    pub fn new(alloc: Global) -> Result<Ahead, NoMemory>
         ensures { IfOk result (λ a. a ≡ []) }
     {
         let mut bytes = Vec::with_capacity(alloc, HEAD_LIMIT)?;
@@ -49,21 +49,23 @@ impl Ahead {
         })
     }
 
-    pub(crate) fn len(&self) -> usize
+    /// How many bytes stand here: at most 16,384.
+    pub fn len(&self) -> usize
         ensures count { result ≡ length self.now }
         ensures within { length self.now ≤ head_limit }
     {
         self.len - self.used
     }
 
-    pub(crate) fn as_slice(&self) -> &[u8]
+    /// The bytes that stand here.
+    pub fn as_slice(&self) -> &[u8]
         ensures { result.now ≡ self.now }
     {
         &self.bytes[self.used..self.len]
     }
 
     /// Drops so many bytes at the front.
-    pub(crate) fn skip(&mut self, count: usize)
+    pub fn skip(&mut self, count: usize)
         requires { count ≤ length self.old }
         ensures { self.new ≡ drop count self.old }
     {
@@ -71,7 +73,7 @@ impl Ahead {
     }
 
     /// Moves as many bytes to the place as there are and have room, and answers how many.
-    pub(crate) fn take(&mut self, into: &mut [u8]) -> usize
+    pub fn take(&mut self, into: &mut [u8]) -> usize
         ensures count { result ≡ min (length self.old) (length into.new) }
         ensures front { take result into.new ≡ take result self.old }
         ensures left { self.new ≡ drop result self.old }
@@ -82,7 +84,7 @@ impl Ahead {
     }
 
     /// Reads on behind the bytes that stand here, where there is room for more.
-    pub(crate) fn read<S: Source>(&mut self, source: &mut S) -> Got
+    pub fn read<S: Source>(&mut self, source: &mut S) -> Got
         requires { length self.old < head_limit }
         ensures reads { ReadsMore result self.old self.new (S.gives source.old) (S.gives source.new) }
         ensures within { length self.new ≤ head_limit }

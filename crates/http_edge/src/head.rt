@@ -46,7 +46,7 @@ pub fn write_head<K: Sink>(sink: &mut K, head: &Head) -> Result<(), Failed>
 }
 
 /// The head's bytes.
-pub(crate) fn head_line(head: &Head) -> Line
+pub fn head_line(head: &Head) -> Line
     ensures text { result ≡ head_text head.now }
     ensures short { length result ≤ 512 }
 {

@@ -7,8 +7,9 @@ use std::marker::Model;
 /// The most bytes that are gathered.
 pub(crate) const LINE_ROOM: usize = 4_096;
 
+/// Bytes that are gathered on the stack, at most 4,096, to be written at once.
 #[derive(Drop)]
-pub(crate) struct Line {
+pub struct Line {
     bytes: [u8; LINE_ROOM],
     len: usize,
 }
@@ -34,7 +35,8 @@ impl Line {
         }
     }
 
-    pub(crate) fn len(&self) -> usize
+    /// How many bytes are gathered.
+    pub fn len(&self) -> usize
         ensures { result ≡ length self.now }
     {
         self.len
@@ -48,7 +50,8 @@ impl Line {
         self.len += piece.len();
     }
 
-    pub(crate) fn as_slice(&self) -> &[u8]
+    /// The bytes that are gathered.
+    pub fn as_slice(&self) -> &[u8]
         ensures { result.now ≡ self.now }
     {
         &self.bytes[..self.len]

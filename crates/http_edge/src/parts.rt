@@ -13,7 +13,7 @@ use httparse::{Status, parse_chunk_size};
 
 /// A part of a body by chunks that is not bytes of the body.
 #[derive(Clone, Copy)]
-pub(crate) enum Part {
+pub enum Part {
     /// The line before a chunk.
     Line,
     /// The line end behind a chunk.
@@ -63,7 +63,10 @@ fn parse_end(bytes: &[u8]) -> PartParsed
     }
 }
 
-/// There are places for all fields that can stand in the bytes.
+/// There are places for all fields that can stand in the bytes. They are many, and have no place on
+/// the stack of who reads no trailers.
+#[cold]
+#[inline(never)]
 fn parse_trailers(bytes: &[u8]) -> PartParsed
     requires small { length bytes.now ≤ trailer_limit }
     ensures { PartFacts Trailers result bytes.now }
@@ -78,7 +81,7 @@ fn parse_trailers(bytes: &[u8]) -> PartParsed
 
 /// What the next bytes are, read as a part.
 #[derive(Clone, Copy)]
-pub(crate) enum PartRead {
+pub enum PartRead {
     /// The part: the size that it tells, and how many bytes it had.
     Whole(u64, usize),
     Refused,
@@ -104,7 +107,7 @@ fn window(part: Part, bytes: &[u8]) -> &[u8]
 }
 
 /// Reads until the bytes ahead begin with the part, and takes it.
-pub(crate) fn read_part<S: Source>(source: &mut S, ahead: &mut Ahead, part: Part) -> PartRead
+pub fn read_part<S: Source>(source: &mut S, ahead: &mut Ahead, part: Part) -> PartRead
     ensures { PartSays part result ahead.old ahead.new (S.gives source.old) (S.gives source.new) }
 {
     'more: loop {
