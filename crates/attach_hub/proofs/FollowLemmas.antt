@@ -1,11 +1,8 @@
 -- Following a log goes on, and ends.
-use Rattle.std.proofs.Common.{◌≡◌, ◌≤◌, ◌<◌, max, ℕ, List, [], ◌∷◌, ◌++◌, refl, sym, ◌∙◌, ap, subst, append_assoc, append-nil, arith, Bool, true, false, Option, Some, None, length, Result, Ok, Err}
-use Rattle.std.specs.Prelude.{IsTrue, IsFalse}
-use Rattle.std.specs.List.{flat_map}
+use Rattle.std.proofs.Common.{◌≡◌, ◌≤◌, ◌<◌, max, ℕ, List, [], ◌∷◌, ◌++◌, refl, sym, ◌∙◌, ap, subst, append_assoc, arith, Bool, true, false, Option, Some, None, length, Err}
+use Rattle.std.specs.Prelude.{IsTrue}
 use Rattle.std.proofs.lemmas.Bool.{false≢true}
 use Rattle.std.proofs.lemmas.Bool.Decides.{nat_tests}
-use Rattle.std.proofs.lemmas.Grind.{flat_map-append}
-use Rattle.std.proofs.lemmas.List.Elements.{All-append, All-from_recursion}
 use Rattle.engine_ports.specs.Rose.{Rose}
 use Rattle.engine_ports.specs.Sink.{SinkView, SinkTook, Took, WriteSays}
 use Rattle.engine_ports.specs.Clock.{ClockView, ClockHanded, ClockStood}
@@ -15,53 +12,23 @@ use Rattle.engine_text.specs.declared.log.LogRecord.{LogRecord}
 use Rattle.engine_text.specs.declared.reply.LogSpec.{LogSpec}
 use Rattle.engine_text.specs.declared.reply.Reply.TheVariants.{LogStream}
 use Rattle.engine_text.specs.declared.step.Step.{Step}
-use Rattle.http_edge.specs.Chunks.{IsChunked, chunk_text}
 use Rattle.machine_model.specs.State.{State}
 use Rattle.machine_model.specs.LogStream.{is_kept, log_of, log_reach, log_end, log_bytes}
-use Rattle.machine_model.specs.History.{state_after, state_from, moment_used, HasNone, IsLegal, Extends}
+use Rattle.machine_model.specs.History.{state_after, state_from, HasNone, IsLegal, Extends}
 use Rattle.machine_model.proofs.Laws.{log_grows_law}
-use Rattle.session_model.specs.declared.followed.Followed.{Followed}
 use Rattle.session_model.specs.declared.followed.Followed.TheVariants as F
 use Rattle.session_model.specs.declared.turned.Part.{Part}
 use Rattle.session_model.specs.declared.turned.Part.TheVariants as P
 use Rattle.session_model.specs.Pass.{PassView, IsNumber}
-use Rattle.session_model.specs.Exchange.{IsBody, IsQuiet}
+use Rattle.session_model.specs.Exchange.{IsBody}
 use Rattle.session_model.proofs.HistoryLemmas.{extends_same, extends_on, quiet_extends, dues_none, some_none}
 use Rattle.session_model.proofs.DueLemmas.{dues_clock, some_clock}
 use Rattle.session_model.proofs.TurnLemmas.{turn_quiet, turn_rests}
 use Rattle.daemon_core.specs.LogTurns.{LogTurn, LogDues, LogSays, ends_by}
-use Rattle.attach_hub.specs.Following.{Follows, MayFollow, HasNoRun, HasCause, IsSent, written_of}
+use Rattle.attach_hub.specs.Following.{Follows, MayFollow, HasNoRun, IsSent, written_of}
 use Rattle.attach_hub.proofs.WaitLemmas.{Rests, rests_same, rests_on, rests_pause}
+use Rattle.attach_hub.proofs.PieceLemmas.{sent_more, sent_none}
 use Rattle.attach_hub.proofs.LogLemmas.{bytes_join, bytes_none, bytes_on, reach_on, reach_known, known_before}
-
--- ---- pieces
-
--- one more piece is written
-sent_more : (chunked : Bool) (body sent piece : List ℕ) → IsSent chunked body sent
-    → IsSent chunked (body ++ piece) (sent ++ written_of chunked piece)
-sent_more true body sent [] h = subst (λ x. IsChunked x (sent ++ [])) (sym (append-nil body)) (subst (IsChunked body) (sym (append-nil sent)) h)
-sent_more true body sent (x ∷ piece) (pieces, full, joined, is) = (
-  pieces ++ (x ∷ piece) ∷ [],
-  All-append (λ (p : List ℕ). 0 < length p) pieces ((x ∷ piece) ∷ []) full
-      (All-from_recursion (λ (p : List ℕ). 0 < length p) ((x ∷ piece) ∷ []) (omega arith, tt)),
-  flat_map-append (λ p. p) pieces ((x ∷ piece) ∷ []) ∙ ap (λ y. y ++ (x ∷ piece ++ [])) joined ∙ ap (λ y. body ++ x ∷ y) (append-nil piece),
-  flat_map-append chunk_text pieces ((x ∷ piece) ∷ []) ∙ ap (λ y. y ++ (chunk_text (x ∷ piece) ++ [])) is
-      ∙ ap (λ y. sent ++ y) (append-nil (chunk_text (x ∷ piece))),
-)
-sent_more false body sent piece h = ap (λ y. y ++ piece) h
-
-sent_none : (chunked : Bool) → IsSent chunked [] []
-sent_none true = ([], All-from_recursion (λ (p : List ℕ). 0 < length p) [] tt, refl, refl)
-sent_none false = refl
-
--- what is written of a piece
-pub nothing_written : (chunked : Bool) (piece : List ℕ) (u : SinkView) → piece ≡ [] → SinkTook u (written_of chunked piece) u
-nothing_written true piece u is = subst (λ x. SinkTook u (written_of true x) u) (sym is) (sink_none u)
-nothing_written false piece u is = subst (λ x. SinkTook u x u) (sym is) (sink_none u)
-
-pub chunk_written : (piece : List ℕ) → 0 < length piece → written_of true piece ≡ chunk_text piece
-chunk_written [] some = absurd (omega (arith, some))
-chunk_written (x ∷ piece) some = refl
 
 -- ---- where following stands
 

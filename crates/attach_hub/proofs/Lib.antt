@@ -1,5 +1,6 @@
 pub mod WaitLemmas
 pub mod StatusLemmas
 pub mod LogLemmas
+pub mod PieceLemmas
 pub mod FollowLemmas
 pub mod OpenLemmas
