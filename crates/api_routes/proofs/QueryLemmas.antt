@@ -1,5 +1,5 @@
 -- What the keys of a query say lies within the bounds of calls.
-use Rattle.std.proofs.Common.{◌≡◌, ◌<◌, ◌≤◌, ◌==◌, ◌+◌, ◌*◌, ◌^◌, ◌&&◌, ◌||◌, leb, nat_le, ℕ, ℤ, pos, negsuc, List, [], ◌∷◌, length, Bool, true, false, cond, codes, Option, Some, None, IfSome, option_map, refl, arith, IfOk}
+use Rattle.std.proofs.Common.{◌≡◌, ◌<◌, ◌≤◌, ◌==◌, ◌+◌, ◌*◌, ◌^◌, ◌&&◌, ◌||◌, leb, nat_le, ℕ, ℤ, pos, negsuc, List, [], ◌∷◌, length, Bool, true, false, cond, codes, Option, Some, None, IfSome, option_map, refl, arith, IfOk, if◌then◌else◌}
 use Rattle.std.specs.Prelude.{IsTrue}
 use Rattle.std.specs.List.{before_first, after_first}
 use Rattle.std.specs.Str.{all_ascii_digits}
@@ -14,7 +14,7 @@ use Rattle.call_bounds.proofs.SignalLemmas.{IsSignal, signal_read}
 use Rattle.api_routes.specs.Numeral.{number_of}
 use Rattle.api_routes.specs.Version.{dot}
 use Rattle.api_routes.specs.Query.{value_of, value_or_empty}
-use Rattle.api_routes.specs.Keys.{optional_name, create_name, new_name, optional_signal, signal_in, up_to_greatest, read_seconds, optional_seconds, seconds_in, unless_zero, read_limit, optional_limit, limit_in, read_tail, tail_in, digit, thousandths, read_decimals, milliseconds, read_time, optional_time, time_in}
+use Rattle.api_routes.specs.Keys.{optional_name, create_name, new_name, optional_signal, signal_in, up_to_greatest, read_seconds, optional_seconds, seconds_in, read_limit, optional_limit, limit_in, read_tail, tail_in, digit, thousandths, read_decimals, milliseconds, read_time, optional_time, time_in}
 use Rattle.api_routes.specs.declared.fault.Fault.TheVariants.{InvalidName, InvalidSignal, BadSeconds, BadLimit, BadTail, BadTime}
 use Rattle.api_routes.proofs.NumeralLemmas.{number-small}
 use Rattle.api_routes.proofs.StepLemmas.{or-else, by-test}
@@ -88,21 +88,21 @@ IsBelow most n = n < 10 ^ most
 small : (most : ℕ) (text : List ℕ) → IfSome (number_of most text) (IsBelow most)
 small most text = number-small most text (number_of most text) refl
 
-unless-zero : (n : ℕ) → n < 1000000000 → IfGiven is_limit (unless_zero n)
+unless-zero : (n : ℕ) → n < 1000000000 → IfGiven is_limit (if n == 0 then None else Some n)
 unless-zero n few = by (n == 0) refl
   where
     by : (b : Bool) → (n == 0) ≡ b → IfGiven is_limit (cond b None (Some n))
     by true e = refl
     by false e = grind (arith, nat_tests)
 
-limit-of : (o : Option ℕ) → IfSome o (IsBelow 9) → IfSome (option_map unless_zero o) (IfGiven is_limit)
+limit-of : (o : Option ℕ) → IfSome o (IsBelow 9) → IfSome (option_map (λ n. if n == 0 then None else Some n) o) (IfGiven is_limit)
 limit-of None few = tt
 limit-of (Some n) few = unless-zero n few
 
 limit-by : (text : List ℕ) → IfSome (read_limit text) (IfGiven is_limit)
 limit-by text = by (same_bytes text (codes "-1"))
   where
-    by : (b : Bool) → IfSome (cond b (Some None) (option_map unless_zero (number_of 9 text))) (IfGiven is_limit)
+    by : (b : Bool) → IfSome (cond b (Some None) (option_map (λ n. if n == 0 then None else Some n) (number_of 9 text))) (IfGiven is_limit)
     by true = refl
     by false = limit-of (number_of 9 text) (small 9 text)
 

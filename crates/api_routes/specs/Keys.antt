@@ -35,11 +35,10 @@ abbrev pub create_name : List ℕ → Result (Option (List ℕ)) Fault
 create_name query = optional_name (value_or_empty (codes "name") query)
 
 -- the new name of a rename, which is needed
-abbrev pub needed_name : List ℕ → Result (List ℕ) Fault
-needed_name name = if is_name name then Ok name else Err (InvalidName name)
-
 abbrev pub new_name : List ℕ → Result (List ℕ) Fault
-new_name query = needed_name (value_or_empty (codes "name") query)
+new_name query =
+    let name : List ℕ = value_or_empty (codes "name") query in
+    if is_name name then Ok name else Err (InvalidName name)
 
 -- a signal; an absent or an empty one means none
 abbrev pub optional_signal : List ℕ → Result (Option Signal) Fault
@@ -72,13 +71,10 @@ optional_seconds (Some text) = or_fault BadSeconds (option_map Some (read_second
 abbrev pub seconds_in : List ℕ → Result (Option ℤ) Fault
 seconds_in query = optional_seconds (value_of (codes "t") query)
 
--- 0 means none
-abbrev pub unless_zero : ℕ → Option ℕ
-unless_zero n = if n == 0 then None else Some n
-
--- -1, or one to nine digits
+-- -1, or one to nine digits, of which 0 means none
 abbrev pub read_limit : List ℕ → Option (Option ℕ)
-read_limit text = if same_bytes text (codes "-1") then Some None else option_map unless_zero (number_of 9 text)
+read_limit text =
+    if same_bytes text (codes "-1") then Some None else option_map (λ n. if n == 0 then None else Some n) (number_of 9 text)
 
 abbrev pub optional_limit : Option (List ℕ) → Result (Option ℕ) Fault
 optional_limit None = Ok None

@@ -1,5 +1,6 @@
 -- A log's stream between two places, as the log grows, and where it ends.
 use Rattle.std.specs.Prelude.{is_some, unwrap_or}
+use Rattle.std.specs.Option.{option_map_or, option_or}
 use Rattle.std.proofs.Common.{◌≡◌, ◌≤◌, ℕ, List, [], ◌∷◌, ◌++◌, refl, sym, ◌∙◌, ap, subst, append_assoc, arith, Bool, true, false, Option, Some, None, map, take, drop, length, length-append, take-append-drop, length-take}
 use Rattle.std.specs.Prelude.{IsTrue}
 use Rattle.std.specs.List.{filter, flat_map}
@@ -15,7 +16,7 @@ use Rattle.engine_text.specs.declared.reply.StopRule.TheVariants as Stop
 use Rattle.stream_frame.specs.Frames.{Part, frame_of, frames_of}
 use Rattle.machine_model.specs.State.{State}
 use Rattle.machine_model.specs.Frames.{cut, framed}
-use Rattle.machine_model.specs.LogStream.{log_of, is_kept, or_else, standing_log, kept_log, part_of, is_asked_by, log_bytes, some_if, at_rest, standing_end, kept_end, fixed_end, end_by_kept, end_by_standing, log_end, log_reach}
+use Rattle.machine_model.specs.LogStream.{log_of, is_kept, standing_log, kept_log, part_of, is_asked_by, log_bytes, some_if, at_rest, standing_end, kept_end, fixed_end, log_end, log_reach}
 use Rattle.daemon_core.specs.Framing.{asked_bytes}
 use Rattle.daemon_core.proofs.WrittenLemmas.{asked_append}
 use Rattle.attach_hub.specs.Following.{HasNoRun}
@@ -72,16 +73,16 @@ standing_reach (Stop.RunEnd run) owner log s runless = absurd runless
 standing_reach Stop.NotRunning owner log s runless = some_reach (at_rest owner s) (length log)
 
 kept_reach : (kept : Option (List LogRecord)) (stop : StopRule) → IsTrue (is_some kept) → HasNoRun stop
-    → unwrap_or (end_by_kept kept stop) (length (unwrap_or kept [])) ≡ reach_by stop (unwrap_or kept [])
+    → unwrap_or (option_map_or (λ (log : List LogRecord). Some (kept_end stop log)) kept (fixed_end stop)) (length (unwrap_or kept [])) ≡ reach_by stop (unwrap_or kept [])
 kept_reach None stop is runless = absurd (false≢true is)
 kept_reach (Some log) (Stop.At n) is runless = refl
 kept_reach (Some log) (Stop.RunEnd run) is runless = absurd runless
 kept_reach (Some log) Stop.NotRunning is runless = refl
 
-found_reach : (standing : Option (List LogRecord)) (spec : LogSpec) (s : State) → IsTrue (is_some (or_else standing (kept_log spec.owner s)))
+found_reach : (standing : Option (List LogRecord)) (spec : LogSpec) (s : State) → IsTrue (is_some (option_or standing (kept_log spec.owner s)))
     → HasNoRun spec.stop
-    → unwrap_or (end_by_standing standing spec s) (length (unwrap_or (or_else standing (kept_log spec.owner s)) []))
-    ≡ reach_by spec.stop (unwrap_or (or_else standing (kept_log spec.owner s)) [])
+    → unwrap_or (option_map_or (λ (log : List LogRecord). standing_end spec.stop spec.owner log s) standing (option_map_or (λ (log : List LogRecord). Some (kept_end spec.stop log)) (kept_log spec.owner s) (fixed_end spec.stop))) (length (unwrap_or (option_or standing (kept_log spec.owner s)) []))
+    ≡ reach_by spec.stop (unwrap_or (option_or standing (kept_log spec.owner s)) [])
 found_reach (Some log) spec s is runless = standing_reach spec.stop spec.owner log s runless
 found_reach None spec s is runless = kept_reach (kept_log spec.owner s) spec.stop is runless
 
@@ -116,9 +117,9 @@ no_place : (n : ℕ) → None ≡ Some n → ⊥
 no_place n is = subst IsPlace (sym is) tt
 
 lost_by : (standing : Option (List LogRecord)) (spec : LogSpec) (s : State) (kept : Option (List LogRecord)) → kept_log spec.owner s ≡ kept
-    → is_some (or_else standing kept) ≡ false → end_by_standing standing spec s ≡ fixed_end spec.stop
+    → is_some (option_or standing kept) ≡ false → (option_map_or (λ (log : List LogRecord). standing_end spec.stop spec.owner log s) standing (option_map_or (λ (log : List LogRecord). Some (kept_end spec.stop log)) (kept_log spec.owner s) (fixed_end spec.stop))) ≡ fixed_end spec.stop
 lost_by (Some log) spec s kept is lost = absurd (false≢true (sym lost))
-lost_by None spec s None is lost = ap (λ o. end_by_kept o spec.stop) is
+lost_by None spec s None is lost = ap (λ o. (option_map_or (λ (log : List LogRecord). Some (kept_end spec.stop log)) o (fixed_end spec.stop))) is
 lost_by None spec s (Some log) is lost = absurd (false≢true (sym lost))
 
 -- only a fixed place is known
@@ -131,14 +132,14 @@ standing_fixed (Stop.At m) owner log s n is = is
 standing_fixed (Stop.RunEnd run) owner log s n is = absurd (no_place n is)
 standing_fixed Stop.NotRunning owner log s n is = absurd (no_place n is)
 
-kept_fixed : (kept : Option (List LogRecord)) (stop : StopRule) (n : ℕ) → fixed_end stop ≡ Some n → end_by_kept kept stop ≡ Some n
+kept_fixed : (kept : Option (List LogRecord)) (stop : StopRule) (n : ℕ) → fixed_end stop ≡ Some n → (option_map_or (λ (log : List LogRecord). Some (kept_end stop log)) kept (fixed_end stop)) ≡ Some n
 kept_fixed None stop n is = is
 kept_fixed (Some log) (Stop.At m) n is = is
 kept_fixed (Some log) (Stop.RunEnd run) n is = absurd (no_place n is)
 kept_fixed (Some log) Stop.NotRunning n is = absurd (no_place n is)
 
 end_fixed : (standing : Option (List LogRecord)) (spec : LogSpec) (s : State) (n : ℕ) → fixed_end spec.stop ≡ Some n
-    → end_by_standing standing spec s ≡ Some n
+    → (option_map_or (λ (log : List LogRecord). standing_end spec.stop spec.owner log s) standing (option_map_or (λ (log : List LogRecord). Some (kept_end spec.stop log)) (kept_log spec.owner s) (fixed_end spec.stop))) ≡ Some n
 end_fixed (Some log) spec s n is = standing_fixed spec.stop spec.owner log s n is
 end_fixed None spec s n is = kept_fixed (kept_log spec.owner s) spec.stop n is
 

@@ -1,5 +1,6 @@
 -- The stream that a call for logs gives can be followed from the state that the call leaves.
 use Rattle.std.specs.Prelude.{is_some, unwrap_or, option_map}
+use Rattle.std.specs.Option.{option_map_or, option_or}
 use Rattle.std.proofs.Common.{◌≡◌, ◌≤◌, ◌+◌, ◌-◌, ◌==◌, ℕ, zero, suc, List, [], ◌∷◌, refl, sym, ◌∙◌, ap, subst, arith, Bool, true, false, cond, if◌then◌else◌, Option, Some, None, find, length, get_or}
 use Rattle.std.specs.Prelude.{IsTrue, nat_lt, slice_index}
 use Rattle.std.specs.List.{AllByRecursion, filter, range_with_len}
@@ -17,14 +18,15 @@ use Rattle.engine_text.specs.declared.step.Step.{Step}
 use Rattle.container_table.specs.Reference.{container_by}
 use Rattle.machine_model.specs.State.{State, container_numbered}
 use Rattle.machine_model.specs.Chain.{Effect, still}
-use Rattle.machine_model.specs.Outcome.{Outcome, replies, with_one, by_found}
+use Rattle.machine_model.specs.Outcome.{Outcome, replies, by_found, refused}
 use Rattle.machine_model.specs.Step.{at_moment}
-use Rattle.machine_model.specs.Calls.Logs.{record_passes, places, from_end, first_by_tail, first_place, stop_rule, log_spec, logs_outcome, is_selected}
-use Rattle.machine_model.specs.LogStream.{is_kept, or_else, kept_log, log_of, log_reach}
+use Rattle.machine_model.specs.Calls.Logs.{places, from_end, first_by_tail, first_place, stop_rule, log_spec, logs_outcome, is_selected}
+use Rattle.machine_model.specs.LogStream.{is_kept, kept_log, log_of, log_reach}
 use Rattle.machine_model.specs.History.{after_step, reply_of}
 use Rattle.machine_model.proofs.Fold.RowLemmas.{found_number}
 use Rattle.attach_hub.specs.Following.{MayFollow, HasNoRun}
 use Rattle.attach_hub.proofs.LogLemmas.{reach_by, reach_is}
+use Rattle.machine_model.specs.Refusals.{no_such_container}
 
 -- ---- the first place lies within the log
 
@@ -72,9 +74,9 @@ asked_reach false log = refl
 open_at : (ask : LogAsk) (c : Container) (t : State) → container_numbered c.number t ≡ Some c → MayFollow t (log_spec ask c)
 open_at ask c t found =
     let kept : IsTrue (is_kept t (OfContainer c.number)) =
-    subst (λ o. IsTrue (is_some (or_else (option_map (λ (c : Container). c.life.log) o) (kept_log (OfContainer c.number) t)))) (sym found) refl in
+    subst (λ o. IsTrue (is_some (option_or (option_map (λ (c : Container). c.life.log) o) (kept_log (OfContainer c.number) t)))) (sym found) refl in
     let log : log_of t (OfContainer c.number) ≡ c.life.log =
-    ap (λ o. unwrap_or (or_else (option_map (λ (c : Container). c.life.log) o) (kept_log (OfContainer c.number) t)) []) found in
+    ap (λ o. unwrap_or (option_or (option_map (λ (c : Container). c.life.log) o) (kept_log (OfContainer c.number) t)) []) found in
     let size = ap length log in
     let least = first_least ask c.life.log in
     let stop : StopRule = stop_rule ask.follow (length c.life.log) in
@@ -91,7 +93,7 @@ Opens (LogStream spec) t = MayFollow t spec
 Opens reply t = Unit {0}
 
 open_one : (o : Option Container) (n : ℕ) (target : List ℕ) (ask : LogAsk) (s t : State) → container_numbered n t ≡ o
-    → Opens (with_one o target (λ c. replies (LogStream (log_spec ask c)) still) s).reply t
+    → Opens (option_map_or {U = State → Outcome} (λ c. replies (LogStream (log_spec ask c)) still) o (refused 404 (no_such_container target)) s).reply t
 open_one None n target ask s t is = tt
 open_one (Some c) n target ask s t is =
     open_at ask c t (subst (λ m. container_numbered m t ≡ Some c) (sym (found_number n c t.containers is)) is)
@@ -105,7 +107,7 @@ open_by Found.Many target ask s t same = tt
 
 -- a call for logs changes nothing
 still_one : (o : Option Container) (target : List ℕ) (ask : LogAsk) (s : State)
-    → (with_one o target (λ c. replies (LogStream (log_spec ask c)) still) s).effect.state.containers ≡ s.containers
+    → (option_map_or {U = State → Outcome} (λ c. replies (LogStream (log_spec ask c)) still) o (refused 404 (no_such_container target)) s).effect.state.containers ≡ s.containers
 still_one None target ask s = refl
 still_one (Some c) target ask s = refl
 

@@ -1,4 +1,5 @@
 -- A wait's ticket is answered with 200, whoever else makes steps meanwhile.
+use Rattle.std.specs.Option.{option_and_then, option_map_or}
 use Rattle.std.proofs.Common.{◌≡◌, ℕ, ◌+◌, ◌<◌, ◌==◌, Bool, true, false, List, [], ◌∷◌, ◌++◌, Option, Some, None, unwrap_or, find, map, if◌then◌else◌, refl, ap, sym, ◌∙◌, subst, arith}
 use Rattle.std.specs.List.{AllByRecursion}
 use Rattle.std.proofs.lemmas.Bool.{false≢true}
@@ -20,12 +21,11 @@ use Rattle.engine_text.specs.declared.ticket.Ticket.{Ticket}
 use Rattle.machine_model.specs.State.{State, container_numbered}
 use Rattle.machine_model.specs.Chain.{Effect, Died, still}
 use Rattle.machine_model.specs.Call.{outcome_of}
-use Rattle.machine_model.specs.Calls.Take.{ticket_reply}
 use Rattle.machine_model.specs.Due.{least_due, due_effect, timed_out}
 use Rattle.machine_model.specs.Effects.Destroy.{answer, answered, last_reply, last_answer}
-use Rattle.machine_model.specs.Effects.Settle.{is_at_rest, has_died, reply_if, wait_reply, reply_of as settles, reply_by, settled, settle_tickets}
-use Rattle.machine_model.specs.Outcome.{Outcome, with_one, by_found, at_reference}
-use Rattle.machine_model.specs.Step.{at_moment, step_of, or_still}
+use Rattle.machine_model.specs.Effects.Settle.{is_at_rest, has_died, reply_if, wait_reply, reply_of as settles, settled, settle_tickets}
+use Rattle.machine_model.specs.Outcome.{Outcome, by_found, at_reference, refused}
+use Rattle.machine_model.specs.Step.{at_moment, step_of}
 use Rattle.machine_model.specs.Tickets.{begins}
 use Rattle.machine_model.specs.History.{Charter, IsLegal, after_step, opening_state, state_from, state_after, reply_of}
 use Rattle.machine_model.proofs.ChangeLemmas.{all_removed}
@@ -35,6 +35,7 @@ use Rattle.machine_model.proofs.Laws.{consistency_law}
 use Rattle.machine_model.proofs.ListLemmas.{all_append, all_weaken}
 use Rattle.session_model.specs.Exchange.{IsMade}
 use Rattle.session_model.proofs.HistoryLemmas.{run_append}
+use Rattle.machine_model.specs.Refusals.{no_such_container}
 
 -- ---- tickets of waits
 
@@ -129,7 +130,7 @@ reply_is asked.Restart died c s h = absurd h
 reply_is asked.Remove died c s h = absurd h
 reply_is (asked.Wait until) died c s h = wait_is until died c s
 
-by_is : (o : Option Container) (a : Asked) (died : List Died) (s : State) → IsWait a → IsReply (reply_by o a died s)
+by_is : (o : Option Container) (a : Asked) (died : List Died) (s : State) → IsWait a → IsReply (option_and_then (λ (c : Container). settles a (find (λ d. d.number == c.number) died) c s) o)
 by_is None a died s h = tt
 by_is (Some c) a died s h = reply_is a _ c s h
 
@@ -188,7 +189,7 @@ wait_closed n = record {
   on_renamed = λ s c name found free h. h;
 }
 
-due_keeps : (n : ℕ) (s : State) (o : Option DueAction) → StandsFor n s → StandsFor n (or_still (step_of o s) s).state
+due_keeps : (n : ℕ) (s : State) (o : Option DueAction) → StandsFor n s → StandsFor n (unwrap_or (step_of o s) (still s)).state
 due_keeps n s None h = h
 due_keeps n s (Some d) h =
     let e : Effect = due_effect d (at_moment d.moment s) in
@@ -232,7 +233,7 @@ gives_begun k c until s low n is =
     )
 
 one_case : (s : State) (target : List ℕ) (f : Container → State → Outcome) (o : Option Container)
-    → ((c : Container) → Gives (f c s)) → Gives (with_one o target f s)
+    → ((c : Container) → Gives (f c s)) → Gives (option_map_or f o (refused 404 (no_such_container target)) s)
 one_case s target f None one = gives_none 404 _ s
 one_case s target f (Some c) one = one c
 
@@ -270,12 +271,12 @@ given_fine (Some (reply.JournalStream count)) h = absurd h
 given_fine (Some (reply.Fed fed)) h = absurd h
 given_fine (Some reply.Dropped) h = absurd h
 
-by_hit : (b : Bool) (n : ℕ) (t : Ticket) (rest : Option Ticket) → (t.number == n) ≡ b → OfNumber n t → IsFine (ticket_reply rest)
-    → IsFine (ticket_reply (if b then Some t else rest))
+by_hit : (b : Bool) (n : ℕ) (t : Ticket) (rest : Option Ticket) → (t.number == n) ≡ b → OfNumber n t → IsFine (unwrap_or (option_and_then (λ (t : Ticket). t.reply) rest) reply.Dropped)
+    → IsFine (unwrap_or (option_and_then (λ (t : Ticket). t.reply) (if b then Some t else rest)) reply.Dropped)
 by_hit true n t rest is one more = given_fine t.reply (one is).1
 by_hit false n t rest is one more = more
 
-found_fine : (n : ℕ) (ts : List Ticket) → AllByRecursion (OfNumber n) ts → IsFine (ticket_reply (find (λ t. t.number == n) ts))
+found_fine : (n : ℕ) (ts : List Ticket) → AllByRecursion (OfNumber n) ts → IsFine (unwrap_or (option_and_then (λ (t : Ticket). t.reply) (find (λ t. t.number == n) ts)) reply.Dropped)
 found_fine n [] h = tt
 found_fine n (t ∷ ts) h = by_hit (t.number == n) n t (find (λ t. t.number == n) ts) refl h.0 (found_fine n ts h.1)
 

@@ -1,4 +1,5 @@
 -- What the least due action finds: of an op the process whose it is, of a deadline or a timer the container.
+use Rattle.std.specs.Option.{is_some}
 use Rattle.std.proofs.Common.{◌≡◌, ◌≢◌, ℕ, ◌==◌, Bool, true, false, List, [], ◌∷◌, Option, Some, None, find, if◌then◌else◌, refl, ap, sym, ◌∙◌, subst, arith, inl, inr, IsTrue, not}
 use Rattle.std.proofs.lemmas.Bool.{eqb-true}
 use Rattle.std.proofs.lemmas.Bool.Decides.{eqb_tells}
@@ -11,7 +12,7 @@ use Rattle.engine_text.specs.declared.owner.Owner.TheVariants.{Container as OfCo
 use Rattle.engine_text.specs.declared.step.DueAction.{DueAction}
 use Rattle.proc_kernel.specs.Processes.{Process, next_due}
 use Rattle.proc_kernel.specs.Tables.{Entry, due_at, process_of}
-use Rattle.machine_model.specs.State.{State, container_numbered, is_process, owner_number}
+use Rattle.machine_model.specs.State.{State, container_numbered, owner_number}
 use Rattle.machine_model.specs.Consistency.{HasOwner, IsConsistent, TimerStands, is_there}
 use Rattle.machine_model.specs.Due.{action_at, due_actions, least_due}
 use Rattle.machine_model.proofs.DueLemmas.{all_actions, exec_apart, own_process, owner_of, passes}
@@ -27,12 +28,12 @@ no_both : (s : State) (n : ℕ) (o : Option Container) → container_numbered n 
 no_both s n None e there k exec = absurd (cc)
 no_both s n (Some c) e there k exec = exec_apart s n k exec c e
 
-by_main : (s : State) (n : ℕ) (q : Option Process) → process_of (OfContainer n) s.processes ≡ q → IsConsistent s → HasOwner s (OfExec n) → OfExec n ≡ (if is_process q then OfContainer n else OfExec n)
+by_main : (s : State) (n : ℕ) (q : Option Process) → process_of (OfContainer n) s.processes ≡ q → IsConsistent s → HasOwner s (OfExec n) → OfExec n ≡ (if is_some q then OfContainer n else OfExec n)
 by_main s n None e k exec = refl
 by_main s n (Some q) e k exec = absurd (no_both s n (container_numbered n s) refl (owner_of (HasOwner s) (OfContainer n) q s.processes e k.processes.owners) k exec)
 
 named : (s : State) (o : Owner) (p : Process) → IsConsistent s → HasOwner s o → process_of o s.processes ≡ Some p → o ≡ owner_at (owner_number o) s
-named s (OfContainer n) p k there is = sym (ap (λ q. if is_process q then OfContainer n else OfExec n) is)
+named s (OfContainer n) p k there is = sym (ap (λ q. if is_some q then OfContainer n else OfExec n) is)
 named s (OfExec n) p k there is = by_main s n (process_of (OfContainer n) s.processes) refl k there
 
 -- an owner's process is found by its number

@@ -12,12 +12,12 @@ use Rattle.proc_kernel.specs.Foretelling.{code_at}
 use Rattle.proc_kernel.specs.Processes.{run_due, signal}
 use Rattle.proc_kernel.specs.Tables.{Entry, process_of, due_at as op_due_at}
 use Rattle.machine_model.specs.State.{State, container_numbered}
-use Rattle.machine_model.specs.Chain.{Effect, with_found}
+use Rattle.machine_model.specs.Chain.{Effect, with_found, still}
 use Rattle.machine_model.specs.Consistency.{HasOwner, IsConsistent, is_there}
 use Rattle.machine_model.specs.Due.{by_rank, least_due}
 use Rattle.machine_model.specs.Effects.Meet.{step_process}
-use Rattle.machine_model.specs.History.{IsLawful, is_by, latest}
-use Rattle.machine_model.specs.Step.{at_moment, or_still, step_of}
+use Rattle.machine_model.specs.History.{IsLawful, latest}
+use Rattle.machine_model.specs.Step.{at_moment, step_of}
 use Rattle.machine_model.proofs.Laws.{IsMomentOf, kept_due, timely_due}
 use Rattle.machine_model.proofs.ObeyLemmas.{found_all}
 use Rattle.machine_effects.specs.Deadlines.{CanRestart, HasId}
@@ -39,6 +39,8 @@ use Rattle.container_machine.specs.declared.due.PreparedDue.{PreparedDue}
 use Rattle.container_machine.proofs.DueFoundLemmas.{OpStands, due_stands}
 use Rattle.container_machine.proofs.MakeLemmas.{stand_once}
 use Rattle.container_machine.proofs.ReadyLemmas.{few, settles, timely}
+use Rattle.std.specs.Prelude.{nat_le, false, unwrap_or}
+use Rattle.std.specs.Option.{option_map_or, unwrap_or}
 
 -- an action's effect, by its rank
 of_rank : (d : DueAction) (r : ℕ) (s : State) → d.rank ≡ r → due_at d s ≡ by_rank r d.number (at_moment d.moment s)
@@ -164,7 +166,7 @@ fits_due (DuePlan.RestartTimer n script) t m brings k at room = (
 
 -- something is due before a lawful due step
 pub is_something : (s : State) → IsLawful s Step.Due → least_due s ≡ None → ⊥
-is_something s lawful e = let none : IsTrue (is_by None (latest s)) = subst (λ o. IsTrue (is_by o (latest s))) e lawful.1 in absurd (cc)
+is_something s lawful e = let none : IsTrue (option_map_or (λ (d : DueAction). nat_le d.moment (latest s)) None false) = subst (λ o. IsTrue (option_map_or (λ (d : DueAction). nat_le d.moment (latest s)) o false)) e lawful.1 in absurd (cc)
 
 pub ready_due : (p : PreparedDue) (w : MachineParts) (d : DueAction) → IsConsistent w.memory.state → IsLawful w.memory.state Step.Due → least_due w.memory.state ≡ Some d
     → MakesDue p d w.memory.state → HasDueRoom p.plan w.memory → length w.events + length p.events.items ≤ w.places → IsForDue p w
@@ -175,6 +177,6 @@ ready_due p w d k lawful least makes room places = record {
   effect = makes.effect;
   events = makes.events;
   fits = fits_due p.plan d.moment w.memory makes.brings k (timely_due w.memory.state d k lawful least) room;
-  kept = subst (λ (s : State). IsConsistent s) (ap (λ o. (or_still (step_of o w.memory.state) w.memory.state).state) least) (kept_due w.memory.state k lawful);
+  kept = subst (λ (s : State). IsConsistent s) (ap (λ o. (unwrap_or (step_of o w.memory.state) (still w.memory.state)).state) least) (kept_due w.memory.state k lawful);
   places = places;
 }

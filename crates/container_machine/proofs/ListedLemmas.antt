@@ -1,11 +1,11 @@
 -- A list of containers, one after the other, up to its limit.
 use Rattle.std.proofs.Common.{◌≡◌, ℕ, zero, suc, ◌≤◌, ◌+◌, Bool, true, false, List, [], ◌∷◌, ◌++◌, Option, Some, None, refl, ap, sym, ◌∙◌, arith, map, filter, reverse, take, length, if◌then◌else◌, append-nil, append_assoc}
 use Rattle.std.specs.Prelude.{slice_get}
+use Rattle.std.specs.Option.{option_map_or}
 use Rattle.std.proofs.lemmas.Bool.{false≢true}
 use Rattle.std.proofs.lemmas.Bool.Decides.{nat_tests}
 use Rattle.std.proofs.lemmas.List.{take_all, take-append-le, take-map, length-append, reverse-append}
 use Rattle.machine_model.specs.Views.{listed}
-use Rattle.machine_model.specs.Calls.List.{limited}
 use Rattle.engine_text.specs.declared.container.Container.{Container}
 use Rattle.engine_text.specs.declared.listed.Listed.{Listed}
 use Rattle.container_machine.specs.Calls.List.{is_reached}
@@ -64,14 +64,14 @@ lets_in (Some limit) p c items more below added =
 
 -- nothing behind a limit that is reached counts
 pub cut_off : (limit : Option ℕ) (cs : List Container) (items rest : List Listed) → is_reached limit (length items) ≡ true → IsWithin limit (length items)
-    → map listed cs ≡ items ++ rest → items ≡ map listed (limited limit cs)
+    → map listed cs ≡ items ++ rest → items ≡ map listed (option_map_or (λ n. take n cs) limit cs)
 cut_off None cs items rest full within whole = absurd (false≢true full)
 cut_off (Some limit) cs items rest full within whole =
     let least : limit ≤ length items = grind (arith, nat_tests, full) in
     sym (sym (take-map listed limit cs) ∙ (ap (take limit) whole ∙ (take-append-le limit items rest least ∙ take_all limit items within)))
 
 -- the limit lets all in
-pub all_in : (limit : Option ℕ) (cs : List Container) (items : List Listed) → IsWithin limit (length items) → map listed cs ≡ items → items ≡ map listed (limited limit cs)
+pub all_in : (limit : Option ℕ) (cs : List Container) (items : List Listed) → IsWithin limit (length items) → map listed cs ≡ items → items ≡ map listed (option_map_or (λ n. take n cs) limit cs)
 all_in None cs items within whole = sym whole
 all_in (Some limit) cs items within whole = sym (sym (take-map listed limit cs) ∙ (ap (take limit) whole ∙ take_all limit items within))
 

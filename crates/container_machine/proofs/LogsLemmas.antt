@@ -1,4 +1,5 @@
 -- The stream of a log, and the place of its tail.
+use Rattle.std.specs.Option.{option_map_or}
 use Rattle.std.proofs.Common.{◌≡◌, ℕ, suc, ◌+◌, ◌-◌, ◌<◌, ◌≤◌, Bool, true, false, List, [], ◌∷◌, ◌++◌, Option, Some, cond, refl, ap, sym, ◌∙◌, subst, length, filter, take, drop, arith, append_assoc, length-append, length-take-le, take-append-drop, get_or, if◌then◌else◌, le-ltb, lt-ltb}
 use Rattle.std.proofs.lemmas.List.{at_drop_all, at_drop_more}
 use Rattle.std.specs.List.{range_with_len, slice_get}
@@ -6,7 +7,7 @@ use Rattle.std.proofs.Math.Seq.{get_or-append_seam}
 use Rattle.engine_text.specs.declared.log.LogRecord.{LogRecord}
 use Rattle.engine_text.specs.declared.reply.LogSpec.{LogSpec}
 use Rattle.engine_text.specs.declared.reply.Reply.TheVariants.{LogStream}
-use Rattle.machine_model.specs.Calls.Logs.{from_end, places, record_passes}
+use Rattle.machine_model.specs.Calls.Logs.{from_end, places}
 use Rattle.machine_model.specs.Chain.{still}
 use Rattle.machine_model.specs.Outcome.{Outcome, replies}
 use Rattle.machine_model.specs.State.{State}
@@ -38,20 +39,20 @@ get_behind [] x xs = refl
 get_behind (y ∷ front) x xs = get_behind front x xs
 
 at_by : (p : LogRecord → Bool) (o : Option LogRecord) (x : LogRecord) (k : ℕ) (l m : List ℕ) → o ≡ Some x → l ≡ m
-    → (if record_passes p o then k ∷ l else l) ≡ (if p x then k ∷ m else m)
-at_by p o x k l m e same = ap (λ w. if record_passes p w then k ∷ l else l) e ∙ ap (λ n. if p x then k ∷ n else n) same
+    → (if (option_map_or p o false) then k ∷ l else l) ≡ (if p x then k ∷ m else m)
+at_by p o x k l m e same = ap (λ w. if (option_map_or p w false) then k ∷ l else l) e ∙ ap (λ n. if p x then k ∷ n else n) same
 
 from_front : (p : LogRecord → Bool) (front xs : List LogRecord) (k : ℕ) → k ≡ length front
-    → filter (λ i. record_passes p (slice_get (front ++ xs) i)) (range_with_len k (length xs)) ≡ places_at p k xs
+    → filter (λ i. (option_map_or p (slice_get (front ++ xs) i) false)) (range_with_len k (length xs)) ≡ places_at p k xs
 from_front p front [] k at = refl
 from_front p front (x ∷ xs) k at =
     let joined : front ++ x ∷ xs ≡ (front ++ x ∷ []) ++ xs = sym (append_assoc front (x ∷ []) xs) in
     let long : k + 1 ≡ length (front ++ x ∷ []) = omega (arith, length-append front (x ∷ []), at) in
     at_by p (slice_get (front ++ x ∷ xs) k) x k
-    (filter (λ i. record_passes p (slice_get (front ++ x ∷ xs) i)) (range_with_len (k + 1) (length xs)))
+    (filter (λ i. (option_map_or p (slice_get (front ++ x ∷ xs) i) false)) (range_with_len (k + 1) (length xs)))
     (places_at p (k + 1) xs)
     (ap (slice_get (front ++ x ∷ xs)) at ∙ get_behind front x xs)
-    (ap (λ (l : List LogRecord). filter (λ i. record_passes p (slice_get l i)) (range_with_len (k + 1) (length xs))) joined ∙ from_front p (front ++ x ∷ []) xs (k + 1) long)
+    (ap (λ (l : List LogRecord). filter (λ i. (option_map_or p (slice_get l i) false)) (range_with_len (k + 1) (length xs))) joined ∙ from_front p (front ++ x ∷ []) xs (k + 1) long)
 
 all_places : (p : LogRecord → Bool) (xs : List LogRecord) → places p xs ≡ places_at p 0 xs
 all_places p xs = from_front p [] xs 0 refl

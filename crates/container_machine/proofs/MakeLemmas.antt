@@ -1,4 +1,5 @@
 -- A call that is made ready is the call's outcome.
+use Rattle.std.specs.Option.{option_map_or}
 use Rattle.engine_text.specs.declared.exec.Exec.{Exec}
 use Rattle.machine_model.specs.Consistency.{IsConsistent, AreDistinct}
 use Rattle.machine_effects.specs.Kits.{IsKitOf}
@@ -21,7 +22,7 @@ use Rattle.proc_kernel.specs.Processes.{signal}
 use Rattle.proc_kernel.specs.Tables.{process_of}
 use Rattle.machine_model.specs.State.{State, container_numbered}
 use Rattle.machine_model.specs.EventTexts.{kill_event}
-use Rattle.machine_model.specs.Outcome.{Outcome, at_reference, by_found, with_one}
+use Rattle.machine_model.specs.Outcome.{Outcome, at_reference, by_found, refused}
 use Rattle.machine_model.specs.Step.{at_moment}
 use Rattle.machine_model.specs.Calls.Kill.{is_final, kill_running}
 use Rattle.container_machine.specs.Calls.Kill.{kill_effect}
@@ -31,13 +32,14 @@ use Rattle.container_machine.specs.Plans.{plan_effect, Brings, Serves}
 use Rattle.machine_model.specs.Chain.{Effect}
 use Rattle.container_machine.specs.declared.plan.Plan.{Plan}
 use Rattle.container_machine.specs.declared.prepared.Prepared.{Prepared}
+use Rattle.machine_model.specs.Refusals.{no_such_container}
 
 -- ---- the lookup
 
 pub looked : (n t : ℕ) (target : List ℕ) (s : State) (c : Container) → container_by s.containers target ≡ Found.One n → container_numbered n s ≡ Some c
     → (f : Container → State → Outcome) → at_reference target f (at_moment t s) ≡ f c (at_moment t s)
 looked n t target s c one found f =
-    ap (λ q. by_found q target f (at_moment t s)) one ∙ ap (λ o. with_one o target f (at_moment t s)) found
+    ap (λ q. by_found q target f (at_moment t s)) one ∙ ap (λ o. (option_map_or f o (refused 404 (no_such_container target)) (at_moment t s))) found
 
 few_either : (n : ℕ) (b : Bool) (x c : Container) (xs : List Container) → x.life.starts < 2 ^ 63 → (find (λ d. d.number == n) xs ≡ Some c → c.life.starts < 2 ^ 63)
     → (if b then Some x else find (λ d. d.number == n) xs) ≡ Some c → c.life.starts < 2 ^ 63

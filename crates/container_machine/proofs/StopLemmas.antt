@@ -1,6 +1,6 @@
 -- A stop that is made ready is the stop's outcome.
 use Rattle.std.proofs.Common.{◌≡◌, ℕ, ◌+◌, ◌==◌, ◌<◌, ◌≤◌, ◌&&◌, ℤ, Bool, true, false, List, [], ◌++◌, Option, Some, None, ap, sym, ◌∙◌, subst, arith}
-use Rattle.std.specs.Prelude.{IfSome, IsTrue, nat_le}
+use Rattle.std.specs.Prelude.{IfSome, IsTrue, nat_le, unwrap_or}
 use Rattle.std.proofs.lemmas.Bool.Decides.{nat_tests}
 use Rattle.std.proofs.lemmas.Int.{to_z-of_z}
 use mir.Syntax.{w32}
@@ -21,7 +21,7 @@ use Rattle.proc_kernel.specs.Processes.{signal}
 use Rattle.proc_kernel.specs.Tables.{process_of}
 use Rattle.machine_model.specs.Chain.{Effect}
 use Rattle.machine_model.specs.Consistency.{IsConsistent}
-use Rattle.machine_model.specs.Effects.Halt.{halt, seconds_used, signal_used}
+use Rattle.machine_model.specs.Effects.Halt.{halt}
 use Rattle.machine_model.specs.Ranges.{IsLifeInRange}
 use Rattle.machine_model.specs.State.{State, container_numbered}
 use Rattle.machine_model.specs.Step.{at_moment}
@@ -52,7 +52,7 @@ own_signal n s c k found =
     omega (arith, most)
 
 -- the signal that is used
-pub low_used : (o : Option Signal) (n : ℕ) (s : State) (c : Container) (m : ℕ) → IsConsistent s → container_numbered n s ≡ Some c → IfSome o (λ (x : Signal). x.number < 32) → m ≡ signal_used o c → m < 32
+pub low_used : (o : Option Signal) (n : ℕ) (s : State) (c : Container) (m : ℕ) → IsConsistent s → container_numbered n s ≡ Some c → IfSome o (λ (x : Signal). x.number < 32) → m ≡ (unwrap_or o c.life.stop_signal).number → m < 32
 low_used None n s c m k found given e = subst (λ j. j < 32) (sym e) (own_signal n s c k found)
 low_used (Some x) n s c m k found given e = subst (λ j. j < 32) (sym e) given
 
@@ -80,7 +80,7 @@ aims Halting.Stop l = stopping_aims l
 aims Halting.Restart l = restart_aims l
 
 pub makes_halt : (p : Prepared) (t : ℕ) (s : State) (c : Container) (connection : ℕ) (halting : Halting) (wait : Option ℤ) (asked : Option Signal) (sent : Signal) (seconds : ℤ) (goal : Goal) (script : Option Program) (code : Option ℕ) (kit : Kit) (ticket : ℕ) (empty : List Event)
-    → IsConsistent s → container_numbered c.number s ≡ Some c → sent.number < 32 → sent.number ≡ signal_used asked c → seconds ≡ seconds_used wait c → goal ≡ goal_of halting → script ≡ program_of c.life.words (c.life.starts + 1)
+    → IsConsistent s → container_numbered c.number s ≡ Some c → sent.number < 32 → sent.number ≡ (unwrap_or asked c.life.stop_signal).number → seconds ≡ (unwrap_or wait c.life.stop_after) → goal ≡ goal_of halting → script ≡ program_of c.life.words (c.life.starts + 1)
     → ((u : ℕ) → code ≡ code_at (signal sent.number true u) (process_of (Owner.Container c.number) s.processes))
     → p.moment ≡ t → p.plan ≡ Plan.Halt connection c.number halting sent seconds kit → IsKitOf c.number script s kit → p.reply ≡ Begun ticket → ticket ≡ s.next_ticket
     → empty ≡ [] → p.events.items ≡ empty ++ told_kill sent.number code (aimed goal c) script (at_moment t s)
@@ -88,7 +88,7 @@ pub makes_halt : (p : Prepared) (t : ℕ) (s : State) (c : Container) (connectio
 makes_halt p t s c connection halting wait asked sent seconds goal script code kit ticket empty k found low used after aim named is moment plan of reply next none events =
     let z : State = at_moment t s in
     let n : ℕ = c.number in
-    let number : ℕ = signal_used asked c in
+    let number : ℕ = (unwrap_or asked c.life.stop_signal).number in
     let y : State = begun connection n (asked_of halting) z in
     let ends : code ≡ code_at (signal number true t) (process_of (Owner.Container n) s.processes) = is t ∙ ap (λ m. code_at (signal m true t) (process_of (Owner.Container n) s.processes)) used in
     record {

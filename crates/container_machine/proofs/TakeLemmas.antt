@@ -1,11 +1,11 @@
 -- The end of a ticket that is made ready is the call's outcome.
 use Rattle.std.proofs.Common.{◌≡◌, ℕ, ◌≤◌, refl, ap, ◌∙◌, sym, subst, arith, length}
-use Rattle.std.specs.Prelude.{IsFalse, Result, Ok, Err, OnErr}
+use Rattle.std.specs.Prelude.{IsFalse, Result, Ok, Err, OnErr, option_and_then, unwrap_or}
 use Rattle.engine_text.specs.declared.call.Call.{Call}
 use Rattle.engine_text.specs.declared.reply.Reply.{Reply}
 use Rattle.engine_text.specs.declared.reply.Reply.TheVariants.{Dropped}
 use Rattle.engine_text.specs.declared.step.Step.{Step}
-use Rattle.machine_model.specs.Calls.Take.{drop_outcome, take_outcome, ticket_reply}
+use Rattle.machine_model.specs.Calls.Take.{drop_outcome, take_outcome}
 use Rattle.machine_model.specs.Consistency.{IsConsistent}
 use Rattle.machine_model.specs.History.{IsLawful, is_drop}
 use Rattle.machine_model.specs.State.{State}
@@ -18,8 +18,9 @@ use Rattle.container_machine.specs.Plans.{plan_effect, Brings, HasRoomFor}
 use Rattle.container_machine.specs.Prepared.{IsFor, asked_by}
 use Rattle.container_machine.specs.declared.prepared.Prepared.{Prepared}
 use Rattle.container_machine.proofs.ReadyLemmas.{ready}
+use Rattle.engine_text.specs.declared.ticket.Ticket.{Ticket}
 
-pub makes_take : (p : Prepared) (t : ℕ) (s : State) (ticket : ℕ) (reply : Reply) → IsEnding t reply ticket p → reply ≡ ticket_reply (ticket_numbered ticket s) → Makes p t s (take_outcome ticket)
+pub makes_take : (p : Prepared) (t : ℕ) (s : State) (ticket : ℕ) (reply : Reply) → IsEnding t reply ticket p → reply ≡ (unwrap_or (option_and_then (λ (t : Ticket). t.reply) (ticket_numbered ticket s)) Dropped) → Makes p t s (take_outcome ticket)
 makes_take p t s ticket reply e is =
     let z : State = at_moment t s in
     record {

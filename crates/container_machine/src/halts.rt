@@ -1,5 +1,5 @@
 // The end of a run that a stop or a restart asks for: a ticket, the signal and the deadline.
-ghost use Rattle.std.specs.Prelude.{◌≡◌, ◌<◌, ◌^◌, Some, IfOk, IfSome};
+ghost use Rattle.std.specs.Prelude.{◌≡◌, ◌<◌, ◌^◌, Some, IfOk, IfSome, unwrap_or};
 ghost use Rattle.machine_model.specs.Consistency.{IsConsistent};
 ghost use Rattle.machine_model.specs.Effects.Halt as spec;
 ghost use Rattle.machine_model.specs.State.{container_numbered};
@@ -44,7 +44,7 @@ pub fn perform(
 
 // The signal that was asked for, else the stop signal.
 fn signal_used(signal: Option<Signal>, h: &Held) -> Signal
-    ensures { result.number ≡ spec.signal_used signal (container_in h.now) }
+    ensures { result.number ≡ (unwrap_or signal (container_in h.now).life.stop_signal).number }
 {
     match signal {
         None => h.container.life.stop_signal,
@@ -54,7 +54,7 @@ fn signal_used(signal: Option<Signal>, h: &Held) -> Signal
 
 // The seconds that were asked for, else the container's.
 fn seconds_used(seconds: Option<i32>, h: &Held) -> i32
-    ensures { result ≡ spec.seconds_used seconds (container_in h.now) }
+    ensures { result ≡ unwrap_or seconds (container_in h.now).life.stop_after }
 {
     match seconds {
         None => h.container.life.stop_after,

@@ -1,6 +1,7 @@
 -- What the calls that are built do: they stand at their moment, begin no other stream than a log's, and may be made behind
 -- what is due.
-use Rattle.std.specs.Prelude.{is_some, unwrap_or}
+use Rattle.std.specs.Prelude.{is_some, unwrap_or, option_and_then}
+use Rattle.std.specs.Option.{option_and_then, option_map_or}
 use Rattle.std.proofs.Common.{◌≡◌, ◌⊎◌, inl, inr, ℕ, List, [], ◌∷◌, refl, subst, sym, ◌∙◌, Bool, true, false, ◌&&◌, ◌||◌, ◌==◌, not, Option, Some, None, find, arith}
 use Rattle.std.specs.Prelude.{IsTrue, IsFalse, nat_le, nat_lt}
 use Rattle.std.specs.List.{AllByRecursion, list_all}
@@ -17,9 +18,8 @@ use Rattle.machine_model.specs.State.{State}
 use Rattle.machine_model.specs.Step.{at_moment}
 use Rattle.machine_model.specs.Statuses.{statuses_of, ticket_statuses, is_among, is_reply_of, gives_log, gives_events, gives_journal, is_feed, ends_ticket}
 use Rattle.call_bounds.specs.Soundness.{IsSound}
-use Rattle.machine_model.specs.Ready.{is_ready, ticket_is_ready}
+use Rattle.machine_model.specs.Ready.{is_ready}
 use Rattle.machine_model.specs.Tickets.{ticket_numbered}
-use Rattle.machine_model.specs.Calls.Take.{ticket_reply}
 use Rattle.machine_model.specs.Room.{HasRoom}
 use Rattle.machine_model.specs.History.{Charter, after_step, state_after, opening_state, reply_of, IsLawful, IsTimely, is_due, has_steps, is_drop}
 use Rattle.machine_model.proofs.ClosureLemmas.{runs_call}
@@ -132,8 +132,8 @@ given_whole (Some (reply.JournalStream count)) given is = absurd is
 given_whole (Some (reply.Fed fed)) given is = absurd is
 given_whole (Some reply.Dropped) given is = absurd is
 
-take_by : (n : ℕ) (ts : List Ticket) (o : Option Ticket) → find (λ t. t.number == n) ts ≡ o → IsTrue (ticket_is_ready o)
-    → AllByRecursion (λ t. IsTicketReply t.reply) ts → IsAnswer (ticket_reply o)
+take_by : (n : ℕ) (ts : List Ticket) (o : Option Ticket) → find (λ t. t.number == n) ts ≡ o → IsTrue (option_map_or (λ (t : Ticket). is_some t.reply) o false)
+    → AllByRecursion (λ t. IsTicketReply t.reply) ts → IsAnswer (unwrap_or (option_and_then (λ (t : Ticket). t.reply) o) reply.Dropped)
 take_by n ts None e ready all = absurd (false≢true ready)
 take_by n ts (Some t) e ready all =
     given_whole t.reply ready (found_all (λ (x : Ticket). IsTicketReply x.reply) (λ x. x.number == n) t ts e all)

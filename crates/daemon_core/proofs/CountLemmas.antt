@@ -1,12 +1,12 @@
 -- Each due step is counted once.
 use Rattle.std.proofs.Common.{◌≡◌, ℕ, ◌+◌, refl, ◌∙◌, ap, Option, Some, None}
-use Rattle.std.specs.Prelude.{IsTrue}
+use Rattle.std.specs.Prelude.{IsTrue, nat_le, false, unwrap_or}
+use Rattle.std.specs.Option.{option_map_or, unwrap_or}
 use Rattle.std.proofs.lemmas.Bool.{false≢true}
 use Rattle.engine_text.specs.declared.step.DueAction.{DueAction}
 use Rattle.machine_model.specs.State.{State}
-use Rattle.machine_model.specs.Chain.{Effect}
-use Rattle.machine_model.specs.Step.{at_moment, step_of, or_still}
-use Rattle.machine_model.specs.History.{is_by}
+use Rattle.machine_model.specs.Chain.{Effect, still}
+use Rattle.machine_model.specs.Step.{at_moment, step_of}
 use Rattle.machine_model.proofs.ClosureLemmas.{IsClosed, runs_due}
 
 -- an effect leaves the count of steps
@@ -40,7 +40,7 @@ leaves_closed = record {
 }
 
 -- where something is due, its step is counted
-pub due_counted : (s : State) (u : ℕ) (o : Option DueAction) → IsTrue (is_by o u)
-    → (or_still (step_of o s) s).state.step_count ≡ s.step_count + 1
+pub due_counted : (s : State) (u : ℕ) (o : Option DueAction) → IsTrue (option_map_or (λ (d : DueAction). nat_le d.moment u) o false)
+    → (unwrap_or (step_of o s) (still s)).state.step_count ≡ s.step_count + 1
 due_counted s u None h = absurd (false≢true h)
 due_counted s u (Some d) h = ap (λ n. n + 1) (runs_due leaves_closed d (at_moment d.moment s))

@@ -1,16 +1,16 @@
 -- Due steps, one after the other, and that each is lawful.
 use Rattle.std.proofs.Common.{◌≡◌, ◌<◌, ◌≤◌, ◌^◌, ℕ, List, [], ◌∷◌, ◌++◌, refl, subst, sym, ◌∙◌, ap, append-nil, append_assoc, Bool, true, false, ◌&&◌, Option, Some, None, arith}
-use Rattle.std.specs.Prelude.{IsTrue}
+use Rattle.std.specs.Prelude.{IsTrue, nat_le, unwrap_or}
+use Rattle.std.specs.Option.{option_map_or, unwrap_or}
 use Rattle.std.specs.List.{filter}
 use Rattle.std.proofs.lemmas.Bool.{false≢true}
 use Rattle.std.proofs.lemmas.Bool.Decides.{nat_tests}
 use Rattle.engine_text.specs.declared.step.DueAction.{DueAction}
 use Rattle.engine_text.specs.declared.step.Step.{Step}
 use Rattle.machine_model.specs.State.{State}
-use Rattle.machine_model.specs.Chain.{Effect}
+use Rattle.machine_model.specs.Chain.{Effect, still}
 use Rattle.machine_model.specs.Due.{least_due}
-use Rattle.machine_model.specs.Step.{or_still}
-use Rattle.machine_model.specs.History.{after_step, state_from, is_by, is_due, acts_by, has_steps, latest, SomeDues, DuesUntil, IsLawful, calls_of}
+use Rattle.machine_model.specs.History.{after_step, state_from, is_due, acts_by, has_steps, latest, SomeDues, DuesUntil, IsLawful, calls_of}
 use Rattle.machine_model.proofs.Histories.{state_append, lawful_append}
 use Rattle.machine_model.proofs.MomentLemmas.{moves}
 use Rattle.machine_model.specs.Consistency.{IsConsistent}
@@ -25,7 +25,7 @@ and_both : (x y : Bool) → IsTrue (x && y) → IsTrue x × IsTrue y
 and_both true y h = (refl, h)
 and_both false y h = absurd (false≢true h)
 
-by_later : (o : Option DueAction) (u v : ℕ) → u ≤ v → IsTrue (is_by o u) → IsTrue (is_by o v)
+by_later : (o : Option DueAction) (u v : ℕ) → u ≤ v → IsTrue (option_map_or (λ (d : DueAction). nat_le d.moment u) o false) → IsTrue (option_map_or (λ (d : DueAction). nat_le d.moment v) o false)
 by_later None u v le h = h
 by_later (Some d) u v le h = grind (arith, nat_tests, le, h)
 
@@ -39,7 +39,7 @@ pub steps_left : (s : State) (u : ℕ) → acts_by s u ≡ true → s.step_count
 steps_left s u acts = let both = and_both (is_due s u) (has_steps s) acts in grind (arith, nat_tests, both.1)
 
 -- what was committed is the due step
-pub stepped : (o : Option Effect) (before after : MachineParts) → IsStepped o before after → after.memory.state ≡ (or_still o before.memory.state).state
+pub stepped : (o : Option Effect) (before after : MachineParts) → IsStepped o before after → after.memory.state ≡ (unwrap_or o (still before.memory.state)).state
 stepped None before after h = absurd h
 stepped (Some e) before after h = h.0
 

@@ -1,4 +1,5 @@
 -- No record of a log lies past the greatest moment, in any state of a legal history.
+use Rattle.std.specs.Option.{option_or}
 use Rattle.std.proofs.Common.{◌≡◌, ◌≤◌, ◌==◌, ℕ, zero, suc, Bool, true, false, if◌then◌else◌, List, [], ◌∷◌, ◌++◌, Option, Some, None, find, drop, take, unwrap_or, option_map, not, refl, sym, subst}
 use Rattle.std.specs.List.{AllByRecursion, flat_map}
 use Rattle.engine_text.specs.Owner.{same_owner}
@@ -11,14 +12,14 @@ use Rattle.engine_text.specs.declared.owner.Owner.TheVariants.{Container as OfCo
 use Rattle.engine_text.specs.declared.step.DueAction.{DueAction}
 use Rattle.engine_text.specs.declared.step.Step.{Step}
 use Rattle.machine_model.specs.State.{State, container_numbered}
-use Rattle.machine_model.specs.Chain.{Effect}
+use Rattle.machine_model.specs.Chain.{Effect, still}
 use Rattle.machine_model.specs.Consistency.{IsConsistent}
 use Rattle.machine_model.specs.Due.{least_due}
 use Rattle.machine_model.specs.Effects.Destroy.{is_exec_of, logs_of}
 use Rattle.machine_model.specs.Effects.Meet.{logged, record_of}
 use Rattle.machine_model.specs.History.{Charter, IsLawful, AreLawful, IsLegal, after_step, state_from, state_after, opening_state}
-use Rattle.machine_model.specs.LogStream.{log_among, standing_log, kept_log, or_else, log_of}
-use Rattle.machine_model.specs.Step.{at_moment, step_of, or_still}
+use Rattle.machine_model.specs.LogStream.{log_among, standing_log, kept_log, log_of}
+use Rattle.machine_model.specs.Step.{at_moment, step_of}
 use Rattle.machine_model.proofs.ChangeLemmas.{all_updated, all_removed, all_filtered}
 use Rattle.machine_model.proofs.ClosureLemmas.{IsClosed, runs_call, runs_due}
 use Rattle.machine_model.proofs.Fold.RowLemmas.{made}
@@ -145,7 +146,7 @@ timed_at : (s : State) (t : ℕ) → t ≤ 9000000000000 → HasTimedLogs s → 
 timed_at s t le h = (le, h.1, h.2, h.3)
 
 due_timed : (s : State) (o : Option DueAction) → least_due s ≡ o → IsConsistent s → IsLawful s Step.Due → HasTimedLogs s
-    → HasTimedLogs (or_still (step_of o s) s).state
+    → HasTimedLogs (unwrap_or (step_of o s) (still s)).state
 due_timed s None is kept lawful h = h
 due_timed s (Some d) is kept lawful h =
     runs_due timed_closed d (at_moment d.moment s) (timed_at s d.moment (timely_due s d kept lawful is).until h)
@@ -177,7 +178,7 @@ standing (OfContainer n) s h =
     (found (λ (c : Container). IsTimed c.life.log) (λ c. c.number == n) s.containers h.1)
 standing (OfExec n) s h = among (OfExec n) s.outputs h.2
 
-either : (a b : Option (List LogRecord)) → IfThere IsTimed a → IfThere IsTimed b → IsTimed (unwrap_or (or_else a b) [])
+either : (a b : Option (List LogRecord)) → IfThere IsTimed a → IfThere IsTimed b → IsTimed (unwrap_or (option_or a b) [])
 either None None h k = tt
 either None (Some log) h k = k
 either (Some log) b h k = h

@@ -1,12 +1,13 @@
 -- The value of an entry has no float.
+use Rattle.std.specs.Option.{option_map_or}
 use Rattle.std.proofs.Common.{◌≡◌, ◌||◌, ℕ, ℤ, pos, negsuc, List, [], ◌∷◌, Bool, false, Option, Some, None, refl, ap}
-use Rattle.serde_json.specs.Data.{Data, number, string, Members, no_members}
+use Rattle.serde_json.specs.Data.{Data, number, string, Members, no_members, null}
 use Rattle.serde_json.specs.Find.{of_integer}
 use Rattle.serde_json.specs.Written.{has_float, members_have_float}
 use Rattle.json_laws.proofs.NoFloat.{no_float-put, no_float-pairs_data}
 use Rattle.api_json.specs.Values.{list_of, pairs_of, text, natural, integer}
 use Rattle.api_json.specs.Filters.{filter_word}
-use Rattle.machine_model.specs.JournalLines.{optional, signal_value, put_rows, filter_value, mount_entry, call_value, reply_value, entry_value}
+use Rattle.machine_model.specs.JournalLines.{signal_value, put_rows, filter_value, mount_entry, call_value, reply_value, entry_value}
 use Rattle.engine_text.specs.declared.call.Call.{Call}
 use Rattle.engine_text.specs.declared.entry.Entry.{Entry}
 use Rattle.engine_text.specs.declared.filter.FilterRow.{FilterRow}
@@ -27,7 +28,7 @@ whole : (z : ℤ) → has_float (integer z) ≡ false
 whole (pos n) = refl
 whole (negsuc n) = refl
 
-given : {A : Type 0} (f : A → Data) (o : Option A) → ((x : A) → has_float (f x) ≡ false) → has_float (optional f o) ≡ false
+given : {A : Type 0} (f : A → Data) (o : Option A) → ((x : A) → has_float (f x) ≡ false) → has_float (option_map_or f o null) ≡ false
 given f None none = refl
 given f (Some x) none = none x
 

@@ -1,9 +1,10 @@
 -- The members of a create's value, in two parts (own: format 1).
 use Rattle.std.specs.Prelude.{codes}
-use Rattle.serde_json.specs.Data.{boolean, Members, no_members, member, put}
+use Rattle.std.specs.Option.{option_map_or}
+use Rattle.serde_json.specs.Data.{boolean, Members, no_members, member, put, null}
 use Rattle.api_json.specs.Values.{text, natural, integer, list_of, pairs_object}
 use Rattle.api_json.specs.Container.{policy_word, most_retries}
-use Rattle.machine_model.specs.JournalLines.{mount_entry, optional, signal_value}
+use Rattle.machine_model.specs.JournalLines.{mount_entry, signal_value}
 use Rattle.engine_text.specs.declared.call.CreateSpec.{CreateSpec}
 
 -- Up to the mounts.
@@ -24,4 +25,4 @@ create_back spec front =
     put (codes "policy") (text (policy_word spec.policy)) (
     put (codes "op") (text (codes "create")) (
     put (codes "once") (boolean spec.stdin_once) (
-    put (codes "name") (optional text spec.name) front))))))
+    put (codes "name") (option_map_or text spec.name null) front))))))

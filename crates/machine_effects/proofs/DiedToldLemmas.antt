@@ -1,4 +1,5 @@
 -- Whose main process a step ends, and with which code, is what was told before it.
+use Rattle.std.specs.Option.{unwrap_or}
 use Rattle.std.proofs.Common.{◌≡◌, ℕ, ℤ, pos, negsuc, Bool, true, false, List, [], ◌++◌, Option, Some, None, refl, ap, sym, ◌∙◌}
 use Rattle.engine_text.specs.declared.container.Container.{Container}
 use Rattle.engine_text.specs.declared.container.Life.{Life}
@@ -18,7 +19,7 @@ use Rattle.machine_model.specs.Chain.{Died, and_then, tell_of, with_found}
 use Rattle.machine_model.specs.Calls.Kill.{by_hand, deliver}
 use Rattle.machine_model.specs.Calls.Remove.{to_remove, if_it_lives, kill_to_remove}
 use Rattle.machine_model.specs.Due.{stop_deadline}
-use Rattle.machine_model.specs.Effects.Halt.{halt, set_deadline, signal_used, seconds_used}
+use Rattle.machine_model.specs.Effects.Halt.{halt, set_deadline}
 use Rattle.machine_model.specs.Effects.Meet.{by_effect, meet_signal, running, send, step_process, stepped, thaw_container, thaw_execs, woken}
 use Rattle.machine_effects.specs.Fit.{died_of}
 use Rattle.machine_effects.specs.Marks.{renewed}
@@ -117,12 +118,12 @@ behind_deadline (pos seconds) number n s c code found is = meet_died number n (s
 behind_deadline (negsuc k) number n s c code found is = meet_died number n s c code found is
 
 pub halt_died : (mark : Life → Life) (seconds : Option ℤ) (sent : Option Signal) (s : State) (c : Container) (code : Option ℕ) → container_numbered c.number s ≡ Some c
-    → code ≡ code_at (signal (signal_used sent c) true s.clock) (process_of (Owner.Container c.number) s.processes) → (halt mark seconds sent c s).died ≡ died_of c.number code
+    → code ≡ code_at (signal ((unwrap_or sent c.life.stop_signal).number) true s.clock) (process_of (Owner.Container c.number) s.processes) → (halt mark seconds sent c s).died ≡ died_of c.number code
 halt_died mark seconds sent s c code found is =
     let n : ℕ = c.number in
-    let number : ℕ = signal_used sent c in
-    behind_event (kill_event number) n s (λ z. (meet_signal number n (set_deadline (seconds_used seconds c) n (change_life n mark z))).died)
-    ∙ behind_deadline (seconds_used seconds c) number n (change_life n mark s) (renewed mark c) code (found_renewed n mark s c found) is
+    let number : ℕ = (unwrap_or sent c.life.stop_signal).number in
+    behind_event (kill_event number) n s (λ z. (meet_signal number n (set_deadline (unwrap_or seconds c.life.stop_after) n (change_life n mark z))).died)
+    ∙ behind_deadline (unwrap_or seconds c.life.stop_after) number n (change_life n mark s) (renewed mark c) code (found_renewed n mark s c found) is
 
 none_if : (b : Bool) (n : ℕ) (s : State) → (if_it_lives b n s).died ≡ []
 none_if false n s = refl

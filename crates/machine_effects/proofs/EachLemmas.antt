@@ -1,11 +1,12 @@
 -- An effect of each item of a list, one after the other.
+use Rattle.std.specs.Option.{is_some}
 use Rattle.std.proofs.Common.{◌≡◌, ℕ, ◌+◌, ◌==◌, ◌&&◌, ◌<◌, Bool, true, false, List, [], ◌∷◌, ◌++◌, Option, Some, None, refl, ap, sym, ◌∙◌, map, filter, length, get_or, take, if◌then◌else◌, ◌≤◌, subst, arith, zero, suc}
 use Rattle.std.proofs.lemmas.List.{take_more}
 use Rattle.engine_text.specs.declared.exec.Exec.{Exec}
 use Rattle.engine_text.specs.declared.owner.Owner.{Owner}
 use Rattle.proc_kernel.specs.Processes.{Process}
 use Rattle.proc_kernel.specs.Tables.{process_of, is_there}
-use Rattle.machine_model.specs.State.{State, running_execs, is_process}
+use Rattle.machine_model.specs.State.{State, running_execs}
 use Rattle.machine_model.specs.Chain.{Effect, each}
 use Rattle.machine_effects.specs.Running.{is_running}
 
@@ -21,7 +22,7 @@ each_mapped f g (x ∷ xs) s = each_mapped f g xs (f (g x) s).state
 pub each_more : (f : ℕ → State → Effect) (xs : List ℕ) (i : ℕ) (s : State) → i < length xs → (each f (take (i + 1) xs) s).state ≡ (f (get_or xs i 0) (each f (take i xs) s).state).state
 each_more f xs i s low = ap (λ l. (each f l s).state) (take_more xs i 0 low) ∙ each_end f (take i xs) (get_or xs i 0) s
 
-same_there : (o : Option Process) → is_process o ≡ is_there o
+same_there : (o : Option Process) → is_some o ≡ is_there o
 same_there None = refl
 same_there (Some p) = refl
 
@@ -43,9 +44,9 @@ same_filter p q same (x ∷ xs) = same_either (p x) (q x) x (filter p xs) (filte
 -- the running execs, found in one go
 pub running_is : (n : ℕ) (s : State) → filter (is_running n s.processes) s.execs ≡ running_execs n s
 running_is n s =
-    same_filter (is_running n s.processes) (λ x. (x.container == n) && is_process (process_of (Owner.Exec x.number) s.processes))
+    same_filter (is_running n s.processes) (λ x. (x.container == n) && is_some (process_of (Owner.Exec x.number) s.processes))
     (λ x. ap (λ b. (x.container == n) && b) (sym (same_there (process_of (Owner.Exec x.number) s.processes)))) s.execs
-    ∙ sym (both (λ x. is_process (process_of (Owner.Exec x.number) s.processes)) (λ x. x.container == n) s.execs)
+    ∙ sym (both (λ x. is_some (process_of (Owner.Exec x.number) s.processes)) (λ x. x.container == n) s.execs)
 
 take_past : {A : Type 0} (xs : List A) (i : ℕ) → length xs ≤ i → take i xs ≡ xs
 take_past [] zero far = refl

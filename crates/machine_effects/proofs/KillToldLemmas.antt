@@ -1,4 +1,5 @@
 -- What is told before a stop, a restart, a forced removal or a stop deadline is what it tells.
+use Rattle.std.specs.Option.{unwrap_or}
 use Rattle.std.proofs.Common.{◌≡◌, ℕ, ◌+◌, ◌*◌, ℤ, pos, negsuc, Bool, true, false, List, [], ◌∷◌, ◌++◌, Option, Some, None, refl, ap, sym, ◌∙◌}
 use Rattle.std.specs.List.{flat_map}
 use Rattle.container_table.specs.Timers.{with_timer}
@@ -24,7 +25,7 @@ use Rattle.machine_model.specs.Calls.Stop.{stopping}
 use Rattle.machine_model.specs.Calls.Restart.{to_restart}
 use Rattle.machine_model.specs.Calls.Remove.{to_remove, if_it_lives, kill_to_remove}
 use Rattle.machine_model.specs.Due.{stop_deadline}
-use Rattle.machine_model.specs.Effects.Halt.{halt, lesser, set_deadline, signal_used, seconds_used}
+use Rattle.machine_model.specs.Effects.Halt.{halt, lesser, set_deadline}
 use Rattle.machine_model.specs.Effects.Meet.{meet_signal}
 use Rattle.machine_model.specs.Tickets.{begun}
 use Rattle.machine_effects.specs.Foretold.{told_code, told_exec, told_goal, told_mounts, told_number, told_status}
@@ -170,11 +171,11 @@ behind_deadline (pos seconds) mark goal number n s c o code aims found named sin
 behind_deadline (negsuc k) mark goal number n s c o code aims found named single is = aimed_told mark goal number n s c o code aims found named single is
 
 pub halt_told : (mark : Life → Life) (goal : Goal) (seconds : Option ℤ) (sent : Option Signal) (s : State) (c : Container) (o : Option Program) (code : Option ℕ) → Aims mark goal c.life → container_numbered c.number s ≡ Some c → o ≡ program_of c.life.words (c.life.starts + 1) → StandOnce s
-    → code ≡ code_at (signal (signal_used sent c) true s.clock) (process_of (Owner.Container c.number) s.processes) → (halt mark seconds sent c s).events ≡ told_kill (signal_used sent c) code (aimed goal c) o s
+    → code ≡ code_at (signal ((unwrap_or sent c.life.stop_signal).number) true s.clock) (process_of (Owner.Container c.number) s.processes) → (halt mark seconds sent c s).events ≡ told_kill ((unwrap_or sent c.life.stop_signal).number) code (aimed goal c) o s
 halt_told mark goal seconds sent s c o code aims found named single is =
     let n : ℕ = c.number in
-    let number : ℕ = signal_used sent c in
-    let z : ℤ = seconds_used seconds c in
+    let number : ℕ = (unwrap_or sent c.life.stop_signal).number in
+    let z : ℤ = (unwrap_or seconds c.life.stop_after) in
     ap (λ y. (tell_of (kill_event number) n s).events ++ (meet_signal number n (set_deadline z n (change_life n mark y))).events) (tell_still (kill_event number) n s)
     ∙ (ap (λ l. (tell_of (kill_event number) n s).events ++ l) (behind_deadline z mark goal number n s c o code aims found named single is)
     ∙ ap (λ l. l ++ told_meet c.life.status code n (aimed goal c) o s) (told_at (kill_event number) n s c found))
@@ -190,12 +191,12 @@ remove_aims l = record { over = refl; told = record { mounts = refl; goal = refl
 
 -- a stop of a container that lives
 pub stop_told : (seconds : Option ℤ) (sent : Option Signal) (s : State) (c : Container) (o : Option Program) (code : Option ℕ) → container_numbered c.number s ≡ Some c → o ≡ program_of c.life.words (c.life.starts + 1) → StandOnce s
-    → code ≡ code_at (signal (signal_used sent c) true s.clock) (process_of (Owner.Container c.number) s.processes) → (halt stopping seconds sent c s).events ≡ told_kill (signal_used sent c) code (aimed Goal.Stop c) o s
+    → code ≡ code_at (signal ((unwrap_or sent c.life.stop_signal).number) true s.clock) (process_of (Owner.Container c.number) s.processes) → (halt stopping seconds sent c s).events ≡ told_kill ((unwrap_or sent c.life.stop_signal).number) code (aimed Goal.Stop c) o s
 stop_told seconds sent s c o code found named single is = halt_told stopping Goal.Stop seconds sent s c o code (stopping_aims c.life) found named single is
 
 -- a restart of a container that lives
 pub restart_told : (seconds : Option ℤ) (sent : Option Signal) (s : State) (c : Container) (o : Option Program) (code : Option ℕ) → container_numbered c.number s ≡ Some c → o ≡ program_of c.life.words (c.life.starts + 1) → StandOnce s
-    → code ≡ code_at (signal (signal_used sent c) true s.clock) (process_of (Owner.Container c.number) s.processes) → (halt to_restart seconds sent c s).events ≡ told_kill (signal_used sent c) code (aimed Goal.Restart c) o s
+    → code ≡ code_at (signal ((unwrap_or sent c.life.stop_signal).number) true s.clock) (process_of (Owner.Container c.number) s.processes) → (halt to_restart seconds sent c s).events ≡ told_kill ((unwrap_or sent c.life.stop_signal).number) code (aimed Goal.Restart c) o s
 restart_told seconds sent s c o code found named single is = halt_told to_restart Goal.Restart seconds sent s c o code (restart_aims c.life) found named single is
 
 -- ---- a forced removal

@@ -10,7 +10,7 @@ use Rattle.engine_text.specs.declared.log.LogRecord.{LogRecord}
 use Rattle.engine_text.specs.declared.log.KeptLogs.{KeptLogs}
 use Rattle.engine_text.specs.declared.log.OwnedLog.{OwnedLog}
 use Rattle.engine_text.specs.declared.owner.Owner.{Owner}
-use Rattle.machine_model.specs.LogStream.{log_among, or_else}
+use Rattle.machine_model.specs.LogStream.{log_among}
 use Rattle.machine_effects.specs.Held.{output_in, outputs_in}
 use Rattle.machine_effects.specs.declared.held.HeldOutput.{HeldOutput}
 
@@ -29,12 +29,12 @@ among_outputs owner [] = refl
 among_outputs owner (h ∷ hs) =
     first_by (same_owner h.owner owner) h (find (λ l. same_owner l.owner owner) (outputs_in hs)) (find (λ x. same_owner x.owner owner) hs) (among_outputs owner hs)
 
-in_either : (a b : Option OwnedLog) → option_map (λ (l : OwnedLog). l.log) (option_or a b) ≡ or_else (option_map (λ (l : OwnedLog). l.log) a) (option_map (λ (l : OwnedLog). l.log) b)
+in_either : (a b : Option OwnedLog) → option_map (λ (l : OwnedLog). l.log) (option_or a b) ≡ option_or (option_map (λ (l : OwnedLog). l.log) a) (option_map (λ (l : OwnedLog). l.log) b)
 in_either None b = refl
 in_either (Some l) b = refl
 
 -- among the first, or else among the others
-pub among_append : (owner : Owner) (a b : List OwnedLog) → log_among owner (a ++ b) ≡ or_else (log_among owner a) (log_among owner b)
+pub among_append : (owner : Owner) (a b : List OwnedLog) → log_among owner (a ++ b) ≡ option_or (log_among owner a) (log_among owner b)
 among_append owner a b =
     ap (option_map (λ (l : OwnedLog). l.log)) (find-append (λ l. same_owner l.owner owner) a b) ∙ in_either (find (λ l. same_owner l.owner owner) a) (find (λ l. same_owner l.owner owner) b)
 
@@ -44,13 +44,13 @@ pub kept_behind : (owner : Owner) (k : KeptLogs) (more : List KeptLogs) → log_
     → log_among owner (flat_map (λ x. x.logs) (k ∷ more)) ≡ log_among owner (flat_map (λ x. x.logs) more)
 kept_behind owner k more e =
     let rest : List OwnedLog = flat_map (λ x. x.logs) more in
-    among_append owner k.logs rest ∙ ap (λ o. or_else o (log_among owner rest)) e
+    among_append owner k.logs rest ∙ ap (λ o. option_or o (log_among owner rest)) e
 
 pub kept_first : (owner : Owner) (k : KeptLogs) (more : List KeptLogs) (log : List LogRecord) → log_among owner k.logs ≡ Some log
     → log_among owner (flat_map (λ x. x.logs) (k ∷ more)) ≡ Some log
 kept_first owner k more log e =
     let rest : List OwnedLog = flat_map (λ x. x.logs) more in
-    among_append owner k.logs rest ∙ ap (λ o. or_else o (log_among owner rest)) e
+    among_append owner k.logs rest ∙ ap (λ o. option_or o (log_among owner rest)) e
 
 -- those from a place on are the one there and those behind it
 pub kept_at : (owner : Owner) (kept : List KeptLogs) (i : ℕ) (k : KeptLogs) → i < length kept → k ≡ get_or kept i k

@@ -1,6 +1,6 @@
 -- Tickets settled one after the other.
 use Rattle.std.proofs.Common.{◌≡◌, ℕ, zero, suc, ◌+◌, ◌<◌, ◌≤◌, List, [], ◌∷◌, ◌++◌, Option, Some, None, refl, ap, sym, ◌∙◌, arith, map, length, get_or, take, drop, find, add-one, ◌==◌, Bool, true, false, if◌then◌else◌}
-use Rattle.std.specs.Prelude.{slice_get}
+use Rattle.std.specs.Prelude.{slice_get, option_and_then}
 use Rattle.std.proofs.Math.ListN.{set}
 use Rattle.engine_text.specs.declared.container.Container.{Container}
 use Rattle.engine_text.specs.declared.reply.Reply.{Reply}
@@ -9,7 +9,7 @@ use Rattle.engine_text.specs.declared.ticket.Asked.{Asked}
 use Rattle.engine_text.specs.declared.call.Until.{Until}
 use Rattle.machine_model.specs.State.{State, container_numbered}
 use Rattle.machine_model.specs.Chain.{Died}
-use Rattle.machine_model.specs.Effects.Settle.{settled, settle_tickets, reply_of, reply_by, wait_reply}
+use Rattle.machine_model.specs.Effects.Settle.{settled, settle_tickets, reply_of, wait_reply}
 use Rattle.machine_effects.specs.Held.{ticket_in, tickets_in, replies_in, answered_by, ready_by, ready_or}
 use Rattle.machine_effects.specs.declared.held.Fate.{Fate}
 use Rattle.machine_effects.specs.Places.{at_place}
@@ -30,7 +30,7 @@ of_same Asked.Restart o c s ts = refl
 of_same Asked.Remove o c s ts = refl
 of_same (Asked.Wait u) o c s ts = wait_same u o c s ts
 
-by_same : (o : Option Container) (a : Asked) (died : List Died) (s : State) (ts : List Ticket) → reply_by o a died (record s { tickets = ts }) ≡ reply_by o a died s
+by_same : (o : Option Container) (a : Asked) (died : List Died) (s : State) (ts : List Ticket) → (option_and_then (λ (c : Container). reply_of a (find (λ d. d.number == c.number) died) c (record s { tickets = ts })) o) ≡ option_and_then (λ (c : Container). reply_of a (find (λ d. d.number == c.number) died) c s) o
 by_same None a died s ts = refl
 by_same (Some c) a died s ts = of_same a (find (λ d. d.number == c.number) died) c s ts
 

@@ -1,6 +1,6 @@
 -- What is told before a step is what the step tells.
 use Rattle.std.proofs.Common.{◌≡◌, ℕ, ◌+◌, ◌==◌, Bool, true, false, List, [], ◌∷◌, ◌++◌, Option, Some, None, refl, ap, sym, ◌∙◌, subst, find, map, filter, if◌then◌else◌}
-use Rattle.std.specs.Prelude.{option_map}
+use Rattle.std.specs.Prelude.{option_map, is_some}
 use Rattle.std.specs.List.{flat_map}
 use Rattle.engine_text.specs.Scripts.{Program}
 use Rattle.engine_text.specs.Owner.{same_owner}
@@ -19,7 +19,7 @@ use Rattle.proc_kernel.specs.Processes.{Process}
 use Rattle.proc_kernel.specs.Tables.{Entry, process_of, change as changed_of}
 use Rattle.restart_policy.specs.declared.decision.Decision.{Decision}
 use Rattle.restart_policy.specs.declared.decision.Decision.TheVariants.{Stay, Again}
-use Rattle.machine_model.specs.State.{State, container_numbered, exec_numbered, running_execs, change_life, drop_process, change_exec, is_process}
+use Rattle.machine_model.specs.State.{State, container_numbered, exec_numbered, running_execs, change_life, drop_process, change_exec}
 use Rattle.machine_model.specs.EventTexts.{plain_event, die_event, exec_die_event, mount_event}
 use Rattle.machine_model.specs.Chain.{and_then, each, change, tell_of, tell_mounts, with_found}
 use Rattle.machine_model.specs.Effects.Destroy.{without}
@@ -274,18 +274,18 @@ end_told code n s z c a same e =
 
 -- ---- a step of the main process
 
-stands_either : (o p : Owner) (f : Process → Process) (b d : Bool) (e : Entry) (xs ys : List Entry) → is_process (process_of o ys) ≡ is_process (process_of o xs) → same_owner e.owner o ≡ d
-    → is_process (process_of o (if b then record e { process = f e.process } ∷ xs else e ∷ ys)) ≡ is_process (if d then Some e.process else process_of o xs)
-stands_either o p f true true e xs ys h k = ap (λ c. is_process (if c then Some (f e.process) else process_of o xs)) k
-stands_either o p f true false e xs ys h k = ap (λ c. is_process (if c then Some (f e.process) else process_of o xs)) k
-stands_either o p f false true e xs ys h k = ap (λ c. is_process (if c then Some e.process else process_of o ys)) k
-stands_either o p f false false e xs ys h k = ap (λ c. is_process (if c then Some e.process else process_of o ys)) k ∙ h
+stands_either : (o p : Owner) (f : Process → Process) (b d : Bool) (e : Entry) (xs ys : List Entry) → is_some (process_of o ys) ≡ is_some (process_of o xs) → same_owner e.owner o ≡ d
+    → is_some (process_of o (if b then record e { process = f e.process } ∷ xs else e ∷ ys)) ≡ is_some (if d then Some e.process else process_of o xs)
+stands_either o p f true true e xs ys h k = ap (λ c. is_some (if c then Some (f e.process) else process_of o xs)) k
+stands_either o p f true false e xs ys h k = ap (λ c. is_some (if c then Some (f e.process) else process_of o xs)) k
+stands_either o p f false true e xs ys h k = ap (λ c. is_some (if c then Some e.process else process_of o ys)) k
+stands_either o p f false false e xs ys h k = ap (λ c. is_some (if c then Some e.process else process_of o ys)) k ∙ h
 
 -- a step leaves who lives
-pub stands_changed : (o p : Owner) (f : Process → Process) (es : List Entry) → is_process (process_of o (changed_of p f es)) ≡ is_process (process_of o es)
+pub stands_changed : (o p : Owner) (f : Process → Process) (es : List Entry) → is_some (process_of o (changed_of p f es)) ≡ is_some (process_of o es)
 stands_changed o p f [] = refl
 stands_changed o p f (e ∷ es) = stands_either o p f (same_owner e.owner p) (same_owner e.owner o) e es (changed_of p f es) (stands_changed o p f es) refl
 
 pub running_changed : (n : ℕ) (p : Owner) (f : Process → Process) (s : State) → running_execs n (record s { processes = changed_of p f s.processes }) ≡ running_execs n s
-running_changed n p f s = same_filter (λ x. is_process (process_of (Owner.Exec x.number) (changed_of p f s.processes))) (λ x. is_process (process_of (Owner.Exec x.number) s.processes))
+running_changed n p f s = same_filter (λ x. is_some (process_of (Owner.Exec x.number) (changed_of p f s.processes))) (λ x. is_some (process_of (Owner.Exec x.number) s.processes))
     (λ x. stands_changed (Owner.Exec x.number) p f s.processes) (filter (λ x. x.container == n) s.execs)

@@ -1,6 +1,6 @@
 -- Which execs of a container still run once they went on.
 use Rattle.std.proofs.Common.{◌≡◌, ◌≢◌, ℕ, ◌==◌, ◌&&◌, Bool, true, false, List, [], ◌∷◌, Option, Some, None, refl, ap, sym, ◌∙◌, subst, find, map, filter, if◌then◌else◌}
-use Rattle.std.specs.Prelude.{option_map}
+use Rattle.std.specs.Prelude.{option_map, is_some}
 use Rattle.std.specs.List.{AllByRecursion}
 use Rattle.std.proofs.lemmas.Bool.{eqb-true, eq-eqb}
 use Rattle.engine_text.specs.Owner.{same_owner}
@@ -13,7 +13,7 @@ use Rattle.proc_kernel.specs.Foretelling.{code_in}
 use Rattle.proc_kernel.specs.Processes.{Process, thaw}
 use Rattle.proc_kernel.specs.Tables.{Entry, process_of, effect_of, change as changed_of, without as without_of}
 use Rattle.machine_model.specs.Consistency.{AreDistinct, is_there}
-use Rattle.machine_model.specs.State.{State, exec_numbered, is_live, is_process, running_execs, execs_of, drop_process, change_exec}
+use Rattle.machine_model.specs.State.{State, exec_numbered, is_live, running_execs, execs_of, drop_process, change_exec}
 use Rattle.machine_model.specs.Chain.{each, with_found, and_then, change, tell_of}
 use Rattle.machine_model.specs.Effects.Meet.{by_effect, step_process, stepped}
 use Rattle.machine_model.specs.Effects.EndMain.{exec_ended}
@@ -135,8 +135,8 @@ found_live : (j code : ℕ) (s : State) (x : Exec) (o : Option Exec) → o ≡ S
     → is_live (Owner.Exec j) (with_found o (λ (x : Exec). and_then (tell_of (exec_die_event x.id code) x.container) (and_then (change (drop_process (Owner.Exec j))) (change (change_exec j (exec_ended code))))) s).state ≡ false
 found_live j code s x o e d =
     ap (λ (q : Option Exec). is_live (Owner.Exec j) (with_found q (λ (x : Exec). and_then (tell_of (exec_die_event x.id code) x.container) (and_then (change (drop_process (Owner.Exec j))) (change (change_exec j (exec_ended code))))) s).state) e
-    ∙ (ap (λ (z : State). is_process (process_of (Owner.Exec j) (without_of (Owner.Exec j) z.processes))) (tell_still (exec_die_event x.id code) x.container s)
-    ∙ ap is_process (gone_without j s.processes d))
+    ∙ (ap (λ (z : State). is_some (process_of (Owner.Exec j) (without_of (Owner.Exec j) z.processes))) (tell_still (exec_die_event x.id code) x.container s)
+    ∙ ap is_some (gone_without j s.processes d))
 
 effect_live : (e : ProcessEffect) (j : ℕ) (s : State) (x : Exec) → exec_numbered j s ≡ Some x → AreDistinct (owners s) → is_live (Owner.Exec j) s ≡ true
     → is_live (Owner.Exec j) (by_effect e (Owner.Exec j) s).state ≡ is_none (code_in e)
@@ -152,7 +152,7 @@ own_live j s z x a same found d live =
     let code : code_in e ≡ thawed_code j s = ap (λ o. code_in (effect_of (thaw z.clock) o)) same ∙ ap (λ t. code_in (effect_of (thaw t) (process_of (Owner.Exec j) s.processes))) a.clock in
     effect_live e j y x found
     (subst (λ (l : List Owner). AreDistinct l) (sym (owners_changed (Owner.Exec j) (λ p. (thaw z.clock p).process) z.processes)) d)
-    (stands_changed (Owner.Exec j) (Owner.Exec j) (λ p. (thaw z.clock p).process) z.processes ∙ (ap is_process same ∙ live))
+    (stands_changed (Owner.Exec j) (Owner.Exec j) (λ p. (thaw z.clock p).process) z.processes ∙ (ap is_some same ∙ live))
     ∙ ap is_none code
 
 step_live : (j k : ℕ) (b : Bool) (s z : State) (x : Exec) → (j == k) ≡ b → AreAlike s z → process_of (Owner.Exec j) z.processes ≡ process_of (Owner.Exec j) s.processes → exec_numbered j z ≡ Some x → AreDistinct (owners z) → is_live (Owner.Exec j) s ≡ true
@@ -160,7 +160,7 @@ step_live : (j k : ℕ) (b : Bool) (s z : State) (x : Exec) → (j == k) ≡ b �
 step_live j k true s z x e a same found d live =
     let at : j ≡ k = eqb-true j k e in
     sym (ap (λ (m : ℕ). is_live (Owner.Exec m) (step_process thaw (Owner.Exec j) z).state) at) ∙ own_live j s z x a same found d live
-step_live j k false s z x e a same found d live = ap is_process (other_thawed j k z e)
+step_live j k false s z x e a same found d live = ap is_some (other_thawed j k z e)
 
 -- once these went on
 live_after : State → List Exec → ℕ → Bool → Bool

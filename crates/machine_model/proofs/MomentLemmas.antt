@@ -1,13 +1,14 @@
 -- The events of a step stand at its moment, and the moments of a history never fall.
+use Rattle.std.specs.Option.{unwrap_or}
 use Rattle.std.proofs.Common.{◌≡◌, ℕ, ◌≤◌, List, [], ◌∷◌, ◌++◌, Option, Some, None, map, not, refl, sym, ◌∙◌, arith}
 use Rattle.std.specs.List.{AllByRecursion, list_any}
 use Rattle.container_table.specs.Timers.{is_before}
 use Rattle.machine_model.specs.State.{State}
-use Rattle.machine_model.specs.Chain.{Effect}
+use Rattle.machine_model.specs.Chain.{Effect, still}
 use Rattle.machine_model.specs.Due.{due_actions, least_due, due_effect}
 use Rattle.machine_model.specs.EventTexts.{mount_event}
 use Rattle.machine_model.specs.History.{Charter, opening_state, after_step, events_from, events_of, IsLawfulCall, IsLawful, AreLawful, IsLegal}
-use Rattle.machine_model.specs.Step.{at_moment, step_of, or_still, step_effect}
+use Rattle.machine_model.specs.Step.{at_moment, step_of, step_effect}
 use Rattle.machine_model.specs.Laws.{NeverFall}
 use Rattle.machine_model.specs.Call.{outcome_of}
 use Rattle.machine_model.proofs.ListLemmas.{all_append, all_weaken, all_mapped}
@@ -77,7 +78,7 @@ moves_by : (s : State) (t : ℕ) (e : Effect) → s.clock ≤ t → Stamped (at_
 moves_by s t e low h =
     (all_weaken (λ v. v.moment ≡ t) (λ v. v.moment ≡ e.state.clock) (λ v is. is ∙ sym h.1) e.events h.0, omega (arith, low, h.1))
 
-due_moves : (s : State) (o : Option DueAction) → least_due s ≡ o → AllByRecursion (λ d. s.clock ≤ d.moment) (due_actions s) → Moves s (or_still (step_of o s) s)
+due_moves : (s : State) (o : Option DueAction) → least_due s ≡ o → AllByRecursion (λ d. s.clock ≤ d.moment) (due_actions s) → Moves s (unwrap_or (step_of o s) (still s))
 due_moves s None e dues = (tt, omega arith)
 due_moves s (Some d) e dues =
     let low : s.clock ≤ d.moment = found_all (λ d. s.clock ≤ d.moment) (λ d. not (list_any (λ e. is_before e d) (due_actions s))) d (due_actions s) e dues in

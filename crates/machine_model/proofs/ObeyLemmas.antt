@@ -1,16 +1,16 @@
 -- What each call obeys: its events fold to the new summary, and its reply is one of its operation's.
+use Rattle.std.specs.Option.{option_map_or, unwrap_or}
 use Rattle.std.proofs.Common.{◌≡◌, ℕ, ◌<◌, ◌≤◌, ◌==◌, ◌&&◌, Bool, true, false, List, [], ◌∷◌, IsTrue, Option, Some, None, find, if◌then◌else◌, refl, sym, subst, arith}
 use Rattle.std.proofs.lemmas.Bool.{leb-true}
 use Rattle.std.specs.List.{AllByRecursion}
 use Rattle.container_table.specs.Reference.{container_by}
 use Rattle.machine_model.specs.State.{State, container_numbered}
 use Rattle.machine_model.specs.Chain.{Effect, and_then, change, still}
-use Rattle.machine_model.specs.Outcome.{Outcome, with_one, by_found, at_reference, answers, replies}
+use Rattle.machine_model.specs.Outcome.{Outcome, by_found, at_reference, answers, replies, refused}
 use Rattle.machine_model.specs.Tickets.{begun, begins}
 use Rattle.call_bounds.specs.Soundness.{IsSound, is_signal, if_given}
 use Rattle.machine_model.specs.Statuses.{is_status_of, is_ticket_status, is_reply_of, gives_ticket}
 use Rattle.machine_model.specs.Consistency.{IsFrozenRight}
-use Rattle.machine_model.specs.Effects.Halt.{signal_used}
 use Rattle.machine_model.proofs.Fold.RowLemmas.{Same, Is, found_number, same_some}
 use Rattle.machine_model.proofs.Fold.TellLemmas.{Fit, Folded, Tells, LifeInRange, folded_by, folded_at, folded_still, tells_then, tells_apart}
 use Rattle.engine_text.specs.declared.call.Call.{Call}
@@ -20,6 +20,7 @@ use Rattle.engine_text.specs.declared.event.FoldRow.{FoldRow}
 use Rattle.engine_text.specs.declared.reply.Reply.{Reply}
 use Rattle.engine_text.specs.declared.signal.Signal.{Signal}
 use Rattle.engine_text.specs.declared.ticket.Asked.{Asked}
+use Rattle.machine_model.specs.Refusals.{no_such_container}
 
 -- what the fold needs of the state of a call
 pub record Stands (s : State) : Type 0 where
@@ -77,7 +78,7 @@ obeys_ticket k s connection c asked e Q found is same tells = record {
 -- ---- references
 
 one_case : (k : Call) (s : State) (n : ℕ) (target : List ℕ) (f : Container → State → Outcome) (o : Option Container) → container_numbered n s ≡ o
-    → IsTrue (is_status_of k 404) → ((c : Container) → container_numbered c.number s ≡ Some c → Obeys k s (f c s)) → Obeys k s (with_one o target f s)
+    → IsTrue (is_status_of k 404) → ((c : Container) → container_numbered c.number s ≡ Some c → Obeys k s (f c s)) → Obeys k s (option_map_or f o (refused 404 (no_such_container target)) s)
 one_case k s n target f None e none one = obeys_answer k s 404 _ none
 one_case k s n target f (Some c) e none one = one c (subst (λ m. container_numbered m s ≡ Some c) (sym (found_number n c s.containers e)) e)
 
@@ -114,7 +115,7 @@ pub found_all : {A : Type 0} (P : A → Type 0) (p : A → Bool) (y : A) (xs : L
 found_all P p y [] e all = absurd (cc)
 found_all P p y (x ∷ xs) e all = found_by P (p x) x y (find p xs) e all.0 (λ more. found_all P p y xs more all.1)
 
-pub low_used : (o : Option Signal) (c : Container) → if_given is_signal o ≡ true → LifeInRange c → signal_used o c < 128
+pub low_used : (o : Option Signal) (c : Container) → if_given is_signal o ≡ true → LifeInRange c → (unwrap_or o c.life.stop_signal).number < 128
 low_used None c sound in_range = omega (arith, in_range.2)
 low_used (Some signal) c sound in_range = low_signal signal sound
 

@@ -2,11 +2,11 @@
 use Rattle.std.proofs.Common.{ℕ, ◌==◌, Bool, true, false, List, [], ◌∷◌, IsTrue, Option, Some, None, map, if◌then◌else◌, refl}
 use Rattle.std.specs.List.{AllByRecursion}
 use Rattle.machine_model.specs.State.{State, container_numbered}
-use Rattle.machine_model.specs.Chain.{Effect, Died}
+use Rattle.machine_model.specs.Chain.{Effect, Died, still}
 use Rattle.machine_model.specs.Due.{least_due, due_effect, timed_out}
 use Rattle.machine_model.specs.Effects.Destroy.{answer, answered, last_reply, last_answer}
-use Rattle.machine_model.specs.Effects.Settle.{is_at_rest, has_died, reply_if, wait_reply, reply_of, reply_by, settled, settle_tickets}
-use Rattle.machine_model.specs.Step.{at_moment, step_of, or_still}
+use Rattle.machine_model.specs.Effects.Settle.{is_at_rest, has_died, reply_if, wait_reply, reply_of, settled, settle_tickets}
+use Rattle.machine_model.specs.Step.{at_moment, step_of}
 use Rattle.machine_model.specs.History.{Charter, opening_state, after_step, state_from, state_after}
 use Rattle.machine_model.specs.Statuses.{is_reply_of}
 use Rattle.machine_model.specs.Call.{outcome_of}
@@ -24,6 +24,7 @@ use Rattle.engine_text.specs.declared.step.Step.{Step}
 use Rattle.engine_text.specs.declared.ticket.Asked.{Asked}
 use Rattle.engine_text.specs.declared.ticket.Ticket.{Ticket}
 use Rattle.machine_model.proofs.ClosureLemmas.{runs_call, runs_due}
+use Rattle.std.specs.Prelude.{find, option_and_then, unwrap_or}
 
 -- ---- tickets that are answered
 
@@ -70,7 +71,7 @@ reply_is Asked.Restart died c s = if_is (has_died died) _ refl
 reply_is Asked.Remove died c s = tt
 reply_is (Asked.Wait until) died c s = wait_is until died c s
 
-by_is : (o : Option Container) (a : Asked) (died : List Died) (s : State) → IsTicketReply (reply_by o a died s)
+by_is : (o : Option Container) (a : Asked) (died : List Died) (s : State) → IsTicketReply (option_and_then (λ (c : Container). reply_of a (find (λ d. d.number == c.number) died) c s) o)
 by_is None a died s = tt
 by_is (Some c) a died s = reply_is a _ c s
 
@@ -115,7 +116,7 @@ replies_closed = record {
 settle : (s : State) (died : List Died) → HaveReplies s → HaveReplies (settle_tickets died s)
 settle s died h = all_through (λ t. IsTicketReply t.reply) (λ t. settled t.reply t died s) (λ t k. settled_is t.reply t died s k) s.tickets h
 
-due_keeps : (s : State) (o : Option DueAction) → HaveReplies s → HaveReplies (or_still (step_of o s) s).state
+due_keeps : (s : State) (o : Option DueAction) → HaveReplies s → HaveReplies (unwrap_or (step_of o s) (still s)).state
 due_keeps s None h = h
 due_keeps s (Some d) h =
     let e : Effect = due_effect d (at_moment d.moment s) in

@@ -1,13 +1,14 @@
 -- Tickets that are settled at a step's end keep their numbers, and stand as before.
 use Rattle.std.proofs.Common.{◌≡◌, ◌<◌, List, [], ◌∷◌, Option, Some, None, map, refl, ap, sym, subst}
-use Rattle.std.specs.Prelude.{IsTrue}
+use Rattle.std.specs.Prelude.{IsTrue, find, ◌==◌, option_and_then}
 use Rattle.std.specs.List.{AllByRecursion}
 use Rattle.machine_model.specs.State.{State, container_numbered}
 use Rattle.machine_model.specs.Chain.{Died}
-use Rattle.machine_model.specs.Effects.Settle.{settled, settle_tickets, reply_by}
+use Rattle.machine_model.specs.Effects.Settle.{settled, settle_tickets, reply_of}
 use Rattle.machine_model.specs.Consistency.{AreDistinct, is_there, TicketStands, HasTickets}
 use Rattle.engine_text.specs.declared.reply.Reply.{Reply}
 use Rattle.engine_text.specs.declared.ticket.Ticket.{Ticket}
+use Rattle.engine_text.specs.declared.container.Container.{Container}
 
 stands_by : (s : State) (t : Ticket) (x : Option Reply) → IsTrue (is_there (container_numbered t.container s)) → TicketStands s t x
 stands_by s t None there = there
@@ -15,7 +16,7 @@ stands_by s t (Some reply) there = tt
 
 stands_settled : (s : State) (died : List Died) (t : Ticket) (o : Option Reply) → t.reply ≡ o → TicketStands s t o
     → TicketStands s (settled o t died s) (settled o t died s).reply
-stands_settled s died t None e stands = stands_by s t (reply_by (container_numbered t.container s) t.asked died s) stands
+stands_settled s died t None e stands = stands_by s t (option_and_then (λ (c : Container). reply_of t.asked (find (λ d. d.number == c.number) died) c s) (container_numbered t.container s)) stands
 stands_settled s died t (Some reply) e stands = subst (λ x. TicketStands s t x) (sym e) tt
 
 number_settled : (s : State) (died : List Died) (t : Ticket) (o : Option Reply) → (settled o t died s).number ≡ t.number

@@ -4,7 +4,8 @@ use Rattle.std.proofs.lemmas.Bool.{false≢true, eq-eqb}
 use Rattle.std.proofs.lemmas.Bool.Decides.{nat_tests}
 use Rattle.std.proofs.lemmas.List.{length-map}
 use Rattle.std.specs.List.{AllByRecursion}
-use Rattle.std.specs.Prelude.{ℤ}
+use Rattle.std.specs.Prelude.{ℤ, unwrap_or}
+use Rattle.std.specs.Option.{option_map_or, unwrap_or}
 use Rattle.container_table.specs.Lists.{remove_first}
 use Rattle.container_table.specs.Reference.{container_by}
 use Rattle.proc_kernel.specs.Tables.{process_of, effect_of}
@@ -12,12 +13,12 @@ use Rattle.machine_model.specs.State.{State, container_numbered, is_live}
 use Rattle.machine_model.specs.Chain.{Effect, Died, still, change, and_then, tell_of}
 use Rattle.machine_model.specs.Call.{outcome_of}
 use Rattle.machine_model.specs.Due.{least_due, due_effect, timed_out}
-use Rattle.machine_model.specs.Step.{at_moment, step_of, or_still}
+use Rattle.machine_model.specs.Step.{at_moment, step_of}
 use Rattle.machine_model.specs.Consistency.{IsConsistent}
 use Rattle.machine_model.specs.Statuses.{is_reply_of, gives_ticket}
 use Rattle.machine_model.specs.Tickets.{begun, begins}
-use Rattle.machine_model.specs.Outcome.{Outcome, with_one, by_found, at_reference, done}
-use Rattle.machine_model.specs.History.{after_step, reply_of, is_begun_by, IsLawful}
+use Rattle.machine_model.specs.Outcome.{Outcome, by_found, at_reference, done, refused}
+use Rattle.machine_model.specs.History.{after_step, reply_of, IsLawful}
 use Rattle.machine_model.specs.Ready.{is_ready}
 use Rattle.machine_model.specs.Effects.Settle.{settled, settle_tickets}
 use Rattle.machine_model.specs.Effects.Destroy.{answer, last_reply, last_answer, destroy}
@@ -59,12 +60,13 @@ use Rattle.engine_text.specs.declared.step.DueAction.{DueAction}
 use Rattle.engine_text.specs.declared.step.Step.{Step}
 use Rattle.engine_text.specs.declared.ticket.Asked.{Asked}
 use Rattle.engine_text.specs.declared.ticket.Ticket.{Ticket}
+use Rattle.machine_model.specs.Refusals.{no_such_container}
 
 -- ---- lists of tickets
 
 -- connection k's ticket n is among them
 abbrev pub Held : ℕ → ℕ → List Ticket → Type 0
-Held k n ts = IsTrue (is_begun_by k (find (λ t. t.number == n) ts))
+Held k n ts = IsTrue (option_map_or (λ (t : Ticket). t.connection == k) (find (λ t. t.number == n) ts) false)
 
 -- a change that leaves numbers and connections
 record IsReplyMark (f : Ticket → Ticket) : Type 0 where
@@ -72,15 +74,15 @@ record IsReplyMark (f : Ticket → Ticket) : Type 0 where
   pub connection : (t : Ticket) → (f t).connection ≡ t.connection
 
 at_head : (hit : Bool) (k : ℕ) (t u : Ticket) (rest more : Option Ticket) → u.connection ≡ t.connection
-    → (IsTrue (is_begun_by k rest) → IsTrue (is_begun_by k more))
-    → IsTrue (is_begun_by k (if hit then Some t else rest)) → IsTrue (is_begun_by k (if hit then Some u else more))
+    → (IsTrue (option_map_or (λ (t : Ticket). t.connection == k) rest false) → IsTrue (option_map_or (λ (t : Ticket). t.connection == k) more false))
+    → IsTrue (option_map_or (λ (t : Ticket). t.connection == k) (if hit then Some t else rest) false) → IsTrue (option_map_or (λ (t : Ticket). t.connection == k) (if hit then Some u else more) false)
 at_head true k t u rest more same goes h = subst (λ x. IsTrue (x == k)) (sym same) h
 at_head false k t u rest more same goes h = goes h
 
 mapped : (k n : ℕ) (f : Ticket → Ticket) → IsReplyMark f → (ts : List Ticket) → Held k n ts → Held k n (map f ts)
 mapped k n f mark [] h = h
 mapped k n f mark (t ∷ ts) h =
-    subst (λ m. IsTrue (is_begun_by k (if m == n then Some (f t) else find (λ t. t.number == n) (map f ts)))) (sym (mark.number t))
+    subst (λ m. IsTrue (option_map_or (λ (t : Ticket). t.connection == k) (if m == n then Some (f t) else find (λ t. t.number == n) (map f ts)) false)) (sym (mark.number t))
     (at_head (t.number == n) k t (f t) (find (λ t. t.number == n) ts) (find (λ t. t.number == n) (map f ts)) (mark.connection t) (mapped k n f mark ts) h)
 
 followed : (k n : ℕ) (ts us : List Ticket) → Held k n ts → Held k n (ts ++ us)
@@ -88,8 +90,8 @@ followed k n [] us h = absurd (false≢true h)
 followed k n (t ∷ ts) us h =
     at_head (t.number == n) k t t (find (λ t. t.number == n) ts) (find (λ t. t.number == n) (ts ++ us)) refl (followed k n ts us) h
 
-missed : (hit : Bool) (k : ℕ) (t : Ticket) (rest : Option Ticket) → hit ≡ false → IsTrue (is_begun_by k rest)
-    → IsTrue (is_begun_by k (if hit then Some t else rest))
+missed : (hit : Bool) (k : ℕ) (t : Ticket) (rest : Option Ticket) → hit ≡ false → IsTrue (option_map_or (λ (t : Ticket). t.connection == k) rest false)
+    → IsTrue (option_map_or (λ (t : Ticket). t.connection == k) (if hit then Some t else rest) false)
 missed true k t rest isnt h = absurd (false≢true (sym isnt))
 missed false k t rest isnt h = h
 
@@ -99,13 +101,13 @@ last_held : (k n : ℕ) (u : Ticket) (ts : List Ticket) → u.number ≡ n → u
 last_held k n u [] number connection below =
     let it : (u.number == n) ≡ true = eq-eqb u.number n number in
     let its : (u.connection == k) ≡ true = eq-eqb u.connection k connection in
-    subst (λ b. IsTrue (is_begun_by k (if b then Some u else None))) (sym it) its
+    subst (λ b. IsTrue (option_map_or (λ (t : Ticket). t.connection == k) (if b then Some u else None) false)) (sym it) its
 last_held k n u (t ∷ ts) number connection below =
     missed (t.number == n) k t (find (λ t. t.number == n) (ts ++ u ∷ [])) (let low : t.number < n = below.0 in grind (arith, nat_tests, low))
     (last_held k n u ts number connection below.1)
 
 hit_past : (hit : Bool) (k : ℕ) (t : Ticket) (rest : Option Ticket) → hit ≡ false
-    → IsTrue (is_begun_by k (if hit then Some t else rest)) → IsTrue (is_begun_by k rest)
+    → IsTrue (option_map_or (λ (t : Ticket). t.connection == k) (if hit then Some t else rest) false) → IsTrue (option_map_or (λ (t : Ticket). t.connection == k) rest false)
 hit_past true k t rest isnt h = absurd (false≢true (sym isnt))
 hit_past false k t rest isnt h = h
 
@@ -125,7 +127,7 @@ left k m n [] other h = h
 left k m n (t ∷ ts) other h = left_by (t.number == m) k m n t ts refl other (left k m n ts other) h
 
 -- two connections don't hold one ticket
-one_by : (j k : ℕ) (o : Option Ticket) → IsTrue (is_begun_by j o) → IsTrue (is_begun_by k o) → j ≡ k
+one_by : (j k : ℕ) (o : Option Ticket) → IsTrue (option_map_or (λ (t : Ticket). t.connection == j) o false) → IsTrue (option_map_or (λ (t : Ticket). t.connection == k) o false) → j ≡ k
 one_by j k None f g = absurd (false≢true f)
 one_by j k (Some t) f g = grind (arith, nat_tests, f, g)
 
@@ -227,7 +229,7 @@ settled_held k n died s h =
     mapped k n (λ t. settled t.reply t died s)
     (record { number = λ t. settled_number t.reply t died s; connection = λ t. settled_connection t.reply t died s }) s.tickets h
 
-due_held : (k n : ℕ) (s : State) (o : Option DueAction) → Held k n s.tickets → Held k n (or_still (step_of o s) s).state.tickets
+due_held : (k n : ℕ) (s : State) (o : Option DueAction) → Held k n s.tickets → Held k n (unwrap_or (step_of o s) (still s)).state.tickets
 due_held k n s None h = h
 due_held k n s (Some d) h =
     let m : State = at_moment d.moment s in
@@ -273,7 +275,7 @@ gives_begun k c asked x e s below one n is =
     (one.holds (begun k c.number asked s) (last_held k s.next_ticket _ s.tickets refl refl below))
 
 one_case : (k : ℕ) (s : State) (target : List ℕ) (f : Container → State → Outcome) (o : Option Container)
-    → ((c : Container) → Gives k (f c s)) → Gives k (with_one o target f s)
+    → ((c : Container) → Gives k (f c s)) → Gives k (option_map_or f o (refused 404 (no_such_container target)) s)
 one_case k s target f None one = gives_none k 404 _ still s
 one_case k s target f (Some c) one = one c
 
@@ -372,7 +374,7 @@ tickets_call s connection t c lawful kept =
     let more : length e.state.tickets ≤ length s.tickets + 1 = counted.tickets in
     let same = settled_length e.state e.died in omega (arith, more, same)
 
-due_tickets : (s : State) (o : Option DueAction) → length (or_still (step_of o s) s).state.tickets ≤ length s.tickets
+due_tickets : (s : State) (o : Option DueAction) → length (unwrap_or (step_of o s) (still s)).state.tickets ≤ length s.tickets
 due_tickets s None = omega arith
 due_tickets s (Some d) =
     let m : State = at_moment d.moment s in

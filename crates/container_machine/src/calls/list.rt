@@ -1,6 +1,7 @@
 // List: the newest that pass, newest first.
-ghost use Rattle.std.specs.Prelude.{◌≡◌, [], ◌∷◌, ◌++◌, IfOk, OnOk, map, filter, reverse};
+ghost use Rattle.std.specs.Prelude.{◌≡◌, [], ◌∷◌, ◌++◌, IfOk, OnOk, map, filter, reverse, take};
 ghost use Rattle.std.specs.List.{list_any};
+ghost use Rattle.std.specs.Option.{option_map_or};
 ghost use Rattle.machine_model.specs.Views.{listed};
 ghost use Rattle.machine_model.specs.Calls.List as spec;
 ghost use Rattle.machine_effects.specs.Held.{container_in};
@@ -106,7 +107,8 @@ fn shown(
     rows: &Filter,
 ) -> Result<Vec<Listed>, NoMemory>
     ensures { IfOk result (λ v. v.items ≡ map listed
-        (spec.limited limit (filter (spec.is_shown all rows.now) (reverse tables.now.state.containers)))) }
+        (option_map_or (λ n. take n (filter (spec.is_shown all rows.now) (reverse tables.now.state.containers))) limit
+        (filter (spec.is_shown all rows.now) (reverse tables.now.state.containers)))) }
 {
     let mut items = Vec::new(alloc);
     let mut left = tables.containers();

@@ -1,5 +1,5 @@
 // The end of a ticket: a take hears its reply, a drop doesn't.
-ghost use Rattle.std.specs.Prelude.{◌≡◌, IfOk};
+ghost use Rattle.std.specs.Prelude.{◌≡◌, IfOk, option_and_then, unwrap_or};
 ghost use Rattle.engine_text.specs.Id.{id_of};
 ghost use Rattle.engine_text.specs.declared.reply.Reply as replies;
 ghost use Rattle.machine_model.specs.Calls.Take as spec;
@@ -63,7 +63,8 @@ fn reply_ready(
 
 // The reply of the ticket with that number.
 fn reply_of(tables: &Tables, alloc: Global, ticket: u64) -> Result<Reply, NoMemory>
-    ensures { IfOk result (λ r. r ≡ spec.ticket_reply (ticket_numbered ticket tables.now.state)) }
+    ensures { IfOk result (λ r. r
+        ≡ unwrap_or (option_and_then (λ t. t.reply) (ticket_numbered ticket tables.now.state)) replies.Reply.Dropped) }
 {
     let Some(t) = tables.ticket(ticket) else {
         return Ok(Reply::Dropped);

@@ -1,8 +1,10 @@
 // Values that may be absent: null, where they are.
 ghost use Rattle.std.specs.Prelude.{◌≡◌, IfOk};
+ghost use Rattle.std.specs.Option.{option_map_or};
+ghost use Rattle.serde_json.specs.Data.{null};
 ghost use Rattle.serde_json.specs.View.{view};
 ghost use Rattle.api_json.specs.Values.{text, natural, integer};
-ghost use Rattle.machine_model.specs.JournalLines.{optional, signal_value};
+ghost use Rattle.machine_model.specs.JournalLines.{signal_value};
 
 use engine_text::{Signal, Text};
 use serde_json::Value;
@@ -10,7 +12,7 @@ use std::alloc::{AllocError, Global};
 
 /// A text, or null.
 pub fn text_or_null(alloc: Global, words: &Option<Text>) -> Result<Value, AllocError>
-    ensures { IfOk result (λ v. view v ≡ optional text words.now) }
+    ensures { IfOk result (λ v. view v ≡ option_map_or text words.now null) }
 {
     match words {
         None => Ok(Value::Null),
@@ -20,7 +22,7 @@ pub fn text_or_null(alloc: Global, words: &Option<Text>) -> Result<Value, AllocE
 
 /// A number that is not below 0, or null.
 pub fn number_or_null(number: Option<u64>) -> Value
-    ensures { view result ≡ optional natural number }
+    ensures { view result ≡ option_map_or natural number null }
 {
     match number {
         None => Value::Null,
@@ -30,7 +32,7 @@ pub fn number_or_null(number: Option<u64>) -> Value
 
 /// A count, or null.
 pub fn count_or_null(count: Option<u32>) -> Value
-    ensures { view result ≡ optional natural count }
+    ensures { view result ≡ option_map_or natural count null }
 {
     match count {
         None => Value::Null,
@@ -40,7 +42,7 @@ pub fn count_or_null(count: Option<u32>) -> Value
 
 /// Seconds, or null.
 pub fn seconds_or_null(seconds: Option<i32>) -> Value
-    ensures { view result ≡ optional integer seconds }
+    ensures { view result ≡ option_map_or integer seconds null }
 {
     match seconds {
         None => Value::Null,
@@ -50,7 +52,7 @@ pub fn seconds_or_null(seconds: Option<i32>) -> Value
 
 /// A signal's number, or null.
 pub fn signal_or_null(signal: Option<Signal>) -> Value
-    ensures { view result ≡ optional signal_value signal }
+    ensures { view result ≡ option_map_or signal_value signal null }
 {
     match signal {
         None => Value::Null,

@@ -1,17 +1,18 @@
 -- What an exec start and an exec inspect obey.
+use Rattle.std.specs.Option.{option_map_or}
 use Rattle.std.proofs.Common.{ℕ, ◌==◌, Bool, true, false, not, List, Option, Some, None, refl, codes, find, ◌&&◌, IsTrue}
 use Rattle.engine_text.specs.Scripts.{Program}
 use Rattle.engine_text.specs.Texts.{same_bytes}
 use Rattle.proc_kernel.specs.Catalogue.{program_of}
 use Rattle.machine_model.specs.State.{State, container_numbered, change_exec}
 use Rattle.machine_model.specs.Chain.{change, with_found}
-use Rattle.machine_model.specs.Outcome.{Outcome, replies, answers}
+use Rattle.machine_model.specs.Outcome.{Outcome, replies, answers, refused}
 use Rattle.machine_model.specs.Call.{outcome_of}
 use Rattle.machine_model.specs.Effects.Launch.{spawn}
 use Rattle.machine_model.specs.EventTexts.{exec_event}
 use Rattle.machine_model.specs.Calls.Start.{if_program}
 use Rattle.machine_model.specs.Calls.ExecCreate.{if_running}
-use Rattle.machine_model.specs.Calls.ExecStart.{with_both, with_exec, exec_room, started, spawn_exec, start_reply, run, unless_started}
+use Rattle.machine_model.specs.Calls.ExecStart.{with_exec, exec_room, started, spawn_exec, start_reply, run, unless_started}
 use Rattle.machine_model.specs.Statuses.{is_reply_of}
 use Rattle.machine_model.specs.Views.{exec_body}
 use Rattle.machine_model.proofs.Fold.RowLemmas.{Same}
@@ -26,9 +27,10 @@ use Rattle.engine_text.specs.declared.container.Container.{Container}
 use Rattle.engine_text.specs.declared.owner.Owner.TheVariants.{Exec as OfExec}
 use Rattle.engine_text.specs.declared.exec.Exec.{Exec}
 use Rattle.engine_text.specs.declared.event.Action.TheVariants as Action
+use Rattle.machine_model.specs.Refusals.{no_such_exec}
 
 both_case : (k : Call) (s : State) (n : ℕ) (id : List ℕ) (f : Container → State → Outcome) (o : Option Container)
-    → ((body : List ℕ) → Obeys k s (answers 404 body s)) → ((c : Container) → Obeys k s (f c s)) → Obeys k s (with_both o id f s)
+    → ((body : List ℕ) → Obeys k s (answers 404 body s)) → ((c : Container) → Obeys k s (f c s)) → Obeys k s (option_map_or f o (refused 404 (no_such_exec id)) s)
 both_case k s n id f None refused one = refused _
 both_case k s n id f (Some c) refused one = one c
 

@@ -1,7 +1,7 @@
 -- A consistent state has the form that effects keep.
 use Rattle.std.proofs.Common.{◌≡◌, ◌≢◌, ℕ, ◌+◌, ◌<◌, ◌≤◌, ◌==◌, ◌||◌, Bool, true, false, List, [], ◌∷◌, Option, Some, None, if◌then◌else◌, find, filter, map, length, refl, ap, sym, ◌∙◌, subst, arith}
 use Rattle.std.proofs.lemmas.Bool.{eqb-true, eq-eqb}
-use Rattle.std.specs.Prelude.{IsTrue}
+use Rattle.std.specs.Prelude.{IsTrue, is_some}
 use Rattle.std.specs.List.{AllByRecursion, filter_map}
 use Rattle.api_json.specs.Status.{is_paused, is_restarting}
 use Rattle.container_table.specs.Timers.{is_timer, timer_in}
@@ -9,7 +9,7 @@ use Rattle.engine_text.specs.Owner.{same_owner}
 use Rattle.proc_kernel.specs.Processes.{Process, is_frozen, next_due}
 use Rattle.proc_kernel.specs.Tables.{Entry, process_of}
 use Rattle.proc_kernel.specs.Times as proc
-use Rattle.machine_model.specs.State.{State, container_numbered, exec_numbered, timer_of, is_process, is_live, owner_number}
+use Rattle.machine_model.specs.State.{State, container_numbered, exec_numbered, timer_of, is_live, owner_number}
 use Rattle.machine_model.specs.Due.{action_at}
 use Rattle.machine_model.specs.Consistency.{AreDistinct, is_there, HasMain, IsFrozenAs, IsFrozenRight, IsFrozenLike, FollowsMain, HasOwner, HasPid, HasExecPid, HasGoal, TimerStands, HasTimer, HasRemoval, IsConsistent, live_execs, HasProgram, IsUnstarted, HasNoOutput, HasLogRoom, HasOutputRoom, room_left}
 use Rattle.machine_model.specs.Effects.Launch.{log_size}
@@ -58,7 +58,7 @@ watches_by s n q (Some m) e like h =
     let right : IsFrozenRight s c.0 = found_all (IsFrozenRight s) (λ d. d.number == n) c.0 s.containers c.1 h.processes.frozen in
     let is : c.0.number ≡ n = found_number n c.0 s.containers c.1 in
     let icy : is_frozen m.pace ≡ is_paused c.0.life.status = subst (IsFrozenAs (is_paused c.0.life.status)) (subst (λ k. process_of (OfContainer k) s.processes ≡ Some m) (sym is) e) right in
-    (ap is_process e, subst (λ (o : Option Container). IcyAs (life_of o) q) (sym c.1) (like ∙ icy))
+    (ap is_some e, subst (λ (o : Option Container). IcyAs (life_of o) q) (sym c.1) (like ∙ icy))
 
 started_by : (b live : Bool) → live ≡ true → (b ≡ false → live ≡ false) → b ≡ true
 started_by true live e k = refl
@@ -71,7 +71,7 @@ exec_by s m None p e f h =
 exec_by s m (Some x) None e f h =
     let is : x.number ≡ m = eqb-true x.number m (passes (λ (y : Exec). y.number == m) x s.execs e) in
     let pid : HasExecPid s x = found_all (HasExecPid s) (λ y. y.number == m) x s.execs e h.processes.exec_pids in
-    pid ∙ (ap (λ k. is_process (process_of (OfExec k) s.processes)) is ∙ ap is_process f)
+    pid ∙ (ap (λ k. is_some (process_of (OfExec k) s.processes)) is ∙ ap is_some f)
 exec_by s m (Some x) (Some q) e f h =
     let is : x.number ≡ m = eqb-true x.number m (passes (λ (y : Exec). y.number == m) x s.execs e) in
     let at : process_of (OfExec x.number) s.processes ≡ Some q = subst (λ k. process_of (OfExec k) s.processes ≡ Some q) (sym is) f in
@@ -79,7 +79,7 @@ exec_by s m (Some x) (Some q) e f h =
     let fresh : IsUnstarted s x = found_all (IsUnstarted s) (λ y. y.number == m) x s.execs e h.execs.unstarted in
     let follows : FollowsMain s x = found_all (FollowsMain s) (λ y. y.number == m) x s.execs e h.processes.execs in
     let like : IsFrozenLike (Some q) (process_of (OfContainer x.container) s.processes) = subst (λ p. IsFrozenLike p (process_of (OfContainer x.container) s.processes)) at follows in
-    (pid ∙ ap is_process at, started_by x.started (is_live (OfExec x.number) s) (ap is_process at) fresh, watches_by s x.container q (process_of (OfContainer x.container) s.processes) refl like h)
+    (pid ∙ ap is_some at, started_by x.started (is_live (OfExec x.number) s) (ap is_some at) fresh, watches_by s x.container q (process_of (OfContainer x.container) s.processes) refl like h)
 
 -- ---- rooms
 
@@ -220,26 +220,26 @@ exec_found : (o : Option Exec) → is_there o ≡ true → (x : Exec) × (o ≡ 
 exec_found None e = absurd (cc)
 exec_found (Some x) e = (x, refl)
 
-if_more : (b : Bool) (p : Process) (o : Option Process) → is_process o ≡ true → is_process (if b then Some p else o) ≡ true
+if_more : (b : Bool) (p : Process) (o : Option Process) → is_some o ≡ true → is_some (if b then Some p else o) ≡ true
 if_more true p o h = refl
 if_more false p o h = h
 
 paid_cons : (o : Owner) (p : Process) (es : List Entry) (xs : List Exec) → KnownTo xs o → AllByRecursion (λ w. o ≢ w) (map (λ e. e.owner) es)
-    → paid_for es ≤ length (filter (λ x. is_process (process_of (OfExec x.number) es)) xs)
-    → execs_among (o ∷ map (λ e. e.owner) es) ≤ length (filter (λ x. is_process (if same_owner o (OfExec x.number) then Some p else process_of (OfExec x.number) es)) xs)
+    → paid_for es ≤ length (filter (λ x. is_some (process_of (OfExec x.number) es)) xs)
+    → execs_among (o ∷ map (λ e. e.owner) es) ≤ length (filter (λ x. is_some (if same_owner o (OfExec x.number) then Some p else process_of (OfExec x.number) es)) xs)
 paid_cons (OfContainer n) p es xs known other h = h
 paid_cons (OfExec n) p es xs known other h =
     let x = exec_found (find (λ x. x.number == n) xs) known in
     let none : process_of (OfExec n) es ≡ None = none_of (OfExec n) es other in
-    let more : 1 + length (filter (λ (x : Exec). is_process (process_of (OfExec x.number) es)) xs) ≤ length (filter (λ x. is_process (if same_owner (OfExec n) (OfExec x.number) then Some p else process_of (OfExec x.number) es)) xs) =
-    one_passes (λ x. x.number == n) (λ x. is_process (process_of (OfExec x.number) es)) (λ x. is_process (if n == x.number then Some p else process_of (OfExec x.number) es)) x.0 xs x.1
+    let more : 1 + length (filter (λ (x : Exec). is_some (process_of (OfExec x.number) es)) xs) ≤ length (filter (λ x. is_some (if same_owner (OfExec n) (OfExec x.number) then Some p else process_of (OfExec x.number) es)) xs) =
+    one_passes (λ x. x.number == n) (λ x. is_some (process_of (OfExec x.number) es)) (λ x. is_some (if n == x.number then Some p else process_of (OfExec x.number) es)) x.0 xs x.1
     (λ y live. if_more (n == y.number) p (process_of (OfExec y.number) es) live)
-    (λ y is. subst (λ k. is_process (process_of (OfExec k) es) ≡ false) (sym (eqb-true y.number n is)) (ap is_process none))
-    (λ y is. ap (λ b. is_process (if b then Some p else process_of (OfExec y.number) es)) (eq-eqb n y.number (sym (eqb-true y.number n is)))) in
+    (λ y is. subst (λ k. is_some (process_of (OfExec k) es) ≡ false) (sym (eqb-true y.number n is)) (ap is_some none))
+    (λ y is. ap (λ b. is_some (if b then Some p else process_of (OfExec y.number) es)) (eq-eqb n y.number (sym (eqb-true y.number n is)))) in
     omega (arith, h, more)
 
 paid_least : (es : List Entry) (xs : List Exec) → AreDistinct (map (λ e. e.owner) es) → AllByRecursion (λ e. KnownTo xs e.owner) es
-    → paid_for es ≤ length (filter (λ x. is_process (process_of (OfExec x.number) es)) xs)
+    → paid_for es ≤ length (filter (λ x. is_some (process_of (OfExec x.number) es)) xs)
 paid_least [] xs h known = omega arith
 paid_least (e ∷ es) xs h known = paid_cons e.owner e.process es xs known.0 h.0 (paid_least es xs h.1 known.1)
 

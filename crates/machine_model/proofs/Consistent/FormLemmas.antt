@@ -2,7 +2,8 @@
 use Rattle.std.proofs.Common.{◌≡◌, ℕ, ◌+◌, ◌*◌, ◌^◌, ◌<◌, ◌≤◌, ◌==◌, Bool, true, false, List, [], ◌∷◌, Option, Some, None, if◌then◌else◌, find, map, length, refl, sym, subst, arith, suc, ap, ◌∙◌, ◌||◌}
 use Rattle.std.proofs.lemmas.Bool.{ltb-true, leb-false}
 use Rattle.std.proofs.Math.Nat.{min-le_right}
-use Rattle.std.specs.Prelude.{IsTrue}
+use Rattle.std.specs.Prelude.{IsTrue, nat_le, is_some}
+use Rattle.std.specs.Option.{is_some, option_map_or}
 use Rattle.std.specs.List.{AllByRecursion, filter_map, cons_option}
 use Rattle.container_table.specs.Lists.{remove_first}
 use Rattle.proc_kernel.specs.Processes.{next_due, Process}
@@ -14,12 +15,12 @@ use Rattle.api_json.specs.Status.{is_restarting}
 use Rattle.engine_text.specs.Owner.{same_owner}
 use Rattle.proc_kernel.specs.Catalogue.{program_of}
 use Rattle.proc_kernel.specs.Times as proc
-use Rattle.machine_model.specs.State.{State, owner_number, container_numbered, exec_numbered, is_process, is_live}
+use Rattle.machine_model.specs.State.{State, owner_number, container_numbered, exec_numbered, is_live}
 use Rattle.machine_model.specs.Due.{action_at, due_actions}
 use Rattle.machine_model.specs.Step.{at_moment}
 use Rattle.machine_model.specs.Ready.{is_ready}
 use Rattle.machine_model.specs.Tickets.{ticket_numbered}
-use Rattle.machine_model.specs.History.{greatest_moment, has_steps, IsTimely, is_begun_by, has_ticket, is_by, is_due}
+use Rattle.machine_model.specs.History.{greatest_moment, has_steps, IsTimely, has_ticket, is_due}
 use Rattle.machine_model.specs.Consistency.{HasCounts, IsConsistent, live_execs, is_there, HasProgram, IsUnstarted, HasNoOutput, HasLogRoom, HasOutputRoom, HasExecs, CanGoOn, room_left}
 use Rattle.machine_model.specs.Effects.Launch.{log_size}
 use Rattle.machine_model.proofs.ListLemmas.{all_front, all_back, all_of_mapped, all_weaken, all_both, all_mapped}
@@ -90,11 +91,11 @@ has_counts s mains h = record {
 
 -- ---- execs and what processes need
 
-program_by : (l : Life) (p : Option Process) (a b c : Bool) (live : Bool) → is_process p ≡ live → (live || is_restarting l.status) ≡ true → Fine l p a b c → is_there (program_of l.words 1) ≡ true
+program_by : (l : Life) (p : Option Process) (a b c : Bool) (live : Bool) → is_some p ≡ live → (live || is_restarting l.status) ≡ true → Fine l p a b c → is_there (program_of l.words 1) ≡ true
 program_by l p a b c true e h fine = fine.0.program e 1
 program_by l p a b c false e h fine = fine.0.again (fine.0.restart ∙ h) 1
 
-unstarted_by : (W : ℕ → Process → Type 0) (x : Exec) (p : Option Process) → x.started ≡ false → ExecBy W (Some x) p → is_process p ≡ false
+unstarted_by : (W : ℕ → Process → Type 0) (x : Exec) (p : Option Process) → x.started ≡ false → ExecBy W (Some x) p → is_some p ≡ false
 unstarted_by W x None e h = refl
 unstarted_by W x (Some q) e h = let no_way : false ≡ true = sym e ∙ h.1 in absurd (cc)
 
@@ -193,7 +194,7 @@ fresh_of s names execs = record {
 
 -- where nothing is due at or before a moment, each due moment lies behind it
 dues_later : (s : State) (t : ℕ) → is_due s t ≡ false → AllByRecursion (λ d. t < d.moment) (due_actions s)
-dues_later s t e = least_from (suc t) (due_actions s) (λ d is. leb-false d.moment t (ap (λ o. is_by o t) (sym is) ∙ e))
+dues_later s t e = least_from (suc t) (due_actions s) (λ d is. leb-false d.moment t (ap (λ o. (option_map_or (λ (d : DueAction). nat_le d.moment t) o false)) (sym is) ∙ e))
 
 entry_due : (t n : ℕ) (o : Option ℕ) (rest : List DueAction) → AllByRecursion (λ d. t ≤ d.moment) (cons_option (action_at n o) rest) → IsUndue t o × AllByRecursion (λ d. t ≤ d.moment) rest
 entry_due t n None rest h = (tt, h)
@@ -253,7 +254,7 @@ removed_one : (p : Ticket → Bool) (t : Ticket) (ts : List Ticket) → find p t
 removed_one p t [] e = absurd (cc)
 removed_one p t (x ∷ ts) e = removed_by (p x) x t (find p ts) ts (remove_first p ts) e (λ more. removed_one p t ts more)
 
-there_is : (connection : ℕ) (o : Option Ticket) → is_begun_by connection o ≡ true → (t : Ticket) × (o ≡ Some t)
+there_is : (connection : ℕ) (o : Option Ticket) → (option_map_or (λ (t : Ticket). t.connection == connection) o false) ≡ true → (t : Ticket) × (o ≡ Some t)
 there_is connection None e = absurd (cc)
 there_is connection (Some t) e = (t, refl)
 

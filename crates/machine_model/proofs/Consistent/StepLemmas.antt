@@ -3,19 +3,20 @@ use Rattle.std.proofs.Common.{◌≡◌, ℕ, ◌+◌, ◌^◌, ◌<◌, ◌≤�
 use Rattle.std.proofs.lemmas.Bool.{leb-true}
 use Rattle.std.proofs.lemmas.List.{length-map}
 use Rattle.std.proofs.Math.Nat.{min-le_right}
-use Rattle.std.specs.Prelude.{IsTrue}
+use Rattle.std.specs.Prelude.{IsTrue, nat_le, false, unwrap_or}
+use Rattle.std.specs.Option.{option_map_or, unwrap_or}
 use Rattle.std.specs.List.{AllByRecursion, list_any}
 use Rattle.container_table.proofs.LeastLemmas.{least_from}
 use Rattle.container_table.specs.Timers.{is_before}
 use Rattle.machine_model.specs.State.{State}
-use Rattle.machine_model.specs.Chain.{Effect}
+use Rattle.machine_model.specs.Chain.{Effect, still}
 use Rattle.machine_model.specs.Call.{outcome_of}
 use Rattle.machine_model.specs.Due.{due_actions, least_due, due_effect}
-use Rattle.machine_model.specs.Step.{at_moment, step_of, or_still, finished}
+use Rattle.machine_model.specs.Step.{at_moment, step_of, finished}
 use Rattle.machine_model.specs.Effects.Settle.{settled}
 use Rattle.machine_model.specs.Ready.{is_ready, feed_is_ready, feed_end_is_ready}
 use Rattle.machine_model.specs.Streams.{RunState, Coming, Live, Over, run_state}
-use Rattle.machine_model.specs.History.{greatest_moment, latest, is_by, is_due, IsLawfulCall, IsLawful, after_step}
+use Rattle.machine_model.specs.History.{greatest_moment, latest, is_due, IsLawfulCall, IsLawful, after_step}
 use Rattle.machine_model.proofs.ListLemmas.{all_weaken}
 use Rattle.machine_model.proofs.Fold.RowLemmas.{same_some}
 use Rattle.machine_model.proofs.Kept.TableLemmas.{names_step, volumes_step, tickets_step}
@@ -138,12 +139,12 @@ due_later s d e h =
 
 pub due_until : (s : State) (d : DueAction) → least_due s ≡ Some d → IsTrue (is_due s (latest s)) → d.moment ≤ greatest_moment
 due_until s d e due =
-    let by : d.moment ≤ latest s = leb-true d.moment (latest s) (subst (λ o. IsTrue (is_by o (latest s))) e due) in
+    let by : d.moment ≤ latest s = leb-true d.moment (latest s) (subst (λ o. IsTrue (option_map_or (λ (d : DueAction). nat_le d.moment (latest s)) o false)) e due) in
     omega (arith, by, min-le_right (s.clock + 604800000) greatest_moment)
 
 due_by : (s : State) (o : Option DueAction) → least_due s ≡ o → IsLawful s Step.Due → KeptForm s
-    → Counts (or_still (step_of o s) s).state × Times (or_still (step_of o s) s).state × ((or_still (step_of o s) s).state.clock ≤ greatest_moment) × Few (or_still (step_of o s) s).state × Execs (or_still (step_of o s) s).state
-    × Past (or_still (step_of o s) s).state
+    → Counts (unwrap_or (step_of o s) (still s)).state × Times (unwrap_or (step_of o s) (still s)).state × ((unwrap_or (step_of o s) (still s)).state.clock ≤ greatest_moment) × Few (unwrap_or (step_of o s) (still s)).state × Execs (unwrap_or (step_of o s) (still s)).state
+    × Past (unwrap_or (step_of o s) (still s)).state
 due_by s None e lawful h = (h.counts, h.times, h.clock, h.few, h.execs, h.past)
 due_by s (Some d) e lawful h =
     let t : ℕ = d.moment in

@@ -13,7 +13,7 @@ use Rattle.machine_model.specs.State.{State, container_numbered}
 use Rattle.machine_model.specs.Chain.{Effect, still, change, and_then, each, tell, tell_of}
 use Rattle.machine_model.specs.EventTexts.{plain_event, exec_event, volume_event}
 use Rattle.machine_model.specs.Call.{outcome_of}
-use Rattle.machine_model.specs.Outcome.{Outcome, replies}
+use Rattle.machine_model.specs.Outcome.{Outcome, replies, refused}
 use Rattle.machine_model.specs.Tickets.{begins}
 use Rattle.machine_model.specs.Names.{holder, chosen_name}
 use Rattle.machine_model.specs.Filters.{is_image}
@@ -58,6 +58,8 @@ use Rattle.engine_text.specs.declared.event.Action.TheVariants as Action
 use Rattle.machine_model.proofs.VolumeLemmas.{mounts_stand}
 use Rattle.machine_model.specs.State.{container_numbered}
 use Rattle.std.proofs.Common.{◌≡◌, Some, None}
+use Rattle.std.specs.Option.{option_map_or}
+use Rattle.machine_model.specs.Refusals.{no_such_exec}
 
 -- ---- create
 
@@ -144,7 +146,7 @@ exec_unless R k true id detach x c s e found = idle R k s
 exec_unless R k false id detach x c s e found = running_by R k c.life.status c (exec_start.run detach x) s (exec_ran R k id detach x (program_of x.words 1) s found e (program_short x.words 1))
 
 exec_both : {P : Type 0} {E : ℕ → Type 0} (R : Cost → State → Effect → Type 0) → IsPriced P E R → (o : Option Container) (id : List ℕ) (f : Container → State → Outcome) (s : State) → ((c : Container) → R full s (f c s).effect)
-    → R full s (exec_start.with_both o id f s).effect
+    → R full s (option_map_or f o (refused 404 (no_such_exec id)) s).effect
 exec_both R k None id f s one = idle R k s
 exec_both R k (Some c) id f s one = one c
 

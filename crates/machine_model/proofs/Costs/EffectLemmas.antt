@@ -1,6 +1,6 @@
 -- What every effect costs.
 use Rattle.std.proofs.Common.{◌≡◌, ℕ, ◌+◌, ◌*◌, ◌≤◌, ◌==◌, Bool, true, false, List, [], ◌∷◌, Option, Some, None, find, ℤ, pos, negsuc, if◌then◌else◌, refl, ap, ◌∙◌, subst, arith}
-use Rattle.std.specs.Prelude.{option_map}
+use Rattle.std.specs.Prelude.{option_map, unwrap_or}
 use Rattle.engine_text.specs.Scripts.{Program}
 use Rattle.container_table.specs.Timers.{is_timer, cleared, with_timer, is_listed_before}
 use Rattle.container_table.proofs.PlacedLemmas.{all_placed}
@@ -16,7 +16,7 @@ use Rattle.machine_model.specs.Effects.Launch.{launch_program, launch, launch_by
 use Rattle.machine_model.specs.Effects.Destroy.{destroy}
 use Rattle.machine_model.specs.Effects.EndMain.{end_execs, ended, die, exited, no_goal, restarting, follow, decision_at, by_goal, by_status, end_main}
 use Rattle.machine_model.specs.Effects.Cancel.{cancelled, cancel_restart}
-use Rattle.machine_model.specs.Effects.Halt.{signal_used, seconds_used, lesser, set_deadline, halt}
+use Rattle.machine_model.specs.Effects.Halt.{lesser, set_deadline, halt}
 use Rattle.machine_model.specs.Effects.Meet.{end_of, by_effect, stepped, step_process, running, thaw_execs, wake_parts, thaw_container, send, woken, meet_signal}
 use Rattle.machine_model.specs.Due.{op_effect, stop_deadline, died, removal_deadline, restarted, restart_timer, due_effect}
 use Rattle.machine_model.proofs.ChangeLemmas.{all_removed}
@@ -223,9 +223,9 @@ halt_cost = record { told = 38; spawns = 1; makes = 0; asks = 0; retries = 0 }
 
 pub costs_halt : {P : Type 0} {E : ℕ → Type 0} {R : Cost → State → Effect → Type 0} → IsPriced P E R → (mark : Life → Life) (seconds : Option ℤ) (signal : Option Signal) (c : Container) → ((t : ℕ) → IsQuiet t mark) → Costs R halt_cost (halt mark seconds signal c)
 costs_halt k mark seconds signal c is =
-    costs_then k (costs_tell k (kill_event (signal_used signal c)) c.number (λ c t. refl))
+    costs_then k (costs_tell k (kill_event ((unwrap_or signal c.life.stop_signal).number)) c.number (λ c t. refl))
     (costs_then k (costs_renew k c.number mark is)
-    (costs_then k (costs_deadline k (seconds_used seconds c) c.number) (costs_meet k (signal_used signal c) c.number)))
+    (costs_then k (costs_deadline k (unwrap_or seconds c.life.stop_after) c.number) (costs_meet k ((unwrap_or signal c.life.stop_signal).number) c.number)))
 
 pub costs_cancel : {P : Type 0} {E : ℕ → Type 0} {R : Cost → State → Effect → Type 0} → IsPriced P E R → (n : ℕ) → Costs R none (cancel_restart n)
 costs_cancel k n =

@@ -1,8 +1,9 @@
 -- What a halt tells.
+use Rattle.std.specs.Option.{unwrap_or}
 use Rattle.std.proofs.Common.{◌≡◌, ℕ, ◌<◌, ℤ, pos, negsuc, Option, refl, sym, ◌∙◌}
 use Rattle.machine_model.specs.Chain.{change, renew}
 use Rattle.machine_model.specs.EventTexts.{kill_event}
-use Rattle.machine_model.specs.Effects.Halt.{signal_used, seconds_used, set_deadline, halt}
+use Rattle.machine_model.specs.Effects.Halt.{set_deadline, halt}
 use Rattle.machine_model.specs.Summary.{summary_row}
 use Rattle.machine_model.specs.Ranges.{IsLifeInRange}
 use Rattle.machine_model.proofs.Effects.MeetLemmas.{tells_meet}
@@ -25,8 +26,8 @@ tells_deadline (negsuc k) m = record { holds = λ s rows fit beside. (fit, besid
 
 -- a halt with a mark that the summary doesn't see
 pub tells_halt : (mark : Life → Life) (seconds : Option ℤ) (signal : Option Signal) (c : Container) → ((l : Life) → IsLifeInRange l → IsLifeInRange (mark l))
-    → ((d : Container) → summary_row (made (λ name. name) mark d) ≡ summary_row d) → signal_used signal c < 128 → Tells c.number Same (halt mark seconds signal c) Awake
+    → ((d : Container) → summary_row (made (λ name. name) mark d) ≡ summary_row d) → (unwrap_or signal c.life.stop_signal).number < 128 → Tells c.number Same (halt mark seconds signal c) Awake
 tells_halt mark seconds signal c keeps same low =
-    tells_then (tells_quiet c.number (kill_event (signal_used signal c)) (λ c t rs. refl))
+    tells_then (tells_quiet c.number (kill_event ((unwrap_or signal c.life.stop_signal).number)) (λ c t rs. refl))
     (tells_then (same_mark mark keeps same)
-    (tells_then (tells_deadline (seconds_used seconds c) c.number) (tells_meet (signal_used signal c) c.number low)))
+    (tells_then (tells_deadline (unwrap_or seconds c.life.stop_after) c.number) (tells_meet ((unwrap_or signal c.life.stop_signal).number) c.number low)))

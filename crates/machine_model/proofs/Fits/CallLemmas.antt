@@ -1,4 +1,5 @@
 -- Statuses, goals, main processes and timers fit each other in a state; what a call finds of it at a container.
+use Rattle.std.specs.Option.{is_some, option_map_or}
 use Rattle.std.proofs.Common.{◌≡◌, ℕ, ◌==◌, Bool, true, false, not, List, [], ◌∷◌, Option, Some, None, refl, ap, sym, ◌∙◌, subst, inl, inr}
 use Rattle.std.proofs.lemmas.Bool.Decides.{eqb_tells}
 use Rattle.api_json.specs.Status.{is_paused, is_restarting}
@@ -6,9 +7,9 @@ use Rattle.container_table.specs.Reference.{container_by}
 use Rattle.proc_kernel.specs.Processes.{Process}
 use Rattle.proc_kernel.specs.Catalogue.{program_of, name_of, named, by_name, only_number, of_number, flaky_program}
 use Rattle.engine_text.specs.Scripts.{Program}
-use Rattle.machine_model.specs.State.{State, container_numbered, is_process}
+use Rattle.machine_model.specs.State.{State, container_numbered}
 use Rattle.machine_model.specs.Chain.{Effect}
-use Rattle.machine_model.specs.Outcome.{Outcome, with_one, by_found, at_reference}
+use Rattle.machine_model.specs.Outcome.{Outcome, by_found, at_reference, refused}
 use Rattle.machine_model.specs.Consistency.{is_there, FitsStatus, GoalStands}
 use Rattle.machine_model.proofs.Fold.RowLemmas.{found_number}
 use Rattle.machine_model.proofs.Fits.PartLemmas.{Parts, parts_of, life_of, TablesFit, Steady, Leads, Stood}
@@ -20,6 +21,7 @@ use Rattle.engine_text.specs.declared.container.Container.{Container}
 use Rattle.engine_text.specs.declared.container.Found.{Found}
 use Rattle.engine_text.specs.declared.container.Life.{Life}
 use Rattle.engine_text.specs.declared.status.Status.{Status}
+use Rattle.machine_model.specs.Refusals.{no_such_container}
 
 -- ---- the states
 
@@ -36,7 +38,7 @@ mains_found s c e found leads h =
     whole c.number (e s).state (leads.holds s (h.0, λ m other. h.1 m, (ap life_of found, h.1 c.number)))
 
 one_case : (s : State) (n : ℕ) (target : List ℕ) (f : Container → State → Outcome) (o : Option Container) → container_numbered n s ≡ o
-    → ((c : Container) → container_numbered c.number s ≡ Some c → PartsFit (f c s).effect.state) → PartsFit s → PartsFit (with_one o target f s).effect.state
+    → ((c : Container) → container_numbered c.number s ≡ Some c → PartsFit (f c s).effect.state) → PartsFit s → PartsFit (option_map_or f o (refused 404 (no_such_container target)) s).effect.state
 one_case s n target f None e one h = h
 one_case s n target f (Some c) e one h = one c (subst (λ m. container_numbered m s ≡ Some c) (sym (found_number n c s.containers e)) e)
 
@@ -84,25 +86,25 @@ pub fine_of : (c : Container) (v : Parts) → Stood c (On Fine) v → Fine c.lif
 fine_of c v h = subst (λ (o : Option Life). OnBy Fine o v.main v.stop v.removal v.restart) h.0 h.1
 
 -- of a status in which no process lives
-idle : (l : Life) (u : Status) (p : Option Process) (a b c : Bool) → l.status ≡ u → (FitsStatus u (is_process p) → is_process p ≡ false) → is_restarting u ≡ false → Fine l p a b c
+idle : (l : Life) (u : Status) (p : Option Process) (a b c : Bool) → l.status ≡ u → (FitsStatus u (is_some p) → is_some p ≡ false) → is_restarting u ≡ false → Fine l p a b c
     → (not (l.pid == 0) ≡ false) × Bare l p a b c
 idle l u p a b c is dead calm h =
-    let none : is_process p ≡ false = dead (subst (λ x. FitsStatus x (is_process p)) is h.0.status) in
-    (h.0.pid ∙ none, (no_process p none, off_if a (is_process p) none h.0.stop, off_if b (is_process p) none (λ e. (h.0.removal e).0), h.0.restart ∙ (ap is_restarting is ∙ calm)))
+    let none : is_some p ≡ false = dead (subst (λ x. FitsStatus x (is_some p)) is h.0.status) in
+    (h.0.pid ∙ none, (no_process p none, off_if a (is_some p) none h.0.stop, off_if b (is_some p) none (λ e. (h.0.removal e).0), h.0.restart ∙ (ap is_restarting is ∙ calm)))
 
-pub to_fallen : (c : Container) (u : Status) (v : Parts) → c.life.status ≡ u → (FitsStatus u (is_process v.main) → is_process v.main ≡ false) → is_restarting u ≡ false → is_paused u ≡ false → Names c.life.words
+pub to_fallen : (c : Container) (u : Status) (v : Parts) → c.life.status ≡ u → (FitsStatus u (is_some v.main) → is_some v.main ≡ false) → is_restarting u ≡ false → is_paused u ≡ false → Names c.life.words
     → Stood c (On Fine) v → On Fallen v
 to_fallen c u v is dead calm up words h =
     let parts = idle c.life u v.main v.stop v.removal v.restart is dead calm (fine_of c v h) in
     on_here Fallen v (c.life, h.0, (parts.0, parts.1.0, parts.1.1, parts.1.2, parts.1.3, words, ap is_paused is ∙ up))
 
-pub to_bare : (c : Container) (u : Status) (v : Parts) → c.life.status ≡ u → (FitsStatus u (is_process v.main) → is_process v.main ≡ false) → is_restarting u ≡ false → Stood c (On Fine) v → On Bare v
+pub to_bare : (c : Container) (u : Status) (v : Parts) → c.life.status ≡ u → (FitsStatus u (is_some v.main) → is_some v.main ≡ false) → is_restarting u ≡ false → Stood c (On Fine) v → On Bare v
 to_bare c u v is dead calm h = on_here Bare v (c.life, h.0, (idle c.life u v.main v.stop v.removal v.restart is dead calm (fine_of c v h)).1)
 
-pub to_alive : (c : Container) (u : Status) (v : Parts) → c.life.status ≡ u → (FitsStatus u (is_process v.main) → is_process v.main ≡ true) → Stood c (On Fine) v → Here Alive v
+pub to_alive : (c : Container) (u : Status) (v : Parts) → c.life.status ≡ u → (FitsStatus u (is_some v.main) → is_some v.main ≡ true) → Stood c (On Fine) v → Here Alive v
 to_alive c u v is lives h =
     let fine = fine_of c v h in
-    (c.life, h.0, (fine, lives (subst (λ x. FitsStatus x (is_process v.main)) is fine.0.status)))
+    (c.life, h.0, (fine, lives (subst (λ x. FitsStatus x (is_some v.main)) is fine.0.status)))
 
 pub to_resting : (c : Container) (v : Parts) → c.life.status ≡ Status.Restarting → Stood c (On Fine) v → Here Resting v
 to_resting c v is h = (c.life, h.0, (fine_of c v h, is))
@@ -115,4 +117,4 @@ pub cancelled_up : (v : Parts) → Here Cancelled v → On Fine v
 cancelled_up v h =
     let k = h.2 in
     let calm = rests h.0 Status.Exited v.main v.stop v.removal v.restart k.2 refl refl refl k.0.0 k.0.1 k.0.2 k.0.3 k.0.4 in
-    on_here Fine v (h.0, h.1, (calm.0, subst (GoalStands h.0.goal) (sym (ap is_process k.0.1)) k.1))
+    on_here Fine v (h.0, h.1, (calm.0, subst (GoalStands h.0.goal) (sym (ap is_some k.0.1)) k.1))

@@ -1,10 +1,11 @@
 -- What fits still fits behind a create.
+use Rattle.std.specs.Option.{is_some}
 use Rattle.std.proofs.Common.{◌≡◌, ℕ, ◌<◌, ◌==◌, Bool, true, false, not, List, [], ◌∷◌, ◌++◌, Option, Some, None, find, map, if◌then◌else◌, refl, ap, sym, ◌∙◌, subst, arith, inl, inr}
 use Rattle.std.proofs.lemmas.Bool.{eq-eqb}
 use Rattle.std.proofs.lemmas.Bool.Decides.{eqb_tells}
 use Rattle.api_json.specs.Status.{is_paused, is_restarting}
 use Rattle.proc_kernel.specs.Processes.{Process}
-use Rattle.machine_model.specs.State.{State, container_numbered, is_process}
+use Rattle.machine_model.specs.State.{State, container_numbered}
 use Rattle.machine_model.specs.Names.{holder, chosen_name}
 use Rattle.machine_model.specs.Consistency.{AreDistinct, FitsStatus, IsFrozenAs, GoalStands}
 use Rattle.machine_model.specs.Calls.Create as create
@@ -43,16 +44,16 @@ new_itself n new (x ∷ cs) is e =
 fresh_look : (p : Option Process) (a b c : Bool) (l : Life) → l.status ≡ Status.Created → l.pid ≡ 0 → l.goal ≡ Rattle.engine_text.specs.declared.container.Goal.Goal.None → OnBy Fine None p a b c → Fine l p a b c
 fresh_look p a b c l status pid goal h = (
   record {
-    status = subst (λ u. FitsStatus u (is_process p)) (sym status) (ap is_process h.0);
+    status = subst (λ u. FitsStatus u (is_some p)) (sym status) (ap is_some h.0);
     frozen = subst (IsFrozenAs (is_paused l.status)) (sym h.0) tt;
-    pid = ap (λ n. not (n == 0)) pid ∙ sym (ap is_process h.0);
+    pid = ap (λ n. not (n == 0)) pid ∙ sym (ap is_some h.0);
     stop = λ e. never a h.1 e;
     removal = λ e. never b h.2 e;
     restart = h.3 ∙ sym (ap is_restarting status);
-    program = λ e. never (is_process p) (ap is_process h.0) e;
+    program = λ e. never (is_some p) (ap is_some h.0) e;
     again = λ e. never c h.3 e;
   },
-  subst (λ g. GoalStands g (is_process p)) (sym goal) tt,
+  subst (λ g. GoalStands g (is_some p)) (sym goal) tt,
 )
 
 mains_new : (name : List ℕ) (spec : CreateSpec) (s : State) → Fresh s → PartsFit s → PartsFit (with_new (new_container name spec s) s)

@@ -1,10 +1,11 @@
 -- What fits still fits behind deadlines, restart timers and ops.
+use Rattle.std.specs.Option.{is_some}
 use Rattle.std.proofs.Common.{◌≡◌, ℕ, Bool, true, false, Option, Some, None, refl, ap, sym, ◌∙◌, subst}
 use Rattle.api_json.specs.Status.{is_paused, is_restarting}
 use Rattle.container_table.specs.Timers.{cleared}
 use Rattle.proc_kernel.specs.Processes.{Process, is_frozen, run_due}
 use Rattle.proc_kernel.specs.Tables.{process_of}
-use Rattle.machine_model.specs.State.{State, is_process}
+use Rattle.machine_model.specs.State.{State}
 use Rattle.machine_model.specs.Chain.{change, with_container}
 use Rattle.machine_model.specs.EventTexts.{kill_event}
 use Rattle.machine_model.specs.Consistency.{FitsStatus, IsFrozenAs}
@@ -98,11 +99,11 @@ falls : (o : Option Life) (p : Option Process) (a b c : Bool) → c ≡ true →
 falls None p a b c e h = (h.0, h.1, h.2, refl)
 falls (Some l) p a b c e h =
     let is : is_restarting l.status ≡ true = sym h.0.restart ∙ e in
-    let dead : is_process p ≡ false = rests_so l.status (is_process p) is h.0.status in (
+    let dead : is_some p ≡ false = rests_so l.status (is_some p) is h.0.status in (
       h.0.pid ∙ dead,
       no_process p dead,
-      off_if a (is_process p) dead h.0.stop,
-      off_if b (is_process p) dead (λ f. (h.0.removal f).0),
+      off_if a (is_some p) dead h.0.stop,
+      off_if b (is_some p) dead (λ f. (h.0.removal f).0),
       refl,
       h.0.again e,
       restarting_calm l.status is,

@@ -1,9 +1,10 @@
 -- What the end of a main process keeps of what fits.
+use Rattle.std.specs.Option.{is_some}
 use Rattle.std.proofs.Common.{◌≡◌, ℕ, ◌+◌, ◌==◌, Bool, true, false, not, Option, Some, None, refl, ap, sym, ◌∙◌, subst}
 use Rattle.api_json.specs.Status.{is_paused, is_restarting}
 use Rattle.container_table.specs.Timers.{cleared, with_timer}
 use Rattle.proc_kernel.specs.Processes.{Process}
-use Rattle.machine_model.specs.State.{State, is_process, drop_process}
+use Rattle.machine_model.specs.State.{State, drop_process}
 use Rattle.machine_model.specs.Chain.{change, and_then, with_container, renew, tell_of}
 use Rattle.machine_model.specs.EventTexts.{plain_event, die_event}
 use Rattle.machine_model.specs.Consistency.{FitsStatus, IsFrozenAs}
@@ -87,7 +88,7 @@ leads_deadlines n =
 pub rests : (l : Life) (u : Status) (p : Option Process) (a b c : Bool) → l.status ≡ u → FitsStatus u false → is_paused u ≡ false → is_restarting u ≡ false
     → not (l.pid == 0) ≡ false → p ≡ None → a ≡ false → b ≡ false → c ≡ false → CalmUp l p a b c
 rests l u p a b c is fits up calm pid none off away quiet =
-    let dead : is_process p ≡ false = ap is_process none in (
+    let dead : is_some p ≡ false = ap is_some none in (
       record {
         status = subst (λ x. FitsStatus l.status x) (sym dead) (subst (λ x. FitsStatus x false) (sym is) fits);
         frozen = subst (IsFrozenAs (is_paused l.status)) (sym none) tt;
@@ -95,7 +96,7 @@ rests l u p a b c is fits up calm pid none off away quiet =
         stop = λ e. never a off e;
         removal = λ e. never b away e;
         restart = quiet ∙ sym (ap is_restarting is ∙ calm);
-        program = λ e. never (is_process p) dead e;
+        program = λ e. never (is_some p) dead e;
         again = λ e. never c quiet e;
       },
       ap is_paused is ∙ up,
@@ -110,7 +111,7 @@ Waiting l p a b c = (not (l.pid == 0) ≡ false) × (p ≡ None) × (a ≡ false
 
 waits_by : (l : Life) (p : Option Process) (a b c : Bool) → Waiting l p a b c → CalmUp l p a b true
 waits_by l p a b c h =
-    let dead : is_process p ≡ false = ap is_process h.1 in (
+    let dead : is_some p ≡ false = ap is_some h.1 in (
       record {
         status = subst (λ x. FitsStatus l.status x) (sym dead) (subst (λ x. FitsStatus x false) (sym h.5) refl);
         frozen = subst (IsFrozenAs (is_paused l.status)) (sym h.1) tt;

@@ -2,7 +2,8 @@
 use Rattle.std.proofs.Common.{◌≡◌, ◌≢◌, ℕ, ◌≤◌, ◌<◌, ◌==◌, ◌&&◌, Bool, true, false, not, List, [], ◌∷◌, ◌++◌, Option, Some, None, find, map, refl, ap, sym, ◌∙◌, subst, arith, inl, inr, ◌+◌}
 use Rattle.std.proofs.lemmas.Bool.{eq-eqb}
 use Rattle.std.proofs.lemmas.Bool.Decides.{eqb_tells}
-use Rattle.std.specs.Prelude.{option_map}
+use Rattle.std.specs.Prelude.{option_map, is_some}
+use Rattle.std.specs.Option.{is_some, option_map_or}
 use Rattle.std.specs.List.{AllByRecursion}
 use Rattle.std.proofs.lemmas.List.{map-append}
 use Rattle.api_json.specs.Status.{is_paused}
@@ -12,7 +13,7 @@ use Rattle.proc_kernel.specs.Processes.{Process, spawn as spawned}
 use Rattle.proc_kernel.specs.Tables.{Entry, process_of, begun}
 use Rattle.proc_kernel.specs.Catalogue.{program_of}
 use Rattle.engine_text.specs.Owner.{same_owner}
-use Rattle.machine_model.specs.State.{State, container_numbered, is_process, change_exec, owner_number, exec_numbered}
+use Rattle.machine_model.specs.State.{State, container_numbered, change_exec, owner_number, exec_numbered}
 use Rattle.machine_model.specs.EventTexts.{exec_event}
 use Rattle.machine_model.specs.Consistency.{AreDistinct, FitsStatus}
 use Rattle.machine_model.specs.Effects.Launch.{spawn, log_size}
@@ -20,7 +21,7 @@ use Rattle.machine_model.specs.Calls.ExecCreate as exec_create
 use Rattle.machine_model.specs.Calls.ExecCreate.{if_running}
 use Rattle.machine_model.specs.Calls.ExecStart as exec_start
 use Rattle.machine_model.specs.Calls.Start.{if_program}
-use Rattle.machine_model.specs.Outcome.{Outcome, replies, answers}
+use Rattle.machine_model.specs.Outcome.{Outcome, replies, answers, refused}
 use Rattle.machine_model.specs.Views.{exec_body}
 use Rattle.machine_model.proofs.ListLemmas.{all_append, all_weaken, all_both, distinct_more, found_nowhere, below_is_other, all_mapped}
 use Rattle.machine_model.proofs.ChangeLemmas.{map_updated}
@@ -42,6 +43,7 @@ use Rattle.engine_text.specs.declared.owner.Owner.{Owner}
 use Rattle.engine_text.specs.declared.owner.Owner.TheVariants.{Container as OfContainer, Exec as OfExec}
 use Rattle.engine_text.specs.declared.status.Status.{Status}
 use Rattle.engine_text.specs.declared.event.Action.TheVariants as Action
+use Rattle.machine_model.specs.Refusals.{no_such_exec}
 
 pub running_by : (u : Status) (c : Container) (f : State → Outcome) (s : State) → PartsFit s → (u ≡ Status.Running → PartsFit (f s).effect.state) → PartsFit (if_running u c f s).effect.state
 running_by Status.Running c f s h one = one refl
@@ -133,7 +135,7 @@ spawn_exec x p stdin room s c found fresh stands runs low h =
     let same : (m : ℕ) → parts_of m t ≡ parts_of m s = λ m. ap (λ x. record (parts_of m s) { main = x }) (begun_others (OfExec k) (OfContainer m) q s.processes refl) in
     let fine : Fine c.life (parts_of x.container s).main (parts_of x.container s).stop (parts_of x.container s).removal (parts_of x.container s).restart =
     subst (λ o. OnBy Fine (life_of o) (parts_of x.container s).main (parts_of x.container s).stop (parts_of x.container s).removal (parts_of x.container s).restart) stands (h.1 x.container) in
-    let live : is_process (parts_of x.container s).main ≡ true = subst (λ u. FitsStatus u (is_process (parts_of x.container s).main)) runs fine.0.status in
+    let live : is_some (parts_of x.container s).main ≡ true = subst (λ u. FitsStatus u (is_some (parts_of x.container s).main)) runs fine.0.status in
     let icy : IcyAs (parts_of x.container s).life q = subst (λ o. IcyAs (life_of o) q) (sym stands) (sym (ap is_paused runs)) in
     let execs : ExecsBy W t.execs t.processes = λ m. elim (eqb_tells k m) [
       | inl e ↦ subst (λ j. ExecBy W (find (λ (y : Exec). y.number == j) t.execs) (process_of (OfExec j) t.processes)) e.1
@@ -180,7 +182,7 @@ exec_unless true id detach x c s e found stands h = h
 exec_unless false id detach x c s e found stands h =
     running_by c.life.status c (exec_start.run detach x) s h (λ runs. exec_ran (program_of x.words 1) detach x c s found e stands runs h)
 
-exec_both : (o : Option Container) (id : List ℕ) (f : Container → State → Outcome) (s : State) → PartsFit s → ((c : Container) → o ≡ Some c → PartsFit (f c s).effect.state) → PartsFit (exec_start.with_both o id f s).effect.state
+exec_both : (o : Option Container) (id : List ℕ) (f : Container → State → Outcome) (s : State) → PartsFit s → ((c : Container) → o ≡ Some c → PartsFit (f c s).effect.state) → PartsFit (option_map_or f o (refused 404 (no_such_exec id)) s).effect.state
 exec_both None id f s h one = h
 exec_both (Some c) id f s h one = one c refl
 

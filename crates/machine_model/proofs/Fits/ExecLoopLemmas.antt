@@ -2,12 +2,12 @@
 use Rattle.std.proofs.Common.{◌≡◌, ◌≢◌, ℕ, ◌==◌, ◌||◌, Bool, true, false, List, [], ◌∷◌, Option, Some, None, find, filter, map, if◌then◌else◌, refl, ap, sym, ◌∙◌, subst, inl, inr, ◌⊎◌, ◌+◌, ◌≤◌, length, arith}
 use Rattle.std.proofs.lemmas.Bool.{eqb-true, eq-eqb}
 use Rattle.std.proofs.lemmas.Bool.Decides.{eqb_tells}
-use Rattle.std.specs.Prelude.{option_map}
+use Rattle.std.specs.Prelude.{option_map, is_some}
 use Rattle.std.specs.List.{AllByRecursion, list_any}
 use Rattle.container_table.specs.Lists.{update_first}
 use Rattle.proc_kernel.specs.Processes.{Process, ProcessStep}
 use Rattle.proc_kernel.specs.Tables.{process_of, effect_of}
-use Rattle.machine_model.specs.State.{State, container_numbered, exec_numbered, is_live, is_process, running_execs, change_process, change_exec, drop_process}
+use Rattle.machine_model.specs.State.{State, container_numbered, exec_numbered, is_live, running_execs, change_process, change_exec, drop_process}
 use Rattle.machine_model.specs.Chain.{Effect, each, with_found, tell, tell_of, and_then, change}
 use Rattle.machine_model.specs.Consistency.{AreDistinct}
 use Rattle.machine_model.specs.EventTexts.{exec_die_event}
@@ -269,7 +269,7 @@ runs_by D none n m s x (Some q) f h e c =
     let is : x.number ≡ m = eqb-true x.number m (passes (λ (y : Exec). y.number == m) x s.execs e) in
     let first : find (λ (y : Exec). y.number == m) (filter (λ x. x.container == n) s.execs) ≡ Some x =
     find_filtered (λ (y : Exec). y.number) (λ x. x.container == n) m s.execs h ∙ (ap (keep_if (λ x. x.container == n)) e ∙ ap (λ b. if b then Some x else None) (eq-eqb x.container n c)) in
-    inl (found_any (λ (y : Exec). y.number == m) (λ x. is_live (OfExec x.number) s) x (filter (λ x. x.container == n) s.execs) first (subst (λ j. is_live (OfExec j) s ≡ true) (sym is) (ap is_process f)))
+    inl (found_any (λ (y : Exec). y.number == m) (λ x. is_live (OfExec x.number) s) x (filter (λ x. x.container == n) s.execs) first (subst (λ j. is_live (OfExec j) s ≡ true) (sym is) (ap is_some f)))
 
 pub running_loop : (n : ℕ) (D : Option Process → Type 0) → D None → (I : State → Type 0) (f : Exec → State → Effect)
     → ((x : Exec) (s : State) → IsOf n s x → I s → I (f x s).state × Touches x.number s (f x s).state × ((y : Exec) → exec_numbered x.number (f x s).state ≡ Some y → D (process_of (OfExec x.number) (f x s).state.processes)))

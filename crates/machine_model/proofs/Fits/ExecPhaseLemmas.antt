@@ -1,10 +1,10 @@
 -- The execs of a container while it ends, wakes or pauses: none is left, or all are frozen as it is.
 use Rattle.std.proofs.Common.{◌≡◌, ◌≢◌, ℕ, ◌==◌, Bool, true, false, Option, Some, None, refl, ap, sym, ◌∙◌, subst, inl, inr, arith}
 use Rattle.std.proofs.lemmas.Bool.Decides.{eqb_tells}
-use Rattle.std.specs.Prelude.{option_map}
+use Rattle.std.specs.Prelude.{option_map, is_some}
 use Rattle.proc_kernel.specs.Processes.{Process, is_frozen, thaw, freeze, frozen_pace}
 use Rattle.proc_kernel.specs.Tables.{process_of, effect_of}
-use Rattle.machine_model.specs.State.{State, exec_numbered, is_process, change_life}
+use Rattle.machine_model.specs.State.{State, exec_numbered, change_life}
 use Rattle.machine_model.specs.Consistency.{AreDistinct}
 use Rattle.machine_model.specs.Effects.EndMain.{end_exec, end_execs}
 use Rattle.machine_model.specs.Effects.Meet.{by_effect, stepped, step_process, thaw_execs}
@@ -30,7 +30,7 @@ use Rattle.engine_text.specs.declared.script.Effect.TheVariants.{Lives, Wrote, E
 -- ---- whatever the execs of one container are frozen as
 
 abbrev pub Loosely : ℕ → ℕ → Parts → Process → Type 0
-Loosely n k v p = (is_process v.main ≡ true) × (n ≢ k → IcyAs v.life p)
+Loosely n k v p = (is_some v.main ≡ true) × (n ≢ k → IcyAs v.life p)
 
 pub loosen : (Local : Parts → Type 0) (n : ℕ) (P : Parts → Type 0) (s : State) → Steady Local n P s → SteadyBy (Loosely n) Local n P s
 loosen Local n P s h = (
@@ -49,7 +49,7 @@ loosen Local n P s h = (
 )
 
 pub tighten : (Local : Parts → Type 0) (n : ℕ) (P : Parts → Type 0) (s : State)
-    → ((m : ℕ) (x : Exec) (q : Process) → exec_numbered m s ≡ Some x → x.container ≡ n → process_of (OfExec m) s.processes ≡ Some q → is_process (parts_of n s).main ≡ true → P (parts_of n s) → IcyAs (parts_of n s).life q)
+    → ((m : ℕ) (x : Exec) (q : Process) → exec_numbered m s ≡ Some x → x.container ≡ n → process_of (OfExec m) s.processes ≡ Some q → is_some (parts_of n s).main ≡ true → P (parts_of n s) → IcyAs (parts_of n s).life q)
     → SteadyBy (Loosely n) Local n P s → Steady Local n P s
 tighten Local n P s icy h = (
   (
@@ -63,7 +63,7 @@ tighten Local n P s icy h = (
         (λ x q e f w. (
           w.0,
           elim (eqb_tells n x.container) [
-            | inl is ↦ subst (λ j. IcyAs (parts_of j s).life q) is.1 (icy m x q e (sym is.1) f (subst (λ j. is_process (parts_of j s).main ≡ true) (sym is.1) w.0) h.2)
+            | inl is ↦ subst (λ j. IcyAs (parts_of j s).life q) is.1 (icy m x q e (sym is.1) f (subst (λ j. is_some (parts_of j s).main ≡ true) (sym is.1) w.0) h.2)
             | inr other ↦ w.1 other.1
           ],
         )) (h.0.6 m),

@@ -1,12 +1,12 @@
 -- Goals, statuses, main processes and timers fit each other: what the effects at one container keep of it.
 use Rattle.std.proofs.Common.{◌≡◌, ℕ, ◌+◌, ◌≤◌, ◌==◌, Bool, true, false, not, List, Option, Some, None, refl, ap, sym, ◌∙◌, subst, arith, ◌-◌}
 use Rattle.std.proofs.lemmas.Bool.Decides.{nat_tests}
-use Rattle.std.specs.Prelude.{option_map}
+use Rattle.std.specs.Prelude.{option_map, is_some}
 use Rattle.api_json.specs.Status.{is_paused, is_restarting}
 use Rattle.proc_kernel.specs.Catalogue.{program_of}
 use Rattle.proc_kernel.specs.Processes.{Process, spawn as spawned}
 use Rattle.engine_text.specs.Scripts.{Program}
-use Rattle.machine_model.specs.State.{State, is_process}
+use Rattle.machine_model.specs.State.{State}
 use Rattle.machine_model.specs.Chain.{change, with_container, renew}
 use Rattle.machine_model.specs.EventTexts.{plain_event}
 use Rattle.machine_model.specs.Consistency.{is_there, FitsStatus, IsFrozenAs, GoalStands}
@@ -33,17 +33,17 @@ Names words = (k : ℕ) → is_there (program_of words k) ≡ true
 
 -- all but the goal
 pub record Calm (l : Life) (p : Option Process) (a b c : Bool) : Type 0 where
-  pub status : FitsStatus l.status (is_process p)
+  pub status : FitsStatus l.status (is_some p)
   pub frozen : IsFrozenAs (is_paused l.status) p
-  pub pid : not (l.pid == 0) ≡ is_process p
-  pub stop : a ≡ true → is_process p ≡ true
-  pub removal : b ≡ true → (is_process p ≡ true) × (l.status ≡ Status.Removing)
+  pub pid : not (l.pid == 0) ≡ is_some p
+  pub stop : a ≡ true → is_some p ≡ true
+  pub removal : b ≡ true → (is_some p ≡ true) × (l.status ≡ Status.Removing)
   pub restart : c ≡ is_restarting l.status
-  pub program : is_process p ≡ true → Names l.words
+  pub program : is_some p ≡ true → Names l.words
   pub again : c ≡ true → Names l.words
 
 abbrev pub Fine : Life → Option Process → Bool → Bool → Bool → Type 0
-Fine l p a b c = Calm l p a b c × GoalStands l.goal (is_process p)
+Fine l p a b c = Calm l p a b c × GoalStands l.goal (is_some p)
 
 -- nor paused
 abbrev pub Up : Life → Option Process → Bool → Bool → Bool → Type 0
@@ -53,7 +53,7 @@ abbrev pub CalmUp : Life → Option Process → Bool → Bool → Bool → Type 
 CalmUp l p a b c = Calm l p a b c × (is_paused l.status ≡ false)
 
 abbrev pub Live : Life → Option Process → Bool → Bool → Bool → Type 0
-Live l p a b c = Up l p a b c × (is_process p ≡ true)
+Live l p a b c = Up l p a b c × (is_some p ≡ true)
 
 -- of a number that no container has
 abbrev pub OnBy : (Life → Option Process → Bool → Bool → Bool → Type 0) → Option Life → Option Process → Bool → Bool → Bool → Type 0

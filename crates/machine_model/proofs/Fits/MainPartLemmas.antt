@@ -1,14 +1,14 @@
 -- How changes of processes and a removal change what one sees of a container.
 use Rattle.std.proofs.Common.{◌≡◌, ◌≢◌, ℕ, ◌≤◌, ◌==◌, Bool, true, false, not, inl, inr, List, [], ◌∷◌, ◌++◌, Option, Some, None, find, map, if◌then◌else◌, refl, ap, sym, ◌∙◌, subst, arith}
 use Rattle.std.proofs.lemmas.Bool.{eqb-true, eq-eqb}
-use Rattle.std.specs.Prelude.{option_map}
+use Rattle.std.specs.Prelude.{option_map, is_some}
 use Rattle.std.specs.List.{AllByRecursion}
 use Rattle.std.proofs.lemmas.Bool.Decides.{eqb_tells}
 use Rattle.engine_text.specs.Owner.{same_owner}
 use Rattle.engine_text.specs.Scripts.{Program}
 use Rattle.proc_kernel.specs.Processes.{Process, is_frozen, spawn as spawned}
 use Rattle.proc_kernel.specs.Tables.{Entry, process_of, begun}
-use Rattle.machine_model.specs.State.{State, exec_numbered, is_process, change_process, change_exec, drop_process}
+use Rattle.machine_model.specs.State.{State, exec_numbered, change_process, change_exec, drop_process}
 use Rattle.machine_model.specs.Chain.{change}
 use Rattle.machine_model.specs.Consistency.{AreDistinct}
 use Rattle.machine_model.specs.Effects.Launch.{spawn}
@@ -32,7 +32,7 @@ use Rattle.engine_text.specs.declared.owner.Owner.TheVariants.{Container as OfCo
 others_apart : (n m : ℕ) → n ≢ m → same_owner (OfContainer n) (OfContainer m) ≡ false
 others_apart n m other = other_owner n m other
 
-mapped_lives : (f : Process → Process) (p : Option Process) → is_process (option_map f p) ≡ is_process p
+mapped_lives : (f : Process → Process) (p : Option Process) → is_some (option_map f p) ≡ is_some p
 mapped_lives f None = refl
 mapped_lives f (Some p) = refl
 
@@ -231,7 +231,7 @@ leads_spawn {Local} {n} {P} {Q} program stdin room none k fits = record {
           omega arith,
           h.0.5,
           execs_moved (λ j p. Watches (parts_of j s) p) (λ j p. Watches (parts_of j t) p) s.execs s.processes t.processes (λ m. begun_others o (OfExec m) p s.processes refl)
-              (watched n s t others (λ q w. let no_way : false ≡ true = sym (ap is_process (none (parts_of n s) h.2)) ∙ w.0 in absurd (cc))) h.0.6,
+              (watched n s t others (λ q w. let no_way : false ≡ true = sym (ap is_some (none (parts_of n s) h.2)) ∙ w.0 in absurd (cc))) h.0.6,
           record {
             mains = roomed n s t others
                 (subst (λ q. RoomBy (parts_of n s).life q) (sym (begun_stands o p s.processes (none (parts_of n s) h.2))) (room_less (parts_of n s).life (Some (spawned program 0 stdin room)) (Some p) (omega arith) (fits (parts_of n s) h.2 (h.0.7.mains n))))
@@ -286,7 +286,7 @@ leads_without {Local} {P} {Q} c none k = record {
           distinct_filtered (λ (x : Exec). x.number) (λ x. not (x.container == n)) s.execs h.0.5,
           λ m. subst (λ o. ExecBy (λ j p. Watches (parts_of j t) p) o (process_of (OfExec m) s.processes)) (sym (find_filtered (λ (x : Exec). x.number) (λ x. not (x.container == n)) m s.execs h.0.5))
               (exec_filtered n (λ j p. Watches (parts_of j s) p) (λ j p. Watches (parts_of j t) p) (exec_numbered m s) (process_of (OfExec m) s.processes)
-              (λ q w. let no_way : false ≡ true = sym (ap is_process (none (parts_of n s) h.2)) ∙ w.0 in absurd (cc)) (λ j q other w. subst (λ v. Watches v q) (sym (others j other)) w) (h.0.6 m)),
+              (λ q w. let no_way : false ≡ true = sym (ap is_some (none (parts_of n s) h.2)) ∙ w.0 in absurd (cc)) (λ j q other w. subst (λ v. Watches v q) (sym (others j other)) w) (h.0.6 m)),
           record {
             mains = roomed n s t others (subst (λ l. RoomBy (life_of l) (process_of (OfContainer n) s.processes)) (sym (itself_gone n s.containers h.0.0)) tt) h.0.7.mains;
             outputs = all_filtered (OutputFits s.processes) _ s.outputs h.0.7.outputs;

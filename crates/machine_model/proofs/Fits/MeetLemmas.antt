@@ -1,16 +1,16 @@
 -- What steps, thaws, signals and halts keep of what fits.
 use Rattle.std.proofs.Common.{◌≡◌, ℕ, ◌+◌, ◌≤◌, ◌==◌, Bool, true, false, not, List, Option, Some, None, refl, ap, sym, ◌∙◌, subst, arith, ◌*◌, ℤ, pos, negsuc, length}
-use Rattle.std.specs.Prelude.{option_map}
+use Rattle.std.specs.Prelude.{option_map, is_some, unwrap_or}
 use Rattle.api_json.specs.Status.{is_paused, is_restarting}
 use Rattle.container_table.specs.Timers.{cleared}
 use Rattle.proc_kernel.specs.Processes.{signal, thaw, Process, ProcessStep, is_frozen}
 use Rattle.proc_kernel.specs.Tables.{effect_of, process_of}
-use Rattle.machine_model.specs.State.{State, is_process, change_process, timer_of, change_life}
+use Rattle.machine_model.specs.State.{State, change_process, timer_of, change_life}
 use Rattle.machine_model.specs.Chain.{change, and_then, in_order, renew, tell_of}
 use Rattle.machine_model.specs.EventTexts.{plain_event, kill_event}
 use Rattle.machine_model.specs.Consistency.{FitsStatus, IsFrozenAs, GoalStands}
 use Rattle.machine_model.specs.Effects.Cancel.{cancelled, cancel_restart}
-use Rattle.machine_model.specs.Effects.Halt.{signal_used, seconds_used, lesser, set_deadline, halt}
+use Rattle.machine_model.specs.Effects.Halt.{lesser, set_deadline, halt}
 use Rattle.machine_model.specs.Effects.Meet.{logged, by_effect, stepped, step_process, running, thaw_execs, wake_parts, thaw_container, send, woken, meet_signal}
 use Rattle.machine_model.specs.Effects.Launch.{log_size}
 use Rattle.machine_model.proofs.Fits.PartLemmas.{Steady, Parts, parts_of, Leads, leads_then, leads_from, leads_still, leads_with, leads_tell, leads_renew, IcyAs, Stood, Roomy}
@@ -114,8 +114,8 @@ leads_step R step is n some none = record { holds = λ s h. step_by R step is n 
 -- all but whether the process is frozen
 abbrev pub Loose : Life → Option Process → Bool → Bool → Bool → Type 0
 Loose l p a b c =
-    FitsStatus l.status (is_process p) × (not (l.pid == 0) ≡ is_process p) × (a ≡ true → is_process p ≡ true) × (b ≡ true → (is_process p ≡ true) × (l.status ≡ Status.Removing))
-    × (c ≡ is_restarting l.status) × (is_process p ≡ true → Names l.words) × (c ≡ true → Names l.words) × GoalStands l.goal (is_process p) × (is_paused l.status ≡ false)
+    FitsStatus l.status (is_some p) × (not (l.pid == 0) ≡ is_some p) × (a ≡ true → is_some p ≡ true) × (b ≡ true → (is_some p ≡ true) × (l.status ≡ Status.Removing))
+    × (c ≡ is_restarting l.status) × (is_some p ≡ true → Names l.words) × (c ≡ true → Names l.words) × GoalStands l.goal (is_some p) × (is_paused l.status ≡ false)
 
 tight : (l : Life) (q : Process) (p : Process) (a b c : Bool) → Going q → Loose l (Some p) a b c → Live l (Some q) a b c
 tight l q p a b c going h = (
@@ -177,14 +177,14 @@ Halted l p a b c = Fine l p a b c × (l.status ≡ Status.Paused)
 
 wakes : (l : Life) (p : Option Process) (a b c : Bool) → Halted l p a b c → Loose (running l) p a b c
 wakes l p a b c h =
-    let live : is_process p ≡ true = subst (λ u. FitsStatus u (is_process p)) h.1 h.0.0.status in
+    let live : is_some p ≡ true = subst (λ u. FitsStatus u (is_some p)) h.1 h.0.0.status in
     (live, h.0.0.pid, h.0.0.stop, λ e. let r = (h.0.0.removal e).1 in absurd (apart (sym h.1 ∙ r)), h.0.0.restart ∙ ap is_restarting h.1, h.0.0.program, h.0.0.again, h.0.1, refl)
   where
     apart : Status.Paused ≡ Status.Removing → ⊥
     apart e = let no_way : true ≡ false = ap is_paused e in absurd (cc)
 
-icy_going : (o : Option Life) (p : Option Process) (a b c : Bool) (q : Process) → is_process p ≡ true → is_frozen q.pace ≡ false → OnBy Loose o p a b c → IcyAs o q
-icy_going None p a b c q live going h = never (is_process p) (ap is_process h.0) live
+icy_going : (o : Option Life) (p : Option Process) (a b c : Bool) (q : Process) → is_some p ≡ true → is_frozen q.pace ≡ false → OnBy Loose o p a b c → IcyAs o q
+icy_going None p a b c q live going h = never (is_some p) (ap is_some h.0) live
 icy_going (Some l) p a b c q live going h = going ∙ sym h.8
 
 pub leads_wake : (n : ℕ) → Leads Local n (On Halted) (in_order (wake_parts n)) (On Loose)
@@ -231,7 +231,7 @@ leads_meet number n =
 -- ---- a halt
 
 abbrev pub Alive : Life → Option Process → Bool → Bool → Bool → Type 0
-Alive l p a b c = Fine l p a b c × (is_process p ≡ true)
+Alive l p a b c = Fine l p a b c × (is_some p ≡ true)
 
 leads_deadline : (z : ℤ) (n : ℕ) → Leads Local n (Here Alive) (change (set_deadline z n)) (Here Alive)
 leads_deadline (pos seconds) n = leads_set_1 (λ s. lesser (timer_of 1 n s) (s.clock + 1000 * seconds)) (λ v h. (
@@ -267,7 +267,7 @@ pub marked : (f : Life → Life) → IsGoalMark f → (l : Life) (p : Option Pro
 marked f mark l p a b c h = (
   (
     record {
-      status = subst (λ u. FitsStatus u (is_process p)) (sym (mark.status l)) h.0.0.status;
+      status = subst (λ u. FitsStatus u (is_some p)) (sym (mark.status l)) h.0.0.status;
       frozen = subst (λ u. IsFrozenAs (is_paused u) p) (sym (mark.status l)) h.0.0.frozen;
       pid = ap (λ n. not (n == 0)) (mark.pid l) ∙ h.0.0.pid;
       stop = h.0.0.stop;
@@ -284,10 +284,10 @@ marked f mark l p a b c h = (
 pub leads_halt : (mark : Life → Life) (seconds : Option ℤ) (signal : Option Signal) (c : Container) → IsGoalMark mark → Leads Local c.number (Here Alive) (halt mark seconds signal c) (On Up)
 leads_halt mark seconds signal c is =
     let marks : Leads Local c.number (Here Alive) (renew c.number mark) (Here Alive) = here_renew Alive Alive (λ s. mark) (λ s pid l p x y z h. marked mark is l p x y z h) (λ s l p x y z h. ap is_paused (is.status l)) (λ s l. is.log l) in
-    leads_then (leads_tell c.number (kill_event (signal_used signal c)))
+    leads_then (leads_tell c.number (kill_event ((unwrap_or signal c.life.stop_signal).number)))
     (leads_then marks
-    (leads_then (leads_deadline (seconds_used seconds c) c.number)
-    (leads_from (λ v h. on_weaker Alive Fine (λ l p x y z k. k.0) v (on_here Alive v h)) (leads_meet (signal_used signal c) c.number))))
+    (leads_then (leads_deadline (unwrap_or seconds c.life.stop_after) c.number)
+    (leads_from (λ v h. on_weaker Alive Fine (λ l p x y z k. k.0) v (on_here Alive v h)) (leads_meet ((unwrap_or signal c.life.stop_signal).number) c.number))))
 
 -- ---- the end of a pending restart
 
@@ -302,7 +302,7 @@ abbrev Untimed : Life → Option Process → Bool → Bool → Bool → Type 0
 Untimed l p a b c =
     (not (l.pid == 0) ≡ false) × (p ≡ None) × (a ≡ false) × (b ≡ false) × (c ≡ false) × Names l.words × GoalStands l.goal false × (is_paused l.status ≡ false)
 
-pub no_process : (p : Option Process) → is_process p ≡ false → p ≡ None
+pub no_process : (p : Option Process) → is_some p ≡ false → p ≡ None
 no_process None e = refl
 no_process (Some q) e = absurd (cc)
 
@@ -312,11 +312,11 @@ off_if false live e k = refl
 
 untimed : (l : Life) (p : Option Process) (a b c : Bool) → Resting l p a b c → Untimed l p a b false
 untimed l p a b c h =
-    let dead : is_process p ≡ false = subst (λ u. FitsStatus u (is_process p)) h.1 h.0.0.status in (
+    let dead : is_some p ≡ false = subst (λ u. FitsStatus u (is_some p)) h.1 h.0.0.status in (
       h.0.0.pid ∙ dead,
       no_process p dead,
-      off_if a (is_process p) dead h.0.0.stop,
-      off_if b (is_process p) dead (λ e. (h.0.0.removal e).0),
+      off_if a (is_some p) dead h.0.0.stop,
+      off_if b (is_some p) dead (λ e. (h.0.0.removal e).0),
       refl,
       h.0.0.again (h.0.0.restart ∙ ap is_restarting h.1),
       subst (GoalStands l.goal) dead h.0.1,

@@ -2,14 +2,14 @@
 pub use Rattle.machine_model.proofs.Fits.LogRoomLemmas.{life_of}
 use Rattle.std.proofs.Common.{◌≡◌, ◌≢◌, ℕ, ◌≤◌, ◌==◌, Bool, true, false, not, inl, inr, List, [], ◌∷◌, Option, Some, None, find, map, if◌then◌else◌, refl, ap, sym, ◌∙◌, subst}
 use Rattle.std.proofs.lemmas.Bool.{eqb-true}
-use Rattle.std.specs.Prelude.{option_map}
+use Rattle.std.specs.Prelude.{option_map, is_some}
 use Rattle.std.specs.List.{AllByRecursion}
 use Rattle.std.proofs.lemmas.Bool.Decides.{eqb_tells}
 use Rattle.container_table.specs.Lists.{update_first}
 use Rattle.proc_kernel.specs.Processes.{Process, is_frozen}
 use Rattle.proc_kernel.specs.Tables.{Entry, process_of}
 use Rattle.api_json.specs.Status.{is_paused}
-use Rattle.machine_model.specs.State.{State, container_numbered, timer_of, is_process}
+use Rattle.machine_model.specs.State.{State, container_numbered, timer_of}
 use Rattle.machine_model.specs.Chain.{Effect, still, and_then, each, with_found, with_container, tell, tell_of, tell_mounts, renew}
 use Rattle.machine_model.specs.EventTexts.{mount_event}
 use Rattle.machine_model.specs.Consistency.{AreDistinct, is_there, AreSingle}
@@ -55,7 +55,7 @@ IcyAs (Some l) p = is_frozen p.pace ≡ is_paused l.status
 
 -- an exec's process, by what one sees of its container
 abbrev pub Watches : Parts → Process → Type 0
-Watches v p = (is_process v.main ≡ true) × IcyAs v.life p
+Watches v p = (is_some v.main ≡ true) × IcyAs v.life p
 
 -- an exec and its process, beside what is so of its container's number and the process
 abbrev pub ExecBy : (ℕ → Process → Type 0) → Option Exec → Option Process → Type 0

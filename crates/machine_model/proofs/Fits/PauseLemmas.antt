@@ -1,9 +1,9 @@
 -- What fits still fits behind a pause.
 use Rattle.std.proofs.Common.{◌≡◌, ℕ, Bool, true, false, List, Option, Some, None, refl, ap, sym, ◌∙◌, subst}
-use Rattle.std.specs.Prelude.{option_map}
+use Rattle.std.specs.Prelude.{option_map, is_some}
 use Rattle.api_json.specs.Status.{is_paused, is_restarting}
 use Rattle.proc_kernel.specs.Processes.{Process, freeze, frozen_pace, is_frozen}
-use Rattle.machine_model.specs.State.{State, container_numbered, is_process, change_process, change_life}
+use Rattle.machine_model.specs.State.{State, container_numbered, change_process, change_life}
 use Rattle.machine_model.specs.Chain.{change, tell_of}
 use Rattle.machine_model.specs.EventTexts.{plain_event}
 use Rattle.machine_model.specs.Consistency.{FitsStatus, IsFrozenAs}
@@ -51,7 +51,7 @@ pauses : (l : Life) (p : Option Process) (a b c : Bool) → Iced l p a b c → F
 pauses l p a b c h =
     let k = h.0 in (
       record {
-        status = subst (λ u. FitsStatus u (is_process p)) h.2 k.0;
+        status = subst (λ u. FitsStatus u (is_some p)) h.2 k.0;
         frozen = h.1;
         pid = k.1;
         stop = k.2;
@@ -63,8 +63,8 @@ pauses l p a b c h =
       k.7,
     )
 
-icy_halted : (o : Option Life) (p : Option Process) (a b c : Bool) (q : Process) → is_process p ≡ true → is_frozen q.pace ≡ true → OnBy Halted o p a b c → IcyAs o q
-icy_halted None p a b c q live icy h = never (is_process p) (ap is_process h.0) live
+icy_halted : (o : Option Life) (p : Option Process) (a b c : Bool) (q : Process) → is_some p ≡ true → is_frozen q.pace ≡ true → OnBy Halted o p a b c → IcyAs o q
+icy_halted None p a b c q live icy h = never (is_some p) (ap is_some h.0) live
 icy_halted (Some l) p a b c q live icy h = icy ∙ sym (ap is_paused h.1)
 
 leads_pause : (n : ℕ) → Leads Local n (On Ran) (pause.pause n) (On Fine)

@@ -1,9 +1,10 @@
 -- What fits still fits behind a removal.
+use Rattle.std.specs.Option.{is_some}
 use Rattle.std.proofs.Common.{◌≡◌, ℕ, ◌+◌, Bool, true, false, List, Option, Some, None, refl, ap, sym, ◌∙◌, subst}
 use Rattle.api_json.specs.Status.{is_restarting}
 use Rattle.container_table.specs.Timers.{with_timer}
 use Rattle.proc_kernel.specs.Processes.{Process}
-use Rattle.machine_model.specs.State.{State, container_numbered, is_live, is_process}
+use Rattle.machine_model.specs.State.{State, container_numbered, is_live}
 use Rattle.machine_model.specs.Chain.{change, and_then, renew}
 use Rattle.machine_model.specs.EventTexts.{kill_event}
 use Rattle.machine_model.specs.Tickets.{begun}
@@ -47,8 +48,8 @@ removes_by l p a b c h =
 abbrev Going : Life → Option Process → Bool → Bool → Bool → Type 0
 Going l p a b c = Up l p a true c
 
-lives_by : (o : Option Life) (p : Option Process) (a b c : Bool) → is_process p ≡ true → OnBy Up o p a b c → (l : Life) × (o ≡ Some l) × Live l p a b c
-lives_by None p a b c live h = let no_way : true ≡ false = sym live ∙ ap is_process h.0 in absurd (cc)
+lives_by : (o : Option Life) (p : Option Process) (a b c : Bool) → is_some p ≡ true → OnBy Up o p a b c → (l : Life) × (o ≡ Some l) × Live l p a b c
+lives_by None p a b c live h = let no_way : true ≡ false = sym live ∙ ap is_some h.0 in absurd (cc)
 lives_by (Some l) p a b c live h = (l, refl, (h, live))
 
 leads_if_it_lives : (b : Bool) (n : ℕ) (s : State) → is_live (OfContainer n) s ≡ b → Steady Local n (On Up) s → Steady Local n (On Up) (if_it_lives b n s).state
@@ -67,7 +68,7 @@ leads_to_remove n =
     leads_then (leads_tell n (kill_event 9))
     (leads_then marks (leads_then (leads_from (λ v h. on_weaker Alive Fine (λ l p x y z k. k.0) v (on_here Alive v h)) (leads_meet 9 n)) lives))
 
-remove_gone : (s : State) (c : Container) (u : Status) → container_numbered c.number s ≡ Some c → c.life.status ≡ u → ((v : Parts) → v.main ≡ (parts_of c.number s).main → FitsStatus u (is_process v.main) → is_process v.main ≡ false)
+remove_gone : (s : State) (c : Container) (u : Status) → container_numbered c.number s ≡ Some c → c.life.status ≡ u → ((v : Parts) → v.main ≡ (parts_of c.number s).main → FitsStatus u (is_some v.main) → is_some v.main ≡ false)
     → is_restarting u ≡ false → PartsFit s → PartsFit (destroy c.number s).state
 remove_gone s c u found is dead calm h =
     let n : ℕ = c.number in
@@ -78,7 +79,7 @@ remove_runs : (s : State) (force : Bool) (connection : ℕ) (c : Container) (u :
 remove_runs s false connection c u found is lives h = h
 remove_runs s true connection c u found is lives h =
     let t : State = begun connection c.number Asked.Remove s in
-    mains_found t c (kill_to_remove c.number) found (leads_from (λ v k. to_alive c u v is (λ fits. lives (is_process v.main) fits) k) (leads_to up_fine (leads_to_remove c.number))) h
+    mains_found t c (kill_to_remove c.number) found (leads_from (λ v k. to_alive c u v is (λ fits. lives (is_some v.main) fits) k) (leads_to up_fine (leads_to_remove c.number))) h
 
 remove_rests : (s : State) (force : Bool) (c : Container) → container_numbered c.number s ≡ Some c → c.life.status ≡ Status.Restarting → PartsFit s → PartsFit (remove_restarting force c s).effect.state
 remove_rests s false c found is h = h
@@ -90,7 +91,7 @@ remove_rests s true c found is h =
 remove_by_dead : (s : State) (c : Container) (b : Bool) → is_live (OfContainer c.number) s ≡ b → container_numbered c.number s ≡ Some c → c.life.status ≡ Status.Dead → PartsFit s
     → PartsFit (remove_dead b c s).effect.state
 remove_by_dead s c true e found is h = h
-remove_by_dead s c false e found is h = remove_gone s c Status.Dead found is (λ v same fits. ap is_process same ∙ e) refl h
+remove_by_dead s c false e found is h = remove_gone s c Status.Dead found is (λ v same fits. ap is_some same ∙ e) refl h
 
 remove_by : (s : State) (force : Bool) (connection : ℕ) (c : Container) (u : Status) → container_numbered c.number s ≡ Some c → c.life.status ≡ u → PartsFit s
     → PartsFit (remove.by_status u force connection c s).effect.state

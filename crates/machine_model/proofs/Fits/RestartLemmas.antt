@@ -1,9 +1,10 @@
 -- What fits still fits behind a restart.
+use Rattle.std.specs.Option.{is_some}
 use Rattle.std.proofs.Common.{◌≡◌, ℕ, Bool, true, false, List, Option, Some, None, refl, ap, ℤ}
 use Rattle.api_json.specs.Status.{is_paused, is_restarting}
 use Rattle.proc_kernel.specs.Catalogue.{program_of}
 use Rattle.engine_text.specs.Scripts.{Program}
-use Rattle.machine_model.specs.State.{State, container_numbered, is_process}
+use Rattle.machine_model.specs.State.{State, container_numbered}
 use Rattle.machine_model.specs.Chain.{and_then}
 use Rattle.machine_model.specs.EventTexts.{plain_event}
 use Rattle.machine_model.specs.Outcome.{done}
@@ -32,14 +33,14 @@ restart_ran : (s : State) (c : Container) (u : Status) (o : Option Program) → 
 restart_ran s c u None e found is dead calm up h = h
 restart_ran s c u (Some program) e found is dead calm up h =
     mains_found s c (launch_again c.number) found
-    (leads_from (λ v k. to_fallen c u v is (λ fits. dead (is_process v.main) fits) calm up (names_of c.life.words 1 (ap is_there e)) k) (again_up c.number)) h
+    (leads_from (λ v k. to_fallen c u v is (λ fits. dead (is_some v.main) fits) calm up (names_of c.life.words 1 (ap is_there e)) k) (again_up c.number)) h
 
 restart_halts : (s : State) (connection : ℕ) (seconds : Option ℤ) (signal : Option Signal) (c : Container) (u : Status) → container_numbered c.number s ≡ Some c → c.life.status ≡ u
     → ((live : Bool) → FitsStatus u live → live ≡ true) → PartsFit s → PartsFit (begins connection c Asked.Restart (halt to_restart seconds signal c) s).effect.state
 restart_halts s connection seconds signal c u found is lives h =
     let t : State = begun connection c.number Asked.Restart s in
     mains_found t c (halt to_restart seconds signal c) found
-    (leads_from (λ v k. to_alive c u v is (λ fits. lives (is_process v.main) fits) k)
+    (leads_from (λ v k. to_alive c u v is (λ fits. lives (is_some v.main) fits) k)
     (leads_to up_fine (leads_halt to_restart seconds signal c (record { status = λ l. refl; pid = λ l. refl; words = λ l. refl; log = λ l. refl })))) h
 
 restart_by : (s : State) (connection : ℕ) (seconds : Option ℤ) (signal : Option Signal) (c : Container) (u : Status) → container_numbered c.number s ≡ Some c → c.life.status ≡ u → PartsFit s

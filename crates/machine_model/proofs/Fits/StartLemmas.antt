@@ -1,9 +1,10 @@
 -- What fits still fits behind a start.
+use Rattle.std.specs.Option.{is_some}
 use Rattle.std.proofs.Common.{◌≡◌, ℕ, Bool, false, List, Option, Some, None, refl, ap}
 use Rattle.api_json.specs.Status.{is_paused, is_restarting}
 use Rattle.proc_kernel.specs.Catalogue.{program_of}
 use Rattle.engine_text.specs.Scripts.{Program}
-use Rattle.machine_model.specs.State.{State, container_numbered, is_process}
+use Rattle.machine_model.specs.State.{State, container_numbered}
 use Rattle.machine_model.specs.Outcome.{done}
 use Rattle.machine_model.specs.Consistency.{is_there, FitsStatus}
 use Rattle.machine_model.specs.Effects.Launch.{launch_by_call}
@@ -20,7 +21,7 @@ start_ran : (s : State) (c : Container) (u : Status) (o : Option Program) → pr
 start_ran s c u None e found is dead calm up h = h
 start_ran s c u (Some program) e found is dead calm up h =
     mains_found s c (launch_by_call c.number) found
-    (leads_from (λ v k. to_fallen c u v is (λ fits. dead (is_process v.main) fits) calm up (names_of c.life.words 1 (ap is_there e)) k) (leads_to up_fine (leads_launch_by_call c.number))) h
+    (leads_from (λ v k. to_fallen c u v is (λ fits. dead (is_some v.main) fits) calm up (names_of c.life.words 1 (ap is_there e)) k) (leads_to up_fine (leads_launch_by_call c.number))) h
 
 start_by : (s : State) (c : Container) (u : Status) → container_numbered c.number s ≡ Some c → c.life.status ≡ u → PartsFit s → PartsFit (start.by_status u c s).effect.state
 start_by s c Status.Created found is h = start_ran s c Status.Created (program_of c.life.words 1) refl found is (λ live fits. fits) refl refl h

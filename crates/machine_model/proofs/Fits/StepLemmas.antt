@@ -1,4 +1,5 @@
 -- Statuses, goals, main processes and timers fit each other behind every step, and so HasTimers holds.
+use Rattle.std.specs.Option.{is_some, unwrap_or}
 use Rattle.std.proofs.Common.{◌≡◌, ◌≢◌, ℕ, ◌≤◌, ◌==◌, Bool, true, false, not, List, [], ◌∷◌, Option, Some, None, find, map, if◌then◌else◌, refl, ap, sym, subst, arith, inl, inr}
 use Rattle.std.proofs.lemmas.Bool.{eqb-true, eq-eqb}
 use Rattle.std.proofs.lemmas.Bool.Decides.{eqb_tells}
@@ -7,8 +8,8 @@ use Rattle.container_table.specs.Timers.{timer_in, is_before}
 use Rattle.engine_text.specs.Texts.{same_bytes, without_slash}
 use Rattle.proc_kernel.specs.Processes.{run_due, next_due}
 use Rattle.proc_kernel.specs.Tables.{Entry}
-use Rattle.machine_model.specs.State.{State, container_numbered, is_process, timer_of, owner_number}
-use Rattle.machine_model.specs.Chain.{Effect, with_found}
+use Rattle.machine_model.specs.State.{State, container_numbered, timer_of, owner_number}
+use Rattle.machine_model.specs.Chain.{Effect, with_found, still}
 use Rattle.machine_model.specs.EventTexts.{exec_event, plain_event}
 use Rattle.machine_model.specs.Call.{outcome_of}
 use Rattle.machine_model.specs.Filters.{is_image}
@@ -22,7 +23,7 @@ use Rattle.machine_model.specs.Calls.Rename as rename
 use Rattle.machine_model.specs.Calls.Rename.{named}
 use Rattle.machine_model.specs.Calls.Volumes as volumes
 use Rattle.machine_model.specs.Outcome.{answers}
-use Rattle.machine_model.specs.Step.{at_moment, step_of, or_still}
+use Rattle.machine_model.specs.Step.{at_moment, step_of}
 use Rattle.machine_model.specs.History.{after_step}
 use Rattle.machine_model.specs.Views.{volume_body}
 use Rattle.machine_model.proofs.ListLemmas.{all_append, all_weaken, all_both}
@@ -197,7 +198,7 @@ mains_due s d e awake goes h =
 
 -- ---- every step
 
-due_by : (s : State) (o : Option DueAction) → least_due s ≡ o → IsConsistent s → PartsFit s → PartsFit (or_still (step_of o s) s).state
+due_by : (s : State) (o : Option DueAction) → least_due s ≡ o → IsConsistent s → PartsFit s → PartsFit (unwrap_or (step_of o s) (still s)).state
 due_by s None e h mains = mains
 due_by s (Some d) e h mains = mains_due s d e (least_finds s d h e) (least_goes s d h e) mains
 
@@ -244,7 +245,7 @@ stands_by s d None e ranked there h =
     ]
 
 live_by : (s : State) (d : DueAction) (o : Option Container) → container_numbered d.number s ≡ o → is_there o ≡ true → IsRanked d → is_there (timer_in d.rank d.number s.timers) ≡ true → PartsFit s
-    → d.rank ≤ 2 → is_process (parts_of d.number s).main ≡ true
+    → d.rank ≤ 2 → is_some (parts_of d.number s).main ≡ true
 live_by s d None e some ranked there h low = absurd (cc)
 live_by s d (Some c) e some ranked there h low =
     let fine : Fine c.life (parts_of d.number s).main (parts_of d.number s).stop (parts_of d.number s).removal (parts_of d.number s).restart =

@@ -1,6 +1,7 @@
 -- What fits still fits behind a stop.
+use Rattle.std.specs.Option.{is_some}
 use Rattle.std.proofs.Common.{◌≡◌, ℕ, Bool, true, List, Option, Some, refl, ℤ}
-use Rattle.machine_model.specs.State.{State, container_numbered, is_process}
+use Rattle.machine_model.specs.State.{State, container_numbered}
 use Rattle.machine_model.specs.Chain.{and_then, tell_of}
 use Rattle.machine_model.specs.EventTexts.{plain_event}
 use Rattle.machine_model.specs.Tickets.{begins, begun}
@@ -23,7 +24,7 @@ stop_halts : (s : State) (connection : ℕ) (seconds : Option ℤ) (signal : Opt
 stop_halts s connection seconds signal c u found is lives h =
     let t : State = begun connection c.number Asked.Stop s in
     mains_found t c (halt stopping seconds signal c) found
-    (leads_from (λ v k. to_alive c u v is (λ fits. lives (is_process v.main) fits) k)
+    (leads_from (λ v k. to_alive c u v is (λ fits. lives (is_some v.main) fits) k)
     (leads_to up_fine (leads_halt stopping seconds signal c (record { status = λ l. refl; pid = λ l. refl; words = λ l. refl; log = λ l. refl })))) h
 
 stop_by : (s : State) (connection : ℕ) (seconds : Option ℤ) (signal : Option Signal) (c : Container) (u : Status) → container_numbered c.number s ≡ Some c → c.life.status ≡ u → PartsFit s

@@ -1,8 +1,9 @@
 -- Each step folds, and so does each history whose states are consistent.
+use Rattle.std.specs.Option.{unwrap_or}
 use Rattle.std.proofs.Common.{◌≡◌, List, [], ◌∷◌, ◌++◌, Option, Some, None, map, refl, ap, ◌∙◌, subst}
 use Rattle.machine_model.specs.State.{State}
 use Rattle.machine_model.specs.Due.{least_due}
-use Rattle.machine_model.specs.Step.{at_moment, step_of, or_still, step_effect}
+use Rattle.machine_model.specs.Step.{at_moment, step_of, step_effect}
 use Rattle.machine_model.specs.History.{Charter, opening_state, after_step, state_from, state_after, events_from, IsLawful, AreLawful, IsLegal}
 use Rattle.machine_model.specs.Summary.{fold_on, inspect_summary}
 use Rattle.machine_model.specs.Consistency.{IsConsistent}
@@ -16,6 +17,7 @@ use Rattle.engine_text.specs.declared.event.Event.{Event}
 use Rattle.engine_text.specs.declared.event.FoldRow.{FoldRow}
 use Rattle.engine_text.specs.declared.step.DueAction.{DueAction}
 use Rattle.engine_text.specs.declared.step.Step.{Step}
+use Rattle.machine_model.specs.Chain.{still}
 
 -- ---- one step
 
@@ -29,7 +31,7 @@ fit_of s h = (
   h.ranges.codes,
 )
 
-due_by : (s : State) (o : Option DueAction) → least_due s ≡ o → IsConsistent s → Folded s (or_still (step_of o s) s)
+due_by : (s : State) (o : Option DueAction) → least_due s ≡ o → IsConsistent s → Folded s (unwrap_or (step_of o s) (still s))
 due_by s None e h = (refl, (h.numbers.first_pid, h.ranges.processes, h.ranges.lives, h.ranges.codes))
 due_by s (Some d) e h = due_folds s d (least_finds s d h e) (fit_of s h)
 

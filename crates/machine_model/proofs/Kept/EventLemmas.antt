@@ -1,4 +1,5 @@
 -- An effect tells at most what it costs, where each end of an exec is paid by the process that is gone.
+use Rattle.std.specs.Option.{is_some}
 use Rattle.std.proofs.Common.{◌≡◌, ◌≢◌, ℕ, ◌+◌, ◌≤◌, ◌<◌, ◌==◌, Bool, true, false, not, List, [], ◌∷◌, ◌++◌, Option, Some, None, if◌then◌else◌, filter, map, length, refl, ap, sym, ◌∙◌, subst, arith}
 use Rattle.std.proofs.lemmas.List.{length-append, length-map, map-append}
 use Rattle.std.specs.List.{AllByRecursion}
@@ -7,7 +8,7 @@ use Rattle.proc_kernel.specs.Processes.{Process, feed, spawn as spawned}
 use Rattle.proc_kernel.specs.Tables.{Entry, process_of, effect_of}
 use Rattle.proc_kernel.specs.Tables as tables
 use Rattle.container_table.specs.Lists.{update_first}
-use Rattle.machine_model.specs.State.{State, container_numbered, exec_numbered, is_live, is_process, running_execs, execs_of, change_process, change_exec, drop_process}
+use Rattle.machine_model.specs.State.{State, container_numbered, exec_numbered, is_live, running_execs, execs_of, change_process, change_exec, drop_process}
 use Rattle.machine_model.specs.Chain.{Effect, each, after, still, with_found, tell, tell_of, and_then, change}
 use Rattle.machine_model.specs.EventTexts.{exec_die_event, mount_event}
 use Rattle.machine_model.specs.Consistency.{AreDistinct}
@@ -124,7 +125,7 @@ end_at code k s p (Some x) e =
 end_pays : (code k : ℕ) (s : State) (p : Process) → process_of (OfExec k) s.processes ≡ Some p → length (end_exec code k s).events + paid_for (end_exec code k s).state.processes ≤ paid_for s.processes
 end_pays code k s p e = end_at code k s p (exec_numbered k s) e
 
-live_some : (o : Option Process) → is_process o ≡ true → (p : Process) × (o ≡ Some p)
+live_some : (o : Option Process) → is_some o ≡ true → (p : Process) × (o ≡ Some p)
 live_some None e = absurd (cc)
 live_some (Some p) e = (p, refl)
 
@@ -137,7 +138,7 @@ ends_pay (x ∷ xs) s h live =
     let there = live_some (process_of (OfExec x.number) s.processes) live.0 in
     let first : length a.events + paid_for a.state.processes ≤ paid_for s.processes = end_pays 137 x.number s there.0 there.1 in
     let still_live = all_both (λ (y : Exec). x.number ≢ y.number) (λ y. is_live (OfExec y.number) s ≡ true) (λ y. is_live (OfExec y.number) a.state ≡ true)
-    (λ y other k. ap is_process ((touches_end 137 x.number s).processes y.number other) ∙ k) xs (all_of_mapped (λ n. x.number ≢ n) (λ (y : Exec). y.number) xs h.0) live.1 in
+    (λ y other k. ap is_some ((touches_end 137 x.number s).processes y.number other) ∙ k) xs (all_of_mapped (λ n. x.number ≢ n) (λ (y : Exec). y.number) xs h.0) live.1 in
     let rest : length b.events + paid_for b.state.processes ≤ paid_for a.state.processes = ends_pay xs a.state h.1 still_live in
     let both : length (a.events ++ b.events) ≡ length a.events + length b.events = length-append a.events b.events in
     omega (arith, first, rest, both)

@@ -1,13 +1,14 @@
 -- What is kept of the past: the logs of the last 64 removals, and the count and the last moments of the events.
+use Rattle.std.specs.Option.{unwrap_or}
 use Rattle.std.proofs.Common.{◌≡◌, ℕ, zero, suc, ◌+◌, ◌-◌, List, [], ◌∷◌, ◌++◌, Option, Some, None, map, drop, length, refl, ap, sym, ◌∙◌, subst, arith}
 use Rattle.std.proofs.lemmas.List.{drop-append-le, length-drop, length-append, length-map, map-append}
 use Rattle.container_table.specs.Lists.{last_of}
 use Rattle.machine_model.specs.State.{State}
-use Rattle.machine_model.specs.Chain.{Effect}
+use Rattle.machine_model.specs.Chain.{Effect, still}
 use Rattle.machine_model.specs.Call.{outcome_of}
 use Rattle.machine_model.specs.Due.{least_due, due_effect}
 use Rattle.machine_model.specs.Effects.Destroy.{logs_of}
-use Rattle.machine_model.specs.Step.{at_moment, step_of, or_still, step_effect}
+use Rattle.machine_model.specs.Step.{at_moment, step_of, step_effect}
 use Rattle.machine_model.specs.History.{Charter, opening_state, after_step, state_from, state_after, events_from, events_of}
 use Rattle.machine_model.proofs.ListLemmas.{append_nil, append_assoc}
 use Rattle.machine_model.proofs.ClosureLemmas.{IsClosed}
@@ -88,7 +89,7 @@ tie_closed = record {
   on_renamed = λ s c name found free h. h;
 }
 
-due_tie : (s : State) (o : Option DueAction) → IsTied s → IsTied (or_still (step_of o s) s).state
+due_tie : (s : State) (o : Option DueAction) → IsTied s → IsTied (unwrap_or (step_of o s) (still s)).state
 due_tie s None h = h
 due_tie s (Some d) h = runs_due tie_closed d (at_moment d.moment s) h
 
@@ -146,7 +147,7 @@ counted_more es more s e same h = (
   omega (arith, same.1, h.1, length-append es more),
 )
 
-due_counted : (es : List Event) (s : State) (o : Option DueAction) → IsCounted es s → IsCounted (es ++ (or_still (step_of o s) s).events) (or_still (step_of o s) s).state
+due_counted : (es : List Event) (s : State) (o : Option DueAction) → IsCounted es s → IsCounted (es ++ (unwrap_or (step_of o s) (still s)).events) (unwrap_or (step_of o s) (still s)).state
 due_counted es s None h = subst (λ l. IsCounted l s) (sym (append_nil es)) h
 due_counted es s (Some d) h =
     let e : Effect = due_effect d (at_moment d.moment s) in

@@ -1,11 +1,12 @@
 -- What the states behind every step say of processes, dues, logs and counts.
+use Rattle.std.specs.Option.{is_some}
 use Rattle.std.proofs.Common.{◌≡◌, ◌≢◌, ℕ, ◌+◌, ◌≤◌, ◌==◌, Bool, true, false, not, List, [], ◌∷◌, Option, Some, None, if◌then◌else◌, find, filter, map, length, refl, ap, sym, ◌∙◌, subst, arith}
 use Rattle.std.specs.List.{AllByRecursion}
 use Rattle.proc_kernel.specs.Processes.{Process, next_due, due_of}
 use Rattle.proc_kernel.specs.Tables.{Entry, process_of}
 use Rattle.proc_kernel.specs.Tables as tables
 use Rattle.proc_kernel.specs.Times.{IsNear, IsPaced}
-use Rattle.machine_model.specs.State.{State, container_numbered, exec_numbered, is_process}
+use Rattle.machine_model.specs.State.{State, container_numbered, exec_numbered}
 use Rattle.machine_model.specs.Consistency.{AreDistinct, is_there, IsFrozenLike, FollowsMain, HasOwner, HasExecPid, HasProcesses, IsWithinLimits, live_execs}
 use Rattle.machine_model.specs.History.{greatest_moment}
 use Rattle.machine_model.specs.Effects.Launch.{log_size}
@@ -35,7 +36,7 @@ use Rattle.engine_text.specs.declared.step.DueAction.{DueAction}
 
 -- ---- processes
 
-alike_by : (o : Option Life) (main : Option Process) (a b c : Bool) (q : Process) → is_process main ≡ true → IcyAs o q → OnBy Fine o main a b c → IsFrozenLike (Some q) main
+alike_by : (o : Option Life) (main : Option Process) (a b c : Bool) (q : Process) → is_some main ≡ true → IcyAs o q → OnBy Fine o main a b c → IsFrozenLike (Some q) main
 alike_by None main a b c q live icy h = absurd icy
 alike_by (Some l) None a b c q live icy h = absurd (cc)
 alike_by (Some l) (Some m) a b c q live icy h = icy ∙ sym h.0.frozen
@@ -46,7 +47,7 @@ follows_by s x (Some q) h mains =
     let v : Parts = parts_of x.container s in
     alike_by v.life v.main v.stop v.removal v.restart q h.2.0 h.2.1 (mains.1 x.container)
 
-pid_by : (s : State) (x : Exec) (p : Option Process) → ExecBy (λ k q. Watches (parts_of k s) q) (Some x) p → not (x.pid == 0) ≡ is_process p
+pid_by : (s : State) (x : Exec) (p : Option Process) → ExecBy (λ k q. Watches (parts_of k s) q) (Some x) p → not (x.pid == 0) ≡ is_some p
 pid_by s x None h = h
 pid_by s x (Some q) h = h.0
 
@@ -121,22 +122,22 @@ filter_same p q [] h = refl
 filter_same p q (x ∷ xs) h = filter_cons (p x) (q x) x (filter p xs) (filter q xs) h.0 (filter_same p q xs h.1)
 
 live_by : (o : Option Process) (x : Exec) (xs : List Exec) (es : List Entry) → process_of (OfExec x.number) es ≡ o → AllByRecursion (λ y. x.number ≢ y.number) xs
-    → ((fs : List Entry) → length (filter (λ y. is_process (process_of (OfExec y.number) fs)) xs) ≤ paid_for fs)
-    → length (if is_process o then x ∷ filter (λ y. is_process (process_of (OfExec y.number) es)) xs else filter (λ y. is_process (process_of (OfExec y.number) es)) xs) ≤ paid_for es
+    → ((fs : List Entry) → length (filter (λ y. is_some (process_of (OfExec y.number) fs)) xs) ≤ paid_for fs)
+    → length (if is_some o then x ∷ filter (λ y. is_some (process_of (OfExec y.number) es)) xs else filter (λ y. is_some (process_of (OfExec y.number) es)) xs) ≤ paid_for es
 live_by None x xs es e other more = more es
 live_by (Some p) x xs es e other more =
     let fs : List Entry = tables.without (OfExec x.number) es in
     let less : paid_for es ≡ 1 + paid_for fs = without_exec x.number p es e in
-    let rest : List Exec = filter (λ y. is_process (process_of (OfExec y.number) es)) xs in
-    let left : List Exec = filter (λ y. is_process (process_of (OfExec y.number) fs)) xs in
-    let same : length rest ≡ length left = filter_same (λ y. is_process (process_of (OfExec y.number) es)) (λ y. is_process (process_of (OfExec y.number) fs)) xs
-    (all_weaken (λ (y : Exec). x.number ≢ y.number) (λ y. is_process (process_of (OfExec y.number) es) ≡ is_process (process_of (OfExec y.number) fs))
-    (λ y differ. ap is_process (sym (gone_others (OfExec x.number) (OfExec y.number) es (is_not x.number y.number differ)))) xs other) in
+    let rest : List Exec = filter (λ y. is_some (process_of (OfExec y.number) es)) xs in
+    let left : List Exec = filter (λ y. is_some (process_of (OfExec y.number) fs)) xs in
+    let same : length rest ≡ length left = filter_same (λ y. is_some (process_of (OfExec y.number) es)) (λ y. is_some (process_of (OfExec y.number) fs)) xs
+    (all_weaken (λ (y : Exec). x.number ≢ y.number) (λ y. is_some (process_of (OfExec y.number) es) ≡ is_some (process_of (OfExec y.number) fs))
+    (λ y differ. ap is_some (sym (gone_others (OfExec x.number) (OfExec y.number) es (is_not x.number y.number differ)))) xs other) in
     let few : length left ≤ paid_for fs = more fs in
     let longer : length (x ∷ rest) ≡ 1 + length rest = omega arith in
     omega (arith, less, same, few, longer)
 
-live_least : (xs : List Exec) (es : List Entry) → AreDistinct (map (λ x. x.number) xs) → length (filter (λ y. is_process (process_of (OfExec y.number) es)) xs) ≤ paid_for es
+live_least : (xs : List Exec) (es : List Entry) → AreDistinct (map (λ x. x.number) xs) → length (filter (λ y. is_some (process_of (OfExec y.number) es)) xs) ≤ paid_for es
 live_least [] es h = omega arith
 live_least (x ∷ xs) es h =
     live_by (process_of (OfExec x.number) es) x xs es refl (all_of_mapped (λ n. x.number ≢ n) (λ (y : Exec). y.number) xs h.0) (λ fs. live_least xs fs h.1)

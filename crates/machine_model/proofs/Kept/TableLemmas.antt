@@ -1,12 +1,13 @@
 -- Names, volumes and tickets are kept by every step.
+use Rattle.std.specs.Option.{unwrap_or}
 use Rattle.std.proofs.Common.{◌^◌, ◌<◌, List, Option, Some, None}
 use Rattle.machine_model.specs.State.{State}
-use Rattle.machine_model.specs.Chain.{Effect, Died}
+use Rattle.machine_model.specs.Chain.{Effect, Died, still}
 use Rattle.machine_model.specs.Call.{outcome_of}
 use Rattle.machine_model.specs.Consistency.{HasVolumes}
 use Rattle.machine_model.specs.Due.{least_due, due_effect}
 use Rattle.machine_model.specs.Effects.Settle.{settle_tickets}
-use Rattle.machine_model.specs.Step.{at_moment, step_of, or_still}
+use Rattle.machine_model.specs.Step.{at_moment, step_of}
 use Rattle.machine_model.specs.History.{after_step}
 use Rattle.machine_model.proofs.SettleLemmas.{settle-tickets}
 use Rattle.machine_model.proofs.Kept.NameLemmas.{Names, names_closed}
@@ -18,7 +19,7 @@ use Rattle.machine_model.proofs.ClosureLemmas.{runs_call, runs_due}
 
 -- ---- names
 
-due_names : (s : State) (o : Option DueAction) → (or_still (step_of o s) s).state.next_number < 2 ^ 64 → Names s → Names (or_still (step_of o s) s).state
+due_names : (s : State) (o : Option DueAction) → (unwrap_or (step_of o s) (still s)).state.next_number < 2 ^ 64 → Names s → Names (unwrap_or (step_of o s) (still s)).state
 due_names s None most h = h
 due_names s (Some d) most h = (runs_due names_closed d (at_moment d.moment s)).1 most h
 
@@ -31,7 +32,7 @@ names_step s (Step.Call connection moment c) most h = (runs_call names_closed c 
 abbrev pub Volumes : State → Type 0
 Volumes s = VolumesOf s.containers s.volumes s.uses s.next_number
 
-due_volumes : (s : State) (o : Option DueAction) → Volumes s → Volumes (or_still (step_of o s) s).state
+due_volumes : (s : State) (o : Option DueAction) → Volumes s → Volumes (unwrap_or (step_of o s) (still s)).state
 due_volumes s None h = h
 due_volumes s (Some d) h = runs_due volumes_closed d (at_moment d.moment s) h
 
@@ -50,7 +51,7 @@ Tickets s = TicketsOf s.containers s.tickets s.next_ticket
 settled : (s : State) (died : List Died) → Tickets s → Tickets (settle_tickets died s)
 settled s died h = tickets_of (settle_tickets died s) (settle-tickets s died (has_tickets s h))
 
-due_tickets : (s : State) (o : Option DueAction) → Tickets s → Tickets (or_still (step_of o s) s).state
+due_tickets : (s : State) (o : Option DueAction) → Tickets s → Tickets (unwrap_or (step_of o s) (still s)).state
 due_tickets s None h = h
 due_tickets s (Some d) h =
     let e : Effect = due_effect d (at_moment d.moment s) in

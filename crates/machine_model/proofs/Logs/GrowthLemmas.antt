@@ -1,5 +1,6 @@
 -- An owner's log is begun once and grows while its owner stands: the relation, and what changes of containers and outputs keep of it.
 use Rattle.std.specs.Prelude.{is_some, option_map}
+use Rattle.std.specs.Option.{option_or}
 use Rattle.std.proofs.Common.{◌≡◌, ℕ, ◌+◌, ◌≤◌, ◌<◌, ◌==◌, Bool, true, false, List, [], ◌∷◌, ◌++◌, Option, Some, None, find, map, if◌then◌else◌, refl, ap, sym, ◌∙◌, subst, arith, ◌⊎◌, inl, inr}
 use Rattle.std.proofs.lemmas.Bool.{eqb-true}
 use Rattle.std.specs.List.{AllByRecursion, flat_map}
@@ -8,7 +9,7 @@ use Rattle.engine_text.specs.Owner.{same_owner}
 use Rattle.machine_model.specs.State.{State, owner_number, container_numbered}
 use Rattle.machine_model.specs.Chain.{Effect}
 use Rattle.machine_model.specs.Consistency.{AreDistinct}
-use Rattle.machine_model.specs.LogStream.{log_among, kept_log, standing_log, or_else, log_found}
+use Rattle.machine_model.specs.LogStream.{log_among, kept_log, standing_log, log_found}
 use Rattle.machine_model.proofs.ListLemmas.{append_nil, append_assoc}
 use Rattle.machine_model.proofs.Fold.RowLemmas.{made}
 use Rattle.machine_model.proofs.ChangeLemmas.{map_updated, all_updated}
@@ -81,24 +82,24 @@ later_then low more (Some l) (Some m) None born less first second = tt
 later_then low more (Some l) (Some m) (Some n) born less first second =
     (first.0 ++ second.0, second.1 ∙ (ap (λ xs. xs ++ second.0) first.1 ∙ append_assoc l first.0 second.0))
 
-among_by : (b : Bool) (x : OwnedLog) (r t : Option OwnedLog) (u : Option (List LogRecord)) → option_map (λ (l : OwnedLog). l.log) t ≡ or_else (option_map (λ (l : OwnedLog). l.log) r) u → option_map (λ (l : OwnedLog). l.log) (if b then Some x else t) ≡ or_else (option_map (λ (l : OwnedLog). l.log) (if b then Some x else r)) u
+among_by : (b : Bool) (x : OwnedLog) (r t : Option OwnedLog) (u : Option (List LogRecord)) → option_map (λ (l : OwnedLog). l.log) t ≡ option_or (option_map (λ (l : OwnedLog). l.log) r) u → option_map (λ (l : OwnedLog). l.log) (if b then Some x else t) ≡ option_or (option_map (λ (l : OwnedLog). l.log) (if b then Some x else r)) u
 among_by true x r t u e = refl
 among_by false x r t u e = e
 
-pub among_append : (o : Owner) (a b : List OwnedLog) → log_among o (a ++ b) ≡ or_else (log_among o a) (log_among o b)
+pub among_append : (o : Owner) (a b : List OwnedLog) → log_among o (a ++ b) ≡ option_or (log_among o a) (log_among o b)
 among_append o [] b = refl
 among_append o (x ∷ a) b = among_by (same_owner x.owner o) x (find (λ l. same_owner l.owner o) a) (find (λ l. same_owner l.owner o) (a ++ b)) (log_among o b) (among_append o a b)
 
 pub no_logs : (o : Owner) (ks : List KeptLogs) → AllByRecursion (Lacks o) ks → among o ks ≡ None
 no_logs o [] h = refl
 no_logs o (k ∷ ks) h =
-    among_append o k.logs (flat_map (λ k. k.logs) ks) ∙ (ap (λ x. or_else x (among o ks)) h.0 ∙ no_logs o ks h.1)
+    among_append o k.logs (flat_map (λ k. k.logs) ks) ∙ (ap (λ x. option_or x (among o ks)) h.0 ∙ no_logs o ks h.1)
 
 -- a log is of an owner whose number is given
-log_born : (o : Owner) (standing : Option (List LogRecord)) (ks : List KeptLogs) (next : ℕ) → Owns o standing ks next → is_some (or_else standing (among o ks)) ≡ true → next ≤ owner_number o → ⊥
+log_born : (o : Owner) (standing : Option (List LogRecord)) (ks : List KeptLogs) (next : ℕ) → Owns o standing ks next → is_some (option_or standing (among o ks)) ≡ true → next ≤ owner_number o → ⊥
 log_born o standing ks next owns is low =
     let none = owns.0 low in
-    let gone : or_else standing (among o ks) ≡ None = ap (λ x. or_else x (among o ks)) none.0 ∙ no_logs o ks none.1 in
+    let gone : option_or standing (among o ks) ≡ None = ap (λ x. option_or x (among o ks)) none.0 ∙ no_logs o ks none.1 in
     let never : false ≡ true = sym (ap is_some gone) ∙ is in
     absurd (cc)
 
@@ -121,7 +122,7 @@ owns_grew o None (Some m) ks next grew h = absurd grew
 owns_grew o (Some l) None ks next grew h = absurd grew
 owns_grew o (Some l) (Some m) ks next grew h = (λ low. absurd (cc ((h.0 low).0)), λ is. h.1 refl, h.2)
 
-later_grew : (low : Type 0) (x y z : Option (List LogRecord)) → Grew x y → Later low (or_else x z) (or_else y z)
+later_grew : (low : Type 0) (x y z : Option (List LogRecord)) → Grew x y → Later low (option_or x z) (option_or y z)
 later_grew low None None z grew = later_refl low z
 later_grew low None (Some m) z grew = absurd grew
 later_grew low (Some l) None z grew = absurd grew
@@ -221,12 +222,12 @@ owns_begun o x y ks next (inl e) h =
 owns_begun o x y ks next (inr e) h = (λ low. absurd (omega (arith, low, e.1)), λ is. (h.0 e.0).1, h.2)
 
 pub later_begun : (o : Owner) (x y z : Option (List LogRecord)) (ks : List KeptLogs) (next : ℕ) → Begins o next x y → Owns o x ks next → z ≡ among o ks
-    → Later (next ≤ owner_number o) (or_else x z) (or_else y z)
-later_begun o x y z ks next (inl e) h is = subst (λ w. Later (next ≤ owner_number o) (or_else x z) (or_else w z)) (sym e) (later_refl (next ≤ owner_number o) (or_else x z))
+    → Later (next ≤ owner_number o) (option_or x z) (option_or y z)
+later_begun o x y z ks next (inl e) h is = subst (λ w. Later (next ≤ owner_number o) (option_or x z) (option_or w z)) (sym e) (later_refl (next ≤ owner_number o) (option_or x z))
 later_begun o x y z ks next (inr e) h is =
     let none = h.0 e.0 in
-    let gone : or_else x z ≡ None = ap (λ w. or_else w z) none.0 ∙ (is ∙ no_logs o ks none.1) in
-    subst (λ w. Later (next ≤ owner_number o) w (or_else y z)) (sym gone) (from_none (or_else y z) e.0)
+    let gone : option_or x z ≡ None = ap (λ w. option_or w z) none.0 ∙ (is ∙ no_logs o ks none.1) in
+    subst (λ w. Later (next ≤ owner_number o) w (option_or y z)) (sym gone) (from_none (option_or y z) e.0)
   where
     from_none : (w : Option (List LogRecord)) → next ≤ owner_number o → Later (next ≤ owner_number o) None w
     from_none None low = tt

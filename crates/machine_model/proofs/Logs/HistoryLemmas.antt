@@ -1,16 +1,17 @@
 -- Logs only grow along every history, while they are kept.
 use Rattle.std.specs.Prelude.{is_some, unwrap_or, option_map}
+use Rattle.std.specs.Option.{option_or}
 use Rattle.std.proofs.Common.{◌≡◌, ℕ, ◌+◌, ◌≤◌, ◌<◌, ◌==◌, true, List, [], ◌∷◌, ◌++◌, Option, Some, None, find, map, refl, ap, sym, ◌∙◌, subst, arith}
 use Rattle.std.specs.List.{AllByRecursion}
 use Rattle.machine_model.specs.State.{State, owner_number, change_process, drop_process, change_exec, initial_state}
-use Rattle.machine_model.specs.Chain.{Effect}
+use Rattle.machine_model.specs.Chain.{Effect, still}
 use Rattle.machine_model.specs.Call.{outcome_of}
 use Rattle.machine_model.specs.Due.{least_due, due_effect, time_out}
-use Rattle.machine_model.specs.Step.{at_moment, finished, step_of, or_still}
+use Rattle.machine_model.specs.Step.{at_moment, finished, step_of}
 use Rattle.machine_model.specs.History.{Charter, opening_state, after_step, state_from, state_after}
 use Rattle.machine_model.specs.Consistency.{AreDistinct}
 use Rattle.machine_model.specs.Effects.Meet.{logged, record_of}
-use Rattle.machine_model.specs.LogStream.{log_among, kept_log, standing_log, or_else, log_found}
+use Rattle.machine_model.specs.LogStream.{log_among, kept_log, standing_log, log_found}
 use Rattle.machine_model.specs.Laws.{LogGrowsLaw}
 use Rattle.machine_model.specs.Effects.Launch.{spawn}
 use Rattle.machine_model.specs.Tickets.{begun}
@@ -52,8 +53,8 @@ quiet o s t cs os ks n h =
     let c : LogsOf o (standing_log o t) t.kept t.next_number s.containers = subst (λ y. LogsOf o (standing_log o t) t.kept y s.containers) (sym n) b in
     let d : LogsOf o (standing_log o t) t.kept t.next_number t.containers = subst (λ y. LogsOf o (standing_log o t) t.kept t.next_number y) (sym cs) c in
     let low : Type 0 = s.next_number ≤ owner_number o in
-    let e : Later low (log_found o s) (or_else (standing_log o t) (among o s.kept)) = subst (λ y. Later low (log_found o s) (or_else y (among o s.kept))) (sym x) (later_refl low (log_found o s)) in
-    (d, omega (arith, n), subst (λ y. Later low (log_found o s) (or_else (standing_log o t) (among o y))) (sym ks) e)
+    let e : Later low (log_found o s) (option_or (standing_log o t) (among o s.kept)) = subst (λ y. Later low (log_found o s) (option_or y (among o s.kept))) (sym x) (later_refl low (log_found o s)) in
+    (d, omega (arith, n), subst (λ y. Later low (log_found o s) (option_or (standing_log o t) (among o y))) (sym ks) e)
 
 pub logs_closed : (o : Owner) → IsClosed (Grows o)
 logs_closed o = record {
@@ -111,7 +112,7 @@ from_moment o s t e one calls =
     (quiet o s (at_moment t s) refl refl refl refl)
     (grows_after o (at_moment t s) e (record { state = (finished calls e).state; events = []; died = [] }) one (quiet o e.state (finished calls e).state refl refl refl refl))
 
-due_grows : (o : Owner) (s : State) (d : Option DueAction) → Grows o s (record { state = (or_still (step_of d s) s).state; events = []; died = [] })
+due_grows : (o : Owner) (s : State) (d : Option DueAction) → Grows o s (record { state = (unwrap_or (step_of d s) (still s)).state; events = []; died = [] })
 due_grows o s None h = quiet o s s refl refl refl refl h
 due_grows o s (Some d) h = from_moment o s d.moment (due_effect d (at_moment d.moment s)) (runs_due (logs_closed o) d (at_moment d.moment s)) 0 h
 

@@ -1,5 +1,6 @@
 -- A removal keeps the logs of the container and of its execs as they are, and those of all others.
 use Rattle.std.specs.Prelude.{is_some, option_map}
+use Rattle.std.specs.Option.{option_or}
 use Rattle.std.proofs.Common.{◌≡◌, ℕ, zero, suc, ◌-◌, ◌≤◌, ◌<◌, ◌==◌, Bool, true, false, not, List, [], ◌∷◌, ◌++◌, Option, Some, None, find, filter, map, drop, length, if◌then◌else◌, refl, ap, sym, ◌∙◌, subst, arith, ◌⊎◌, inl, inr}
 use Rattle.std.proofs.lemmas.Bool.{eqb-true, eq-eqb}
 use Rattle.std.specs.List.{AllByRecursion, flat_map, list_any}
@@ -8,7 +9,7 @@ use Rattle.engine_text.specs.Owner.{same_owner}
 use Rattle.machine_model.specs.State.{State, owner_number, container_numbered, execs_of}
 use Rattle.machine_model.specs.Consistency.{AreDistinct}
 use Rattle.machine_model.specs.Effects.Destroy.{is_exec_of, logs_of, without}
-use Rattle.machine_model.specs.LogStream.{log_among, standing_log, or_else, log_found}
+use Rattle.machine_model.specs.LogStream.{log_among, standing_log, log_found}
 use Rattle.machine_model.proofs.ListLemmas.{append_nil, all_append, append_assoc}
 use Rattle.machine_model.proofs.ChangeLemmas.{all_removed, distinct_removed}
 use Rattle.machine_model.proofs.OwnerLemmas.{owner_is}
@@ -65,18 +66,18 @@ among_drop o (suc j) (k ∷ ks) once = dropped (among_drop o j ks once.1) once.0
     dropped : (among o (drop j ks) ≡ None) ⊎ (among o (drop j ks) ≡ among o ks) → (log_among o k.logs ≡ None) ⊎ AllByRecursion (Lacks o) ks
         → (among o (drop j ks) ≡ None) ⊎ (among o (drop j ks) ≡ among o (k ∷ ks))
     dropped (inl e) h = inl e
-    dropped (inr e) (inl none) = inr (e ∙ sym (among_append o k.logs (flat_map (λ k. k.logs) ks) ∙ ap (λ x. or_else x (among o ks)) none))
+    dropped (inr e) (inl none) = inr (e ∙ sym (among_append o k.logs (flat_map (λ k. k.logs) ks) ∙ ap (λ x. option_or x (among o ks)) none))
     dropped (inr e) (inr all) = inl (e ∙ no_logs o ks all)
 
 flat_append : (ks : List KeptLogs) (k : KeptLogs) → flat_map (λ k. k.logs) (ks ++ k ∷ []) ≡ flat_map (λ k. k.logs) ks ++ k.logs
 flat_append [] k = append_nil k.logs
 flat_append (x ∷ ks) k = ap (λ l. x.logs ++ l) (flat_append ks k) ∙ sym (append_assoc x.logs (flat_map (λ k. k.logs) ks) k.logs)
 
-or_none : (x : Option (List LogRecord)) → or_else x None ≡ x
+or_none : (x : Option (List LogRecord)) → option_or x None ≡ x
 or_none None = refl
 or_none (Some l) = refl
 
-among_more : (o : Owner) (ks : List KeptLogs) (k : KeptLogs) → among o (ks ++ k ∷ []) ≡ or_else (among o ks) (log_among o k.logs)
+among_more : (o : Owner) (ks : List KeptLogs) (k : KeptLogs) → among o (ks ++ k ∷ []) ≡ option_or (among o ks) (log_among o k.logs)
 among_more o ks k = ap (log_among o) (flat_append ks k) ∙ among_append o (flat_map (λ k. k.logs) ks) k.logs
 
 has_by : (x : Option (List LogRecord)) → (x ≡ None) ⊎ (is_some x ≡ true)
@@ -109,7 +110,7 @@ later_or_none low x y (inr e) = subst (Later low x) (sym e) (later_refl low x)
 
 -- the same log, or none
 found_moved : (o : Owner) (x y : Option (List LogRecord)) (ks : List KeptLogs) (k : KeptLogs) (next j : ℕ) → Moves x y (log_among o k.logs) → Owns o x ks next
-    → (or_else y (among o (drop j (ks ++ k ∷ []))) ≡ None) ⊎ (or_else y (among o (drop j (ks ++ k ∷ []))) ≡ or_else x (among o ks))
+    → (option_or y (among o (drop j (ks ++ k ∷ []))) ≡ None) ⊎ (option_or y (among o (drop j (ks ++ k ∷ []))) ≡ option_or x (among o ks))
 found_moved o x y ks k next j moves h =
     by_drop moves (has_by x) (among_drop o j (ks ++ k ∷ []) (once_more o ks k h.2 (of_it moves (has_by x))))
   where
@@ -119,24 +120,24 @@ found_moved o x y ks k next j moves h =
     of_it (inl e) (inr is) = inl (h.1 is)
 
     -- all that is kept afterwards, before anything is dropped
-    whole : Moves x y (log_among o k.logs) → (x ≡ None) ⊎ (is_some x ≡ true) → or_else y (among o (ks ++ k ∷ [])) ≡ or_else x (among o ks)
-    whole (inr e) has = ap (λ w. or_else w (among o (ks ++ k ∷ []))) e.0 ∙ ap (or_else x) (among_more o ks k ∙ (ap (or_else (among o ks)) e.1 ∙ or_none (among o ks)))
+    whole : Moves x y (log_among o k.logs) → (x ≡ None) ⊎ (is_some x ≡ true) → option_or y (among o (ks ++ k ∷ [])) ≡ option_or x (among o ks)
+    whole (inr e) has = ap (λ w. option_or w (among o (ks ++ k ∷ []))) e.0 ∙ ap (option_or x) (among_more o ks k ∙ (ap (option_or (among o ks)) e.1 ∙ or_none (among o ks)))
     whole (inl e) (inl none) =
-        ap (λ w. or_else w (among o (ks ++ k ∷ []))) (e.0 ∙ sym none) ∙ ap (or_else x) (among_more o ks k ∙ (ap (or_else (among o ks)) (e.1 ∙ none) ∙ or_none (among o ks)))
+        ap (λ w. option_or w (among o (ks ++ k ∷ []))) (e.0 ∙ sym none) ∙ ap (option_or x) (among_more o ks k ∙ (ap (option_or (among o ks)) (e.1 ∙ none) ∙ or_none (among o ks)))
     whole (inl e) (inr is) =
         let lack : among o ks ≡ None = no_logs o ks (h.1 is) in
-        ap (λ w. or_else w (among o (ks ++ k ∷ []))) e.0 ∙ (among_more o ks k ∙ (ap (λ w. or_else w (log_among o k.logs)) lack ∙ (e.1 ∙ (sym (or_none x) ∙ ap (or_else x) (sym lack)))))
+        ap (λ w. option_or w (among o (ks ++ k ∷ []))) e.0 ∙ (among_more o ks k ∙ (ap (λ w. option_or w (log_among o k.logs)) lack ∙ (e.1 ∙ (sym (or_none x) ∙ ap (option_or x) (sym lack)))))
 
     stays : Moves x y (log_among o k.logs) → (x ≡ None) ⊎ (is_some x ≡ true) → among o (drop j (ks ++ k ∷ [])) ≡ None
-        → (or_else y (among o (drop j (ks ++ k ∷ []))) ≡ None) ⊎ (or_else y (among o (drop j (ks ++ k ∷ []))) ≡ or_else x (among o ks))
-    stays (inl e) has gone = inl (ap (or_else y) gone ∙ (or_none y ∙ e.0))
-    stays (inr e) (inl none) gone = inl (ap (or_else y) gone ∙ (or_none y ∙ (e.0 ∙ none)))
-    stays (inr e) (inr is) gone = inr (ap (or_else y) gone ∙ (or_none y ∙ (e.0 ∙ (sym (or_none x) ∙ ap (or_else x) (sym (no_logs o ks (h.1 is)))))))
+        → (option_or y (among o (drop j (ks ++ k ∷ []))) ≡ None) ⊎ (option_or y (among o (drop j (ks ++ k ∷ []))) ≡ option_or x (among o ks))
+    stays (inl e) has gone = inl (ap (option_or y) gone ∙ (or_none y ∙ e.0))
+    stays (inr e) (inl none) gone = inl (ap (option_or y) gone ∙ (or_none y ∙ (e.0 ∙ none)))
+    stays (inr e) (inr is) gone = inr (ap (option_or y) gone ∙ (or_none y ∙ (e.0 ∙ (sym (or_none x) ∙ ap (option_or x) (sym (no_logs o ks (h.1 is)))))))
 
     by_drop : Moves x y (log_among o k.logs) → (x ≡ None) ⊎ (is_some x ≡ true) → (among o (drop j (ks ++ k ∷ [])) ≡ None) ⊎ (among o (drop j (ks ++ k ∷ [])) ≡ among o (ks ++ k ∷ []))
-        → (or_else y (among o (drop j (ks ++ k ∷ []))) ≡ None) ⊎ (or_else y (among o (drop j (ks ++ k ∷ []))) ≡ or_else x (among o ks))
+        → (option_or y (among o (drop j (ks ++ k ∷ []))) ≡ None) ⊎ (option_or y (among o (drop j (ks ++ k ∷ []))) ≡ option_or x (among o ks))
     by_drop moves has (inl gone) = stays moves has gone
-    by_drop moves has (inr same) = inr (ap (or_else y) same ∙ whole moves has)
+    by_drop moves has (inr same) = inr (ap (option_or y) same ∙ whole moves has)
 
 -- ---- the removal of a container
 
