@@ -1,0 +1,10 @@
+pub mod ListLemmas
+pub mod NumberLemmas
+pub mod MatchLemmas
+pub mod FormLemmas
+pub mod StatusLemmas
+pub mod ChunkLemmas
+pub mod CarryLemmas
+pub mod StepLemmas
+pub mod FamilyLemmas
+pub mod AnswerLemmas

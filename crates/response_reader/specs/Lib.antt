@@ -1,0 +1,9 @@
+pub mod Fronts
+pub mod Heads
+pub mod Bodies
+pub mod Answers
+pub mod Held
+pub mod Reader
+pub mod Numbers
+pub mod Matching
+pub mod Steps

@@ -1,0 +1,17 @@
+//! Responses read by a client: a head, and then its body in pieces.
+#![tactic(auto)]
+
+mod chunks;
+mod framing;
+mod front;
+mod got;
+mod heads;
+mod numbers;
+mod pieces;
+mod reader;
+#[cfg(test)]
+mod tests;
+
+pub use framing::Left;
+pub use got::{Answered, BodyGot, Stage, Stopped};
+pub use reader::ResponseReader;
