@@ -1,0 +1,43 @@
+-- `replay [--seed HEX] MOMENT` (own: the verdict on the journal that standard input gives, of a daemon opened so).
+use Rattle.std.specs.Prelude.{ℕ, List, [], ◌∷◌, ◌++◌, codes, decimal, Option, option_map, option_and_then}
+use Rattle.std.specs.Option.{option_flatten}
+use Rattle.engine_line.specs.Lines.{seed_of, moment_in}
+use Rattle.engine_text.specs.declared.pairs.Pair.{Pair}
+use Rattle.machine_model.specs.History.{Charter}
+use Rattle.history_replay.specs.declared.verdict.Verdict.{Verdict}
+use Rattle.history_replay.specs.declared.verdict.Verdict.TheVariants.{Legal, Illegal, BadLine}
+use Rattle.client_model.specs.Words.{Options, behind_options, one_word, value_of}
+use Rattle.client_model.specs.Plans.{Plan, Judges, prints, ends}
+use Rattle.client_model.specs.declared.words.Kind.TheVariants.{Valued}
+use Rattle.client_model.specs.declared.command.Command.{Command}
+use Rattle.client_model.specs.declared.command.Command.TheVariants as command
+
+abbrev pub replay_options : Options
+replay_options = (codes "--seed", Valued) ∷ []
+
+-- HEX and MOMENT as `--seed` and `--clock` of the daemon have them
+abbrev pub replay_of : List Pair → List ℕ → Option Command
+replay_of given word =
+    option_and_then (λ seed. option_map (command.Replay seed) (moment_in word)) (seed_of (value_of (codes "--seed") given))
+
+abbrev pub replay_in : List Pair → List (List ℕ) → Option Command
+replay_in given words = option_flatten (one_word (replay_of given) words)
+
+abbrev pub read_replay : List (List ℕ) → Option Command
+read_replay = behind_options replay_options replay_in
+
+-- the daemon whose journal it is; how many entries it may have isn't asked
+abbrev pub opened : List ℕ → ℕ → Charter
+opened seed moment = record { seed = seed; opening = moment; greatest = 0 }
+
+abbrev pub verdict_plan : Verdict → Plan
+verdict_plan (Legal steps) = prints (codes "legal " ++ decimal steps) (ends 0)
+verdict_plan (Illegal line kept found) =
+    prints (codes "illegal line " ++ decimal line) (
+    prints (codes "kept " ++ kept) (
+    prints (codes "found " ++ found) (ends 1)))
+verdict_plan (BadLine line) = prints (codes "bad line " ++ decimal line) (ends 3)
+
+-- it reads standard input to its end, and prints the verdict
+abbrev pub replay_plan : List ℕ → ℕ → Plan
+replay_plan seed moment = Judges (opened seed moment) verdict_plan

@@ -1,0 +1,103 @@
+-- What a command does, step by step: what it writes, what it asks, and how it goes on by the answer (own).
+use Rattle.std.specs.Prelude.{ℕ, nat_lt, List, [], ◌∷◌, ◌++◌, Bool, false, Option, Some, None, codes, if◌then◌else◌}
+use Rattle.std.specs.Option.{option_map_or}
+use Rattle.http_edge.specs.Message.{Request}
+use Rattle.http_edge.specs.declared.head.Head.{Head}
+use Rattle.machine_model.specs.History.{Charter}
+use Rattle.history_replay.specs.declared.verdict.Verdict.{Verdict}
+use Rattle.response_reader.specs.Answers.{Answer, NoHead, Answered}
+use Rattle.client_model.specs.Bodies.{message_in}
+use Rattle.client_model.specs.declared.fault.Fault.{Fault}
+use Rattle.client_model.specs.declared.fault.Fault.TheVariants as F
+
+-- what is written to standard output and to standard error
+pub record Written : Type 0 where
+  pub out : List ℕ
+  pub err : List ℕ
+
+-- a request, and whether standard input follows it
+pub record Asked : Type 0 where
+  pub request : Request
+  pub input : Bool
+
+-- how a command ends: with a status, or by a fault
+pub data Ending : Type 0 where
+  Done : ℕ → Ending
+  Fails : Fault → Ending
+
+-- it writes this, and ends; or it writes this, asks, and goes on by the answer; or it reads standard input to its end,
+-- and goes on by the verdict on that journal of a daemon opened so
+pub data Plan : Type 0 where
+  Ends : Written → Ending → Plan
+  Asks : Written → Asked → (Answer → Plan) → Plan
+  Judges : Charter → (Verdict → Plan) → Plan
+
+-- ---- writing
+
+abbrev pub nothing : Written
+nothing = record { out = []; err = [] }
+
+-- to standard output alone
+abbrev pub to_out : List ℕ → Written
+to_out text = record { out = text; err = [] }
+
+-- this and then that
+abbrev pub joined : Written → Written → Written
+joined w v = record { out = w.out ++ v.out; err = w.err ++ v.err }
+
+-- it writes this first
+abbrev pub writes : Written → Plan → Plan
+writes w (Ends v ending) = Ends (joined w v) ending
+writes w (Asks v asked next) = Asks (joined w v) asked next
+writes w (Judges charter next) = Judges charter (λ verdict. writes w (next verdict))
+
+-- it prints a line, or each of some lines
+abbrev pub prints : List ℕ → Plan → Plan
+prints line plan = writes (to_out (line ++ codes "\n")) plan
+
+abbrev pub prints_all : List (List ℕ) → Plan → Plan
+prints_all [] plan = plan
+prints_all (line ∷ lines) plan = prints line (prints_all lines plan)
+
+-- ---- ending
+
+abbrev pub ends : ℕ → Plan
+ends status = Ends nothing (Done status)
+
+abbrev pub done : Plan
+done = ends 0
+
+abbrev pub fails : Fault → Plan
+fails fault = Ends nothing (Fails fault)
+
+-- it goes on by what was read; where nothing could be, the answer isn't one of this API's
+abbrev pub goes_on : {A : Type 0} → (A → Plan) → Option A → Plan
+goes_on next read = option_map_or next read (fails F.Answer)
+
+-- ---- asking
+
+-- what is read where the body came whole
+abbrev pub if_whole : {A : Type 0} → Bool → Option A → Option A
+if_whole whole read = if whole then read else None
+
+-- An answer without a head isn't one of this API's. One with a status of 400 or more refuses, by a body that tells a
+-- message. By another it goes on.
+abbrev pub by_answer : (Head → List ℕ → Bool → Plan) → Answer → Plan
+by_answer next NoHead = fails F.Answer
+by_answer next (Answered h body whole) =
+    if nat_lt h.status 400 then next h body whole
+    else goes_on (λ message. fails (F.Refused message)) (if_whole whole (message_in body))
+
+-- it asks, and goes on by what is read of the answer's body
+abbrev pub asks : {A : Type 0} → Request → (List ℕ → Option A) → (A → Plan) → Plan
+asks request read next =
+    Asks nothing (record { request = request; input = false })
+    (by_answer (λ h body whole. goes_on next (if_whole whole (read body))))
+
+-- it asks, and prints this
+abbrev pub asks_and_prints : Request → List ℕ → Plan
+asks_and_prints request line = asks request Some (λ body. prints line done)
+
+-- it asks, and prints the body
+abbrev pub asks_and_shows : Request → Plan
+asks_and_shows request = asks request Some (λ body. prints body done)

@@ -1,0 +1,85 @@
+-- What a command writes of a stream, as it comes (Docker Engine API v1.43, ContainerAttach, "Stream format"; SystemEvents).
+use Rattle.std.specs.Prelude.{ℕ, ◌==◌, ◌&&◌, List, [], ◌∷◌, ◌++◌, Bool, true, false, Option, Some, None, option_map, codes, nat_le, Ok, Err, if◌then◌else◌}
+use Rattle.std.specs.List.{slice_split}
+use Rattle.http_edge.specs.Message.{Request}
+use Rattle.json_laws.specs.Text.{data_of}
+use Rattle.engine_text.specs.Texts.{same_bytes}
+use Rattle.engine_text.specs.declared.event.Event.{Event}
+use Rattle.engine_text.specs.declared.script.Stream.TheVariants.{Stdout, Stderr}
+use Rattle.stream_frame.specs.Frames.{Part, payload_of}
+use Rattle.stream_frame.specs.Demuxing.{Rest, Header, Held, Item}
+use Rattle.stream_frame.specs.Steps.{items_of, held_after}
+use Rattle.api_json.specs.Event.{event_of, event_line_text, if_there}
+use Rattle.api_json.specs.EventRules.{attributes_fit}
+use Rattle.machine_model.specs.History.{greatest_moment}
+use Rattle.client_model.specs.Plans.{Plan, Asks, Written, nothing, to_out, writes, fails, by_answer}
+use Rattle.client_model.specs.declared.fault.Fault.TheVariants as F
+
+-- it asks, and writes what the body shows as far as it came; standard input may follow the request; it goes on behind
+-- a body that came whole and ends where it may
+abbrev pub streams : (List ℕ → Written) → (List ℕ → Bool) → Request → Bool → Plan → Plan
+streams shows may_end request input next =
+    Asks nothing (record { request = request; input = input })
+    (by_answer (λ h body whole. writes (shows body) (if whole && may_end body then next else fails F.Answer)))
+
+-- ---- frames
+
+-- the start of a stream of frames
+abbrev pub unread : Held
+unread = record { rest = Header []; at = 0 }
+
+-- the payloads that items are
+abbrev pub parts_of : List Item → List Part
+parts_of [] = []
+parts_of (Ok part ∷ items) = part ∷ parts_of items
+parts_of (Err fault ∷ items) = parts_of items
+
+-- stream 1 goes to standard output, 2 to standard error
+abbrev pub payloads_of : List ℕ → Written
+payloads_of body =
+    let parts = parts_of (items_of unread body) in
+    record { out = payload_of Stdout parts; err = payload_of Stderr parts }
+
+-- nothing of a frame is behind the last whole one
+abbrev pub is_border : Rest → Bool
+is_border (Header []) = true
+is_border rest = false
+
+abbrev pub ends_frames : List ℕ → Bool
+ends_frames body = is_border (held_after unread body).rest
+
+-- it asks, writes the payloads of the answer's frames, and goes on behind them
+abbrev pub follows : Request → Bool → Plan → Plan
+follows = streams payloads_of ends_frames
+
+-- ---- texts
+
+-- a text may end anywhere
+abbrev pub ends_text : List ℕ → Bool
+ends_text body = true
+
+-- it asks, and writes the answer's body
+abbrev pub copies : Request → Plan → Plan
+copies request next = streams to_out ends_text request false next
+
+-- ---- events
+
+-- an event that has this line
+abbrev pub if_line : List ℕ → Event → Option Event
+if_line line e =
+    if nat_le e.moment greatest_moment && attributes_fit e.kind e.action e.attributes
+    && same_bytes (event_line_text e) (line ++ codes "\n")
+    then Some e else None
+
+abbrev pub event_in : List ℕ → Option Event
+event_in line = if_there (if_there (data_of line) event_of) (if_line line)
+
+-- the events of the pieces between line ends; behind the last line end stands nothing
+abbrev pub events_of_lines : List (List ℕ) → Option (List Event)
+events_of_lines [] = None
+events_of_lines ([] ∷ []) = Some []
+events_of_lines (line ∷ lines) = if_there (event_in line) (λ e. option_map (λ es. e ∷ es) (events_of_lines lines))
+
+-- the events of a text of lines
+abbrev pub events_in : List ℕ → Option (List Event)
+events_in body = events_of_lines (slice_split (λ b. b == 10) body)

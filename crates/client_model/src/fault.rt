@@ -1,0 +1,29 @@
+// What ends a command before its end.
+use engine_text::Text;
+
+/// What ends a command before its end.
+#[derive(Drop)]
+pub enum Fault {
+    /// The words are no line of the table.
+    Words,
+    /// Standard input couldn't be read.
+    Input,
+    /// Standard output couldn't be written.
+    Output,
+    /// Standard error couldn't be written.
+    Errors,
+    /// An answer isn't one of this API's.
+    Answer,
+    /// An exec shows no exit code.
+    NoCode,
+    /// The first events are kept no more.
+    EventsGone,
+    /// Memory was refused.
+    NoMemory,
+    /// The daemon refused a request, with this message.
+    Refused { message: Text },
+    /// No connection could be made.
+    Link,
+    /// A connection failed.
+    Connection,
+}

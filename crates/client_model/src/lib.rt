@@ -1,0 +1,12 @@
+//! What `dockc` asks, writes and ends with, as definitions, and the types of a line.
+#![tactic(auto)]
+
+mod command;
+mod fault;
+mod manner;
+mod words;
+
+pub use command::{Command, Line, NewContainer, Restart};
+pub use fault::Fault;
+pub use manner::Manner;
+pub use words::{Kind, Split};
