@@ -124,6 +124,7 @@ def conflict(name, n):
                         "You have to remove (or rename) that container to be able to reuse that name.")
 
 
+PING, PONG = get("/_ping"), answer(200, "OK", kind="text/plain; charset=utf-8")
 NOT_RUNNING = message(409, f"Container {id_of(0)} is not running")
 
 
@@ -186,7 +187,7 @@ def exec_shown(n, container, words, stdin=False, out=False, err=False):
         "Running": False}))
 
 
-# ---- scenarios: the file, its requests, how they come, the words, the status, and what is written
+# ---- scenarios: the file, what is in it, how that comes, the words, the status, and what is written
 
 SCENARIOS = []
 
@@ -199,3 +200,31 @@ def scenario(name, requests, wanted, status=0, words=STDIO, comings=("pieces=409
 
 def refused(name, request, status):
     scenario(name, request, bad(status), status=3)
+
+
+# ---- talks: several connections, one slot behind the other
+
+LISTENS = "--listen 127.0.0.1:2375"
+ACTS = ("on", "end", "stop", "gone")
+
+
+def joined(texts):
+    return texts if isinstance(texts, str) else "".join(map(joined, texts))
+
+
+def slot_line(who, ms, does):
+    return f"{who} {ms} {does if does in ACTS else len(does)}"
+
+
+def talk(name, *slots, status=0, words=LISTENS, ended=(), unheard=()):
+    """A slot: the connection, the milliseconds behind the opening, what it does, and what it is written then, until it
+    wants more input, pauses or ends. It sends texts, goes on from its pause, its input ends, its pause is answered by a
+    stop, or its peer is gone. Behind the last slot the input of each ends, but of those that ended before: by themselves
+    are those of `ended`. Slots of `unheard` come behind that, and nothing is written in them."""
+    slots = [(who, ms, joined(does), joined(wanted)) for who, ms, does, *wanted in slots]
+    over = {who for who, _, does, _ in slots if does in ("end", "stop") or "Connection: close" in does} | set(ended)
+    slots += [(who, slots[-1][1], "end", "") for who in sorted({slot[0] for slot in slots} - over)]
+    said = [(who, ms, joined(does)) for who, ms, does, *_ in [*slots, *unheard]]
+    text = "".join(slot_line(*slot) + "\n" + (slot[2] + "\n" if slot[2] not in ACTS else "") for slot in said)
+    told = "".join(f"\n-- {slot_line(who, ms, does)}\n{wanted}" for who, ms, does, wanted in slots)
+    SCENARIOS.append((name + ".talk", text, ("talk",), words, status, told))

@@ -17,7 +17,8 @@ USUAL = ('{"Hostname":"","Domainname":"","User":"","AttachStdin":false,"AttachSt
 scenario("create", WEB, created(0), comings=("pieces=1", "pieces=4096", "cuts"))
 scenario("nothing", "", "", comings=("pieces=1", "read=0"))
 scenario("create_failing", WEB, "", status=4, comings=("read=0", "write=0"))
-scenario("other_words", WEB, USAGE, status=2, words="--stdio --listen 127.0.0.1:1")
+for name, words in (("other_words", "--stdio --listen 127.0.0.1:1"), ("other_word", "--stdin"), ("no_words", "")):
+    scenario(name, WEB, USAGE, status=2, words=words)
 
 # what the line sets: the seed of ids, the most entries of the journal, and what isn't built or is no line
 SEED = bytes(range(0xA0, 0xC0))
@@ -95,7 +96,6 @@ scenario("list_filters", THREE + [
     listed(JOB_ITEM, WEB_ITEM), listed(), listed(JOB_ITEM), listed(), listed(DB_ITEM), listed(), listed(JOB_ITEM, WEB_ITEM),
     listed(WEB_ITEM), listed(WEB_ITEM), listed(DB_ITEM), listed(DB_ITEM), listed(), listed(), listed(), listed(DB_ITEM),
     message(400, "invalid filter"), answer(204), listed(item(1, "db", ["sleep", "600000"], "exited", "Exited (137)"))])
-
 scenario("list_of_one", [get("/containers/json"), WEB, get("/containers/json?all=1"), get("/containers/json")],
          [listed(), created(0), listed(item(0, "web", ["hello"], "created", "Created")), listed()])
 

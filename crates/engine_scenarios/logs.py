@@ -90,6 +90,11 @@ scenario("logs_of_two_streams", [create("web", body=with_policy(FLAKY, ON_FAILUR
           logged([WENT]), logged([FAILED]), logged([WENT]),
           logged([(2, f"{moment(0)} attempt 1\n"), f"{moment(100)} ok\n"])])
 
+# a record has 32,768 bytes at most, and a frame too: with its moment the first one is two frames, the second one
+NOISE = f"{NOW} " + "x" * 32768
+scenario("log_of_a_long_record", [create("web", ["noise", "32769"]), post("/containers/web/start"), logs("web", STAMPED)],
+         [created(0), answer(204), logged([NOISE[:32768], NOISE[32768:], f"{NOW} x"])])
+
 # followed: each part as it comes, to the end of the run, and a chunk more than the log of it had when it was asked for
 ENDED_AT_300 = shown(0, "web", TICKS, "exited", started=moment(0), finished=moment(300))
 scenario("logs_followed", [create("web", TICKS), post("/containers/web/start"), logs("web", FOLLOWED), get("/containers/web/json"),

@@ -2,7 +2,7 @@
 from exchange import *
 
 # ---- each call in each state: a container of each state, named by it, then the call and an inspect of each. Nothing is
-# in the state `removing` here, since the one connection waits until it is over.
+# in the state `removing` here, since the one connection waits until it is over (talks.py has it).
 
 FLAKY, ON_FAILURE = ["flaky", "1"], ("on-failure", 0)
 THEN = second(10)  # a forced removal has taken ten seconds, and the clock stands again
@@ -159,7 +159,7 @@ cells("force", lambda name: get(f"/containers/{name}?force=1", "DELETE"), {
     **{name: (answer(204), gone(name)) for name in LIVE_ON}, "dead": (REMOVING_TEXT,)},
     [get("/containers/json?all=1"), create("running")],
     [listed(item(0, "dead", LASTS, "dead", "Dead")), created(6)])
-# a wait of a paused container lasts as long as its pause, so it isn't asked here
+# a wait of a paused container lasts as long as its pause, so it isn't asked here (talks.py has it)
 AT_AGAIN = "2023-11-14T22:13:30.100000000Z"
 AGAIN = ended("restarting", 0, started=AT_AGAIN, finished=AT_AGAIN, restarts=1)
 cells("wait", verb("wait"), {

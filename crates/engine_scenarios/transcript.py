@@ -11,6 +11,8 @@ import lives  # (each adds its scenarios, in this order)
 import states
 import logs
 import waits
+import talks
+import beside
 
 HERE = os.path.dirname(os.path.abspath(__file__))
 
@@ -94,6 +96,13 @@ refused("two_hosts", "GET /_ping HTTP/1.1\r\nHost: x\r\nHost: y\r\n\r\n", 400)
 refused("old_version", "GET /_ping HTTP/1.0\r\nHost: x\r\n\r\n", 505)
 refused("expecting", "POST /containers/create HTTP/1.1\r\nHost: x\r\nExpect: 100-continue\r\nContent-Length: x\r\n\r\n", 417)
 refused("length_of_letters", "POST /containers/create HTTP/1.1\r\nHost: x\r\nContent-Length: x\r\n\r\n", 400)
+# requests right behind each other, of which one has no answer's body and one a body that looks like a request, in pieces of
+# every size; and each answer is one write
+scenario("four_requests", [WEB, PING, get("/_ping", "HEAD"), post("/x", "GET /"), get("/containers/web/json")],
+         [created(0), PONG, answer(200, "OK", kind="text/plain; charset=utf-8", head=True), message(404, "page not found"),
+          shown(0, "web", ["hello"], "created")], comings=tuple(f"pieces={size}" for size in range(1, 41)))
+scenario("one_write_an_answer", [WEB, PING, PING], "", status=4, comings=(
+    ("write=1", created(0)), ("write=2", created(0) + PONG)))
 # bodies by chunks, with trailers, and what is wrong of them
 CHUNKED = "/v1.43/containers/create?name=web"
 CHUNKS = ['{"Image":', '"engine/tools:latest"}']
@@ -136,13 +145,15 @@ def main():
         os.remove(f"{HERE}/data/{old}")
     lines, told = [], []
     for name, text, comings, words, status, wanted in SCENARIOS:
-        with open(f"{HERE}/data/{name}", "w", newline="") as file:
+        with open(f"{HERE}/data/{name}", "w", newline="", encoding="latin-1") as file:
             file.write(text)
         for coming in comings:
             coming, front = coming if isinstance(coming, tuple) else (coming, None)
-            lines.append(f"{name} {coming} {words}\n")
+            lines.append(f"{name} {coming} {words}".strip() + "\n")
             how, _, number = coming.partition("=")
-            if how == "cuts":
+            if how == "talk":
+                told.append(f"== {name}\nstatus {status}{wanted}\n")
+            elif how == "cuts":
                 told.append(f"== {name} cut after each byte\n{len(text) - 1} cuts: status 3, nothing written\n")
             elif how == "pieces":
                 told.append(f"== {name} in pieces of {number}\nstatus {status}\n{wanted}\n")
@@ -152,9 +163,9 @@ def main():
                 told.append(f"== {name} with {how} {number} failing\nstatus {status}\n{wanted if how == 'read' else ''}\n")
             else:
                 told.append(f"== {name} with {how} {number} failing\nstatus 4\n{front or ''}\n")
-    with open(f"{HERE}/stdin", "w", newline="") as file:
+    with open(f"{HERE}/stdin", "w", newline="", encoding="latin-1") as file:
         file.write("".join(lines))
-    with open(f"{HERE}/stdout", "w", newline="") as file:
+    with open(f"{HERE}/stdout", "w", newline="", encoding="latin-1") as file:  # (bytes as they are)
         file.write("".join(told))
 
 

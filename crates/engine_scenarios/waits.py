@@ -71,3 +71,14 @@ scenario("early_wait_broken_off", [create("web", DEAF), START, post("/containers
 scenario("early_wait_before_a_start_broken_off", [create("web", ["exit", "3"]),
                                                   post("/containers/web/wait?condition=next-exit", more=EARLY), START],
          [created(0), EARLY_HEAD], status=5, words="--stdio", comings=("stop=0",))
+# twenty pauses of fifty milliseconds make a second: the wait is over behind them, and not before the last one
+SECOND_RUN = [create("web", ["sleep", "1000"]), START, WAIT]
+scenario("wait_of_twenty_pauses", SECOND_RUN, [created(0), answer(204), waited(0)], words="--stdio", comings=("stop=20",))
+scenario("wait_before_its_last_pause", SECOND_RUN + [WAIT], [created(0), answer(204), message(503, "stopping")], status=5,
+         words="--stdio", comings=("stop=19",))
+# no look anew takes room: two entries are the wait and its end
+scenario("journal_of_a_wait", SECOND_RUN + [get("/containers/json")],
+         [created(0), answer(204), waited(0), message(503, "journal is full")], words=f"{STDIO} --journal 4")
+scenario("journal_without_the_end_of_a_wait", SECOND_RUN + [get("/containers/json")],
+         [created(0), answer(204), message(503, "journal is full"), listed(item(0, "web", ["sleep", "1000"], "running", "Up"))],
+         words=f"{STDIO} --journal 3")

@@ -2,8 +2,12 @@
 //! bytes come; the status of the run and what it wrote follow on standard output.
 #![tactic(auto)]
 
+mod course;
+mod door;
+mod ports;
 mod run;
 mod scenario;
+mod talk;
 
 use scenario::Scenario;
 use std::io;

@@ -1,7 +1,10 @@
 // A scenario, run and told.
 ghost use Rattle.std.specs.Prelude.{◌<◌};
 
+use crate::course::Course;
+use crate::door::TalkDoor;
 use crate::scenario::{Coming, Scenario};
+use crate::talk::{MOMENT, read_talk};
 use engine_ports::{MemSink, MemSource, NoDoor, NoMemory, StepClock};
 use engine_program::run_engined;
 use engine_text::Text;
@@ -10,9 +13,6 @@ use std::io::{self, Write};
 use std::rt::Files;
 use std::sync::Wait;
 use std::thread::Threads;
-
-/// The moment at which the clock of the outside stands, in milliseconds since 1970.
-const MOMENT: u64 = 1_700_000_000_000;
 
 /// What a run ended with.
 #[derive(Drop)]
@@ -85,6 +85,48 @@ fn tell_cuts<R: Threads + Wait + Sync + AllocGlobal + Print>(
     println!(rt; "{as_cut} cuts: status 3, nothing written")
 }
 
+// Runs the daemon behind a door through which the connections of a talk come.
+fn run_talk<R: Threads + Wait + Sync + AllocGlobal>(
+    rt: &R,
+    words: &[Text],
+    course: &Course,
+) -> Result<Ran, NoMemory> {
+    let mut source = MemSource::new(rt.alloc(), b"", 1, &[])?;
+    let mut sink = MemSink::new(rt.alloc(), &[])?;
+    let mut clock = StepClock::new(MOMENT, 0, None);
+    let mut door = TalkDoor::new(rt, rt.alloc(), course);
+    let status = run_engined(
+        rt,
+        rt.alloc(),
+        words,
+        &mut source,
+        &mut sink,
+        &mut clock,
+        &mut door,
+    );
+    Ok(Ran { status, sink })
+}
+
+// Tells what the connections of a talk were written, slot behind slot.
+fn tell_talk<R: Threads + Wait + Sync + AllocGlobal + Print>(
+    rt: &R,
+    words: &[Text],
+    bytes: &[u8],
+) -> io::Result<()> {
+    let Some(slots) = read_talk(rt.alloc(), bytes)? else {
+        return println!(rt; "not a talk");
+    };
+    let course = Course::new(rt.alloc(), slots);
+    let Ok(ran) = run_talk(rt, words, &course) else {
+        return println!(rt; "out of memory");
+    };
+    let mut out = io::writer(rt);
+    print!(rt; "status {}", ran.status)?;
+    out.write_all(&course.into_told())?;
+    out.write_all(ran.sink.bytes())?;
+    println!(rt; "")
+}
+
 /// Runs a scenario and tells what came of it.
 pub fn tell<R: Threads + Wait + Sync + AllocGlobal + Files + Print>(
     rt: &R,
@@ -117,6 +159,10 @@ pub fn tell<R: Threads + Wait + Sync + AllocGlobal + Files + Print>(
         Coming::StoppedPause(number) => {
             println!(rt; "== {name} with pause {number} stopped")?;
             tell_ran(rt, run_over(rt, words, bytes, 4096, &[], &[], Some(number)))
+        }
+        Coming::Talk => {
+            println!(rt; "== {name}")?;
+            tell_talk(rt, words, bytes)
         }
     }
 }

@@ -16,6 +16,8 @@ pub enum Coming {
     FailingWrite(u64),
     /// The pause of that number, from 0, is answered by a stop.
     StoppedPause(u64),
+    /// In the slots of several connections.
+    Talk,
 }
 
 /// A file of `data/`, how its bytes come, and the words of the daemon's line.
@@ -26,10 +28,13 @@ pub struct Scenario {
     pub words: Vec<Text>,
 }
 
-// `cuts`, `pieces=N`, `read=N`, `write=N` or `stop=N`.
+// `cuts`, `talk`, `pieces=N`, `read=N`, `write=N` or `stop=N`.
 fn read_coming(word: &str) -> Option<Coming> {
     if word == "cuts" {
         return Some(Coming::Cuts);
+    }
+    if word == "talk" {
+        return Some(Coming::Talk);
     }
     let (key, number) = word.split_once('=')?;
     match key {
