@@ -1,4 +1,4 @@
-//! Runs of the shared daemon: over a door in memory, and over a real one.
+//! Runs of the program behind a real door.
 #![tactic(auto)]
 
 #[cfg(test)]

@@ -6,10 +6,16 @@ use engine_program::run_engined;
 use engine_text::Text;
 use std::alloc::Global;
 use std::io;
-use std::net::TcpListener;
+use std::net::{Net, TcpListener, TcpStream};
 use std::sync::Wait;
 use std::test::Fail;
 use std::thread::{Threads, join};
+
+/// A port at which nobody listens.
+fn free_port<R: Net<Listener = TcpListener, Stream = TcpStream>>(rt: &R) -> io::Result<u16> {
+    let free = TcpListener::bind(rt, "127.0.0.1:0")?;
+    Ok(free.local_addr()?.port())
+}
 
 /// The words of a line that listens at this port, for so many connections.
 fn words_of(alloc: Global, port: u16, most: &str) -> Result<Vec<Text>, NoMemory> {
@@ -43,9 +49,7 @@ fn runs<R: Threads + Wait + Sync + AllocGlobal, D: Door>(
 #[test]
 fn connections_at_the_port_of_the_line_are_served(rt: HostRuntime) -> Result<(), Fail> {
     let alloc = rt.alloc();
-    let free = TcpListener::bind(&rt, "127.0.0.1:0")?;
-    let port = free.local_addr()?.port();
-    drop(free);
+    let port = free_port(&rt)?;
     let words = words_of(alloc, port, "3")?;
     let mut door = TcpDoor::new(&rt, alloc);
     let (ran, told) = join(
@@ -61,9 +65,7 @@ fn connections_at_the_port_of_the_line_are_served(rt: HostRuntime) -> Result<(),
 #[test]
 fn a_wait_before_the_start_is_answered(rt: HostRuntime) -> Result<(), Fail> {
     let alloc = rt.alloc();
-    let free = TcpListener::bind(&rt, "127.0.0.1:0")?;
-    let port = free.local_addr()?.port();
-    drop(free);
+    let port = free_port(&rt)?;
     let words = words_of(alloc, port, "3")?;
     let mut door = TcpDoor::new(&rt, alloc);
     let (ran, told) = join(
@@ -79,9 +81,7 @@ fn a_wait_before_the_start_is_answered(rt: HostRuntime) -> Result<(), Fail> {
 #[test]
 fn who_goes_halfway_loses_nobody_else_anything(rt: HostRuntime) -> Result<(), Fail> {
     let alloc = rt.alloc();
-    let free = TcpListener::bind(&rt, "127.0.0.1:0")?;
-    let port = free.local_addr()?.port();
-    drop(free);
+    let port = free_port(&rt)?;
     let words = words_of(alloc, port, "4")?;
     let mut door = TcpDoor::new(&rt, alloc);
     let (ran, told) = join(
