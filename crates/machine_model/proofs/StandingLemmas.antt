@@ -96,8 +96,7 @@ missed true k t rest isnt h = absurd (false≢true (sym isnt))
 missed false k t rest isnt h = h
 
 -- the last of them, whose number is above all others
-last_held : (k n : ℕ) (u : Ticket) (ts : List Ticket) → u.number ≡ n → u.connection ≡ k → AllByRecursion (λ t. t.number < n) ts
-    → Held k n (ts ++ u ∷ [])
+last_held : (k n : ℕ) (u : Ticket) (ts : List Ticket) → u.number ≡ n → u.connection ≡ k → AllByRecursion (λ t. t.number < n) ts → Held k n (ts ++ u ∷ [])
 last_held k n u [] number connection below =
     let it : (u.number == n) ≡ true = eq-eqb u.number n number in
     let its : (u.connection == k) ≡ true = eq-eqb u.connection k connection in
