@@ -27,6 +27,18 @@ impl Model for OpenLog {
     ghost invariant = { IsSoundOpenLog };
 }
 
+/// For how many more records to ask where `count` are wanted: for that many where there is room, else for
+/// an eighth of the records, or for more where more are wanted.
+fn room_to_make(room: usize, len: usize, count: usize) -> usize
+    ensures { count ≤ result }
+{
+    if count <= room {
+        count
+    } else {
+        count.max(len / 8)
+    }
+}
+
 impl OpenLog {
     /// No records; it takes no memory.
     pub fn new(alloc: Global) -> OpenLog
@@ -55,14 +67,17 @@ impl OpenLog {
         Log { items, size }
     }
 
-    /// Makes room for so many more records; room that is there stays.
+    /// Makes room for so many more records; room that is there stays. A record of 48 bytes stands beside
+    /// its payload, and a log that grows by one record gets room for an eighth more, so it takes at most 54
+    /// bytes a record.
     pub fn reserve(&mut self, _alloc: Global, count: usize) -> Result<(), NoMemory>
         ensures records { self.new.records ≡ self.old.records }
         ensures ok { OnOk result (count ≤ self.new.room) }
         ensures room { self.old.room ≤ self.new.room }
         ensures err { OnErr result (self.new ≡ self.old) }
     {
-        match self.items.reserve(count) {
+        let more = room_to_make(self.room(), self.len(), count);
+        match self.items.reserve_exact(more) {
             Ok(()) => Ok(()),
             Err(_) => Err(NoMemory),
         }
