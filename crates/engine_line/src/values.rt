@@ -53,7 +53,8 @@ fn around_colon(text: &str) -> (&str, &str)
     }
 }
 
-fn moment_in(word: &str) -> Option<u64>
+/// The moment that `word` spells, in milliseconds since 1970: one to 13 decimal digits, at most the greatest moment.
+pub fn moment_in(word: &str) -> Option<u64>
     ensures { result ≡ spec.moment_in word.now }
 {
     number_between(word, 13, 0, GREATEST_MOMENT)
@@ -69,7 +70,8 @@ fn stepping_in(word: &str) -> Option<Stepping>
     }
 }
 
-fn port_in(word: &str) -> Option<u16>
+/// The port of `127.0.0.1:PORT`: one to five decimal digits, at most 65,535.
+pub fn port_in(word: &str) -> Option<u16>
     ensures { result ≡ spec.port_in word.now }
 {
     let (host, port) = around_colon(word);
@@ -103,7 +105,7 @@ pub fn work_of(is_stdio: bool, listen: Option<&str>, drill: Option<&str>) -> Opt
     }
 }
 
-/// The seed of ids.
+/// The seed of ids: 64 hexadecimal digits, and zeros where no word is given.
 pub fn seed_of(word: Option<&str>) -> Option<[u8; 32]>
     ensures { result ≡ spec.seed_of (option_map (λ w. w.now) word.entry) }
 {
