@@ -1,4 +1,4 @@
-//! Runs of the program behind a real door.
+//! Runs of the shared daemon: over a door in memory, and over a real one.
 #![tactic(auto)]
 
 #[cfg(test)]

@@ -1,6 +1,9 @@
 // Requests, and what they are about.
 use std::alloc::{AllocError, Global};
 
+/// The moment of the opening, in milliseconds since 1970.
+pub const MOMENT: u64 = 1_700_000_000_000;
+
 /// The ids of the first two containers, by RFC 8439 from a seed of zeros.
 pub const IDS: [&str; 2] = [
     "76b8e0ada0f13d90405d6ae55386bd28bdd219b8a08ded1a0000000000000000",
@@ -19,3 +22,20 @@ pub fn create(alloc: Global, name: &str, connection: &str) -> Result<String, All
          {{\"Image\":\"engine/tools:latest\"}}"
     )
 }
+
+/// A create of a container that writes a line three times, each 100 milliseconds.
+pub const CREATE_TICKS: &str =
+    "POST /v1.43/containers/create?name=ticks HTTP/1.1\r\nHost: x\r\nContent-Length: 49\r\n\r\n{\"Image\":\"engine/tools\",\"Cmd\":[\"tick\",\"3\",\"100\"]}";
+
+pub const START_TICKS: &str = "POST /v1.43/containers/ticks/start HTTP/1.1\r\nHost: x\r\n\r\n";
+
+pub const FOLLOW_TICKS: &str =
+    "GET /v1.43/containers/ticks/logs?stdout=1&follow=1 HTTP/1.1\r\nHost: x\r\n\r\n";
+
+/// The head of a log, a chunk with one tick, and the last chunk.
+pub const LOG_HEAD: &str =
+    "HTTP/1.1 200 OK\r\nApi-Version: 1.43\r\nContent-Type: application/vnd.docker.multiplexed-stream\r\nServer: engined\r\nTransfer-Encoding: chunked\r\n\r\n";
+
+pub const TICK: &str = "d\r\n\x01\0\0\0\0\0\0\x05tick\n\r\n";
+
+pub const LAST_CHUNK: &str = "0\r\n\r\n";
