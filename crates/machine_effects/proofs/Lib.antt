@@ -6,6 +6,7 @@ pub mod RemoveLemmas
 pub mod RisingLemmas
 pub mod SiftLemmas
 pub mod LastLemmas
+pub mod MomentPlaceLemmas
 pub mod TimeLemmas
 pub mod EachLemmas
 pub mod SettleLemmas

@@ -1,5 +1,6 @@
 // The counts of the tables.
 ghost use Rattle.std.specs.Prelude.{◌≡◌, length};
+ghost use Rattle.machine_model.specs.Calls.Events.{first_event};
 
 use super::tables::Tables;
 
@@ -23,5 +24,19 @@ impl Tables {
         ensures { result ≡ length self.now.state.tickets }
     {
         self.tickets.len() as u64
+    }
+
+    /// The number of the first event of a stream: that of the first kept one at or after a moment, or
+    /// how many there were.
+    pub fn first_event(&self, since: Option<u64>) -> u64
+        ensures { result ≡ first_event since self.now.state }
+    {
+        match since {
+            None => self.event_count,
+            Some(moment) => {
+                let first = self.event_count.saturating_sub(self.moments.len() as u64);
+                first + self.moments.before(moment) as u64
+            }
+        }
     }
 }

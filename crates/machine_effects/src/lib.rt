@@ -22,6 +22,7 @@ mod listing;
 mod lives;
 mod logs;
 mod marks;
+mod moment_places;
 mod moments;
 mod names;
 mod new_volumes;

@@ -1,16 +1,20 @@
 // The moments of the last events.
-ghost use Rattle.std.specs.Prelude.{◌≡◌, ℕ, ◌+◌, ◌<◌, ◌≤◌, [], ◌∷◌, ◌++◌, length, map, min, OnOk};
+ghost use Rattle.std.specs.Prelude.{◌≡◌, ℕ, ◌+◌, ◌<◌, ◌≤◌, [], ◌∷◌, ◌++◌, length, map, min, nat_le, OnOk};
+ghost use Rattle.std.specs.List.{position_or_len};
+ghost use Rattle.std.specs.VecDeque.{deque_capacity};
 ghost use Rattle.container_table.specs.Lists.{last_of};
 
+use super::moment_places::{halved, scanned, stays_in_order};
 use engine_text::{Event, NoMemory};
 use std::alloc::Global;
 use std::collections::VecDeque;
 use std::marker::Model;
 
-/// The moments of the last 65,536 events, in order.
+/// The moments of the last 65,536 events, as they came.
 #[derive(Drop)]
 pub struct Moments {
     items: VecDeque<u64>,
+    in_order: bool,
 }
 
 const MOST: usize = 65_536;
@@ -20,11 +24,24 @@ impl Model for Moments {
 
     ghost Value = { MomentRows };
 
-    ghost use Rattle.machine_effects.specs.Views.Moments.{moment_rows, AreLast};
+    ghost use Rattle.machine_effects.specs.Views.Moments.{moment_rows, AreSoundMoments};
 
     ghost view = { moment_rows };
 
-    ghost invariant = { AreLast };
+    ghost invariant = { AreSoundMoments };
+}
+
+// A moment more, in the place of the oldest where all places are taken.
+fn push_last(items: &mut VecDeque<u64>, moment: u64)
+    requires few { length items.old.items ≤ 65536 }
+    requires room { min 65536 (length items.old.items + 1) ≤ deque_capacity items.old }
+    ensures items { items.new.items ≡ last_of 65536 (items.old.items ++ moment ∷ []) }
+    ensures room { deque_capacity items.new ≡ deque_capacity items.old }
+{
+    if items.len() >= MOST {
+        let _oldest = items.pop_front();
+    }
+    items.push_back_reserved(moment);
 }
 
 impl Moments {
@@ -34,6 +51,7 @@ impl Moments {
     {
         Moments {
             items: VecDeque::new(alloc),
+            in_order: true,
         }
     }
 
@@ -63,10 +81,28 @@ impl Moments {
         ensures moments { self.new.moments ≡ last_of 65536 (self.old.moments ++ moment ∷ []) }
         ensures room { self.new.room ≡ self.old.room }
     {
-        if self.items.len() >= MOST {
-            let _oldest = self.items.pop_front();
+        self.in_order = stays_in_order(self.in_order, &self.items, moment);
+        push_last(&mut self.items, moment);
+    }
+
+    /// How many they are.
+    pub fn len(&self) -> usize
+        ensures { result ≡ length self.now.moments }
+    {
+        self.items.len()
+    }
+
+    /// How many stand before the first one at or after that moment. It is found by halving as long as
+    /// none came that lies before the one before it.
+    pub fn before(&self, moment: u64) -> usize
+        ensures place { result ≡ position_or_len (nat_le moment) self.now.moments }
+        ensures within { result ≤ length self.now.moments }
+    {
+        if self.in_order {
+            halved(&self.items, moment)
+        } else {
+            scanned(&self.items, moment)
         }
-        self.items.push_back_reserved(moment);
     }
 
     /// Those of these events.
