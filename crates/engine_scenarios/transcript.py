@@ -13,6 +13,7 @@ import logs
 import waits
 import talks
 import beside
+import events
 
 HERE = os.path.dirname(os.path.abspath(__file__))
 

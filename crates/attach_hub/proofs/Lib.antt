@@ -1,6 +1,9 @@
 pub mod WaitLemmas
 pub mod StatusLemmas
 pub mod LogLemmas
+pub mod LogTellLemmas
+pub mod EventTellLemmas
+pub mod TellLemmas
 pub mod PieceLemmas
 pub mod FollowLemmas
 pub mod OpenLemmas

@@ -1,22 +1,17 @@
 -- A log's stream between two places, as the log grows, and where it ends.
 use Rattle.std.specs.Prelude.{is_some, unwrap_or}
 use Rattle.std.specs.Option.{option_map_or, option_or}
-use Rattle.std.proofs.Common.{◌≡◌, ◌≤◌, ℕ, List, [], ◌∷◌, ◌++◌, refl, sym, ◌∙◌, ap, subst, append_assoc, arith, Bool, true, false, Option, Some, None, map, take, drop, length, length-append, take-append-drop, length-take}
+use Rattle.std.proofs.Common.{◌≡◌, ◌≤◌, ℕ, List, [], ◌++◌, refl, sym, ◌∙◌, ap, subst, arith, Bool, true, false, Option, Some, None, take, drop, length, length-append, take-append-drop, length-take}
 use Rattle.std.specs.Prelude.{IsTrue}
-use Rattle.std.specs.List.{filter, flat_map}
 use Rattle.std.proofs.lemmas.Bool.{false≢true}
-use Rattle.std.proofs.lemmas.Grind.{flat_map-append}
-use Rattle.std.proofs.lemmas.List.{map-append, length-take-le, take-take, take-append-le, drop-append-le, drop_all}
-use Rattle.std.proofs.lemmas.List.Elements.{filter-append}
+use Rattle.std.proofs.lemmas.List.{length-take-le, take-take, take-append-le, drop-append-le, drop_all}
 use Rattle.engine_text.specs.declared.log.LogRecord.{LogRecord}
 use Rattle.engine_text.specs.declared.owner.Owner.{Owner}
 use Rattle.engine_text.specs.declared.reply.LogSpec.{LogSpec}
 use Rattle.engine_text.specs.declared.reply.StopRule.{StopRule}
 use Rattle.engine_text.specs.declared.reply.StopRule.TheVariants as Stop
-use Rattle.stream_frame.specs.Frames.{Part, frame_of, frames_of}
 use Rattle.machine_model.specs.State.{State}
-use Rattle.machine_model.specs.Frames.{cut, framed}
-use Rattle.machine_model.specs.LogStream.{log_of, is_kept, standing_log, kept_log, part_of, is_asked_by, log_bytes, some_if, at_rest, standing_end, kept_end, fixed_end, log_end, log_reach}
+use Rattle.machine_model.specs.LogStream.{log_of, is_kept, standing_log, kept_log, log_bytes, some_if, at_rest, standing_end, kept_end, fixed_end, log_end, log_reach}
 use Rattle.daemon_core.specs.Framing.{asked_bytes}
 use Rattle.daemon_core.proofs.WrittenLemmas.{asked_append}
 use Rattle.attach_hub.specs.Following.{HasNoRun}

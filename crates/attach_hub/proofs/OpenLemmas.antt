@@ -13,14 +13,13 @@ use Rattle.engine_text.specs.declared.owner.Owner.TheVariants.{Container as OfCo
 use Rattle.engine_text.specs.declared.reply.Reply.{Reply}
 use Rattle.engine_text.specs.declared.reply.Reply.TheVariants.{LogStream}
 use Rattle.engine_text.specs.declared.reply.StopRule.{StopRule}
-use Rattle.engine_text.specs.declared.reply.StopRule.TheVariants as Stop
 use Rattle.engine_text.specs.declared.step.Step.{Step}
 use Rattle.container_table.specs.Reference.{container_by}
 use Rattle.machine_model.specs.State.{State, container_numbered}
-use Rattle.machine_model.specs.Chain.{Effect, still}
+use Rattle.machine_model.specs.Chain.{still}
 use Rattle.machine_model.specs.Outcome.{Outcome, replies, by_found, refused}
 use Rattle.machine_model.specs.Step.{at_moment}
-use Rattle.machine_model.specs.Calls.Logs.{places, from_end, first_by_tail, first_place, stop_rule, log_spec, logs_outcome, is_selected}
+use Rattle.machine_model.specs.Calls.Logs.{places, first_by_tail, first_place, stop_rule, log_spec, is_selected}
 use Rattle.machine_model.specs.LogStream.{is_kept, kept_log, log_of, log_reach}
 use Rattle.machine_model.specs.History.{after_step, reply_of}
 use Rattle.machine_model.proofs.Fold.RowLemmas.{found_number}

@@ -1,11 +1,10 @@
 -- A wait's ticket is answered with 200, whoever else makes steps meanwhile.
 use Rattle.std.specs.Option.{option_and_then, option_map_or}
-use Rattle.std.proofs.Common.{◌≡◌, ℕ, ◌+◌, ◌<◌, ◌==◌, Bool, true, false, List, [], ◌∷◌, ◌++◌, Option, Some, None, unwrap_or, find, map, if◌then◌else◌, refl, ap, sym, ◌∙◌, subst, arith}
+use Rattle.std.proofs.Common.{◌≡◌, ℕ, ◌<◌, ◌==◌, Bool, true, false, List, [], ◌∷◌, ◌++◌, Option, Some, None, unwrap_or, find, map, if◌then◌else◌, refl, ap, sym, ◌∙◌, subst, arith}
 use Rattle.std.specs.List.{AllByRecursion}
 use Rattle.std.proofs.lemmas.Bool.{false≢true}
 use Rattle.std.proofs.lemmas.Bool.Decides.{nat_tests}
 use Rattle.container_table.specs.Reference.{container_by}
-use Rattle.engine_text.specs.declared.call.Call.{Call}
 use Rattle.engine_text.specs.declared.call.Call.TheVariants.{Wait, Take}
 use Rattle.engine_text.specs.declared.call.Until.{Until}
 use Rattle.engine_text.specs.declared.call.Until.TheVariants.{NotRunning, NextExit, Removed}
@@ -24,7 +23,7 @@ use Rattle.machine_model.specs.Call.{outcome_of}
 use Rattle.machine_model.specs.Due.{least_due, due_effect, timed_out}
 use Rattle.machine_model.specs.Effects.Destroy.{answer, answered, last_reply, last_answer}
 use Rattle.machine_model.specs.Effects.Settle.{is_at_rest, has_died, reply_if, wait_reply, reply_of as settles, settled, settle_tickets}
-use Rattle.machine_model.specs.Outcome.{Outcome, by_found, at_reference, refused}
+use Rattle.machine_model.specs.Outcome.{Outcome, by_found, refused}
 use Rattle.machine_model.specs.Step.{at_moment, step_of}
 use Rattle.machine_model.specs.Tickets.{begins}
 use Rattle.machine_model.specs.History.{Charter, IsLegal, after_step, opening_state, state_from, state_after, reply_of}

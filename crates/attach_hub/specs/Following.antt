@@ -1,21 +1,23 @@
 -- How following a stream goes on and ends (own: a follower asks for one part after another, and pauses where it is up to date).
-use Rattle.std.specs.Prelude.{ℕ, ◌≡◌, ◌≤◌, Bool, true, false, List, [], ◌∷◌, ◌++◌, length, IsTrue}
+use Rattle.std.specs.Prelude.{ℕ, ◌≡◌, ◌≤◌, Bool, true, false, List, [], ◌∷◌, Some, length, IsTrue}
 use Rattle.engine_ports.specs.Rose.{Rose}
 use Rattle.engine_ports.specs.Sink.{SinkView, SinkTook, IsFront}
 use Rattle.engine_ports.specs.Clock.{ClockView}
 use Rattle.engine_text.specs.declared.reply.Reply.{Reply}
+use Rattle.engine_text.specs.declared.reply.Reply.TheVariants.{EventStream, LogStream}
 use Rattle.engine_text.specs.declared.reply.LogSpec.{LogSpec}
 use Rattle.engine_text.specs.declared.reply.StopRule.{StopRule}
 use Rattle.engine_text.specs.declared.reply.StopRule.TheVariants as Stop
 use Rattle.engine_text.specs.declared.step.Step.{Step}
 use Rattle.machine_model.specs.State.{State}
 use Rattle.machine_model.specs.LogStream.{is_kept, log_of, log_reach}
-use Rattle.machine_model.specs.History.{Charter, state_after}
+use Rattle.machine_model.specs.History.{Charter, events_of, state_after}
 use Rattle.http_edge.specs.Chunks.{IsChunked, chunk_text}
 use Rattle.session_model.specs.declared.followed.Followed.{Followed}
 use Rattle.session_model.specs.declared.followed.Followed.TheVariants as F
 use Rattle.session_model.specs.Pass.{PassView}
 use Rattle.session_model.specs.Exchange.{IsQuiet, IsBody, EndsSo, is_whole}
+use Rattle.session_model.specs.Moments.{greatest_of}
 use Rattle.session_model.specs.Progress.{Moves}
 
 -- ---- pieces of a body
@@ -51,6 +53,17 @@ pub record MayFollow (s : State) (spec : LogSpec) : Type 0 where
   pub reached : spec.first ≤ log_reach s spec
   pub runless : HasNoRun spec.stop
 
+-- the stream of a reply can be followed from this history on
+abbrev pub CanFollow : Charter → List Step → Reply → Type 0
+CanFollow ch h (LogStream spec) = MayFollow (state_after ch h) spec
+CanFollow ch h (EventStream first until filter) = first ≤ length (events_of ch h)
+CanFollow ch h reply = ⊥
+
+-- where events up to a moment are whole, the clock has come to it
+abbrev pub HasReached : Reply → Bool → List ℕ → Type 0
+HasReached (EventStream first (Some u) filter) true ms = u ≤ greatest_of ms
+HasReached reply whole ms = Unit {0}
+
 -- what rose outside
 abbrev pub HasCause : Followed → SinkView → SinkView → ClockView → ClockView → Type 0
 HasCause F.Stopped u u' v v' = Rose v.stops v'.stops
@@ -62,6 +75,7 @@ HasCause followed u u' v v' = Unit {0}
 pub record Follows (k : ℕ) (reply : Reply) (chunked : Bool) (result : Followed) (p q : PassView) (u u' : SinkView) (v v' : ClockView) : Type 0 where
   pub moves : Moves k true p q v v'
   pub quiet : IsQuiet k p.seen q.seen
+  pub reached : HasReached reply (is_whole result) moves.handed
   pub body : List ℕ
   pub sent : List ℕ
   pub part : List ℕ

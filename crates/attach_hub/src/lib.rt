@@ -4,5 +4,5 @@
 mod following;
 mod tickets;
 
-pub use following::follow_log;
+pub use following::{follow_events, follow_log};
 pub use tickets::{await_ticket, drop_ticket};

@@ -6,7 +6,6 @@ use Rattle.engine_text.specs.declared.call.Call.{Call}
 abbrev pub is_built : Call → Bool
 is_built (Call.Attach target ask) = false
 is_built (Call.ExecStart id detach) = false
-is_built (Call.Events since until filter) = false
 is_built Call.JournalRead = false
 is_built (Call.Feed owner run bytes) = false
 is_built (Call.FeedEnd owner run) = false

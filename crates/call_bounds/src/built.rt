@@ -11,7 +11,6 @@ pub fn is_built(call: &Call) -> bool
     match call {
         Call::Attach { .. } => false,
         Call::ExecStart { .. } => false,
-        Call::Events { .. } => false,
         Call::JournalRead => false,
         Call::Feed { .. } => false,
         Call::FeedEnd { .. } => false,

@@ -1,10 +1,9 @@
 -- A commit in its parts is the call's outcome.
-use Rattle.std.proofs.Common.{◌≡◌, ℕ, ◌+◌, ◌*◌, ◌<◌, ◌≤◌, ◌^◌, List, Some, ap, sym, ◌∙◌, subst, arith, Option, length, ◌++◌}
+use Rattle.std.proofs.Common.{◌≡◌, ℕ, ◌+◌, ◌*◌, ◌<◌, ◌≤◌, ◌^◌, List, Some, ap, sym, ◌∙◌, subst, arith, Option, length}
 use Rattle.engine_text.specs.declared.event.Event.{Event}
 use Rattle.machine_model.specs.State.{State}
 use Rattle.machine_model.specs.Chain.{Effect, Died}
 use Rattle.machine_model.specs.Call.{outcome_of}
-use Rattle.machine_model.specs.Outcome.{Outcome}
 use Rattle.machine_model.specs.Step.{at_moment, call_outcome, counted, due_step, finished}
 use Rattle.machine_model.specs.Effects.Settle.{settle_tickets}
 use Rattle.machine_model.specs.Consistency.{live_execs}
@@ -13,8 +12,7 @@ use Rattle.container_machine.specs.Plans.{plan_effect}
 use Rattle.machine_effects.specs.Settled.{deaths}
 use Rattle.machine_model.specs.Consistency.{IsConsistent}
 use Rattle.container_machine.specs.Parts.{MachineParts}
-use Rattle.container_machine.specs.Prepared.{Asked, IsFor, IsCommitted}
-use Rattle.engine_text.specs.declared.reply.Reply.{Reply}
+use Rattle.container_machine.specs.Prepared.{Asked, IsFor}
 use Rattle.machine_effects.specs.declared.death.Death.{Death}
 use Rattle.container_machine.specs.Dues.{IsForDue, IsStepped, due_at}
 use Rattle.container_machine.specs.declared.prepared.Prepared.{Prepared}
@@ -51,17 +49,6 @@ pub kept_parts : (p : Prepared) (w : MachineParts) (asked : Asked) (death : Opti
 kept_parts p w asked death events a b d f for h0 h1 h2 h3 h4 h5 =
     subst (λ (s : State). IsConsistent s) (sym (commit_parts p w asked death events a b d f for h0 h1 h2 h3 h4 h5)) for.kept
 
--- on a machine that only made room since
-pub committed_on : (a : Asked) (answer : Reply) (before between after : MachineParts) → between.memory.state ≡ before.memory.state → between.events ≡ before.events
-    → IsCommitted (call_outcome a.connection a.moment a.call between.memory.state) answer between after → IsCommitted (call_outcome a.connection a.moment a.call before.memory.state) answer before after
-committed_on a answer before between after state events h =
-    let same : call_outcome a.connection a.moment a.call between.memory.state ≡ call_outcome a.connection a.moment a.call before.memory.state = ap (call_outcome a.connection a.moment a.call) state in
-    record {
-      reply = h.reply ∙ ap (λ (o : Outcome). o.reply) same;
-      state = h.state ∙ ap (λ (o : Outcome). o.effect.state) same;
-      events = h.events ∙ (ap (λ es. es ++ (call_outcome a.connection a.moment a.call between.memory.state).effect.events) events ∙ ap (λ (o : Outcome). before.events ++ o.effect.events) same);
-    }
-
 -- ---- of a due step
 
 pub due_parts : (p : PreparedDue) (w : MachineParts) (death : Option Death) (events : List Event) (a b d f : State) (h : IsForDue p w) → a ≡ at_moment p.moment w.memory.state
@@ -79,5 +66,5 @@ pub kept_due_parts : (p : PreparedDue) (w : MachineParts) (death : Option Death)
 kept_due_parts p w death events a b d f h h0 h1 h2 h3 h4 h5 =
     subst (λ (s : State). IsConsistent s) (sym (due_parts p w death events a b d f h h0 h1 h2 h3 h4 h5)) h.kept
 
-pub stepped_as : (w v : MachineParts) (e : Effect) → due_step w.memory.state ≡ Some e → v.memory.state ≡ e.state → v.events ≡ w.events ++ e.events → IsStepped (due_step w.memory.state) w v
-stepped_as w v e is state events = subst (λ (o : Option Effect). IsStepped o w v) (sym is) (state, events)
+pub stepped_as : (w v : MachineParts) (e : Effect) → due_step w.memory.state ≡ Some e → v.memory.state ≡ e.state → IsStepped (due_step w.memory.state) w v
+stepped_as w v e is state = subst (λ (o : Option Effect). IsStepped o w v) (sym is) state

@@ -169,8 +169,8 @@ pub is_something : (s : State) → IsLawful s Step.Due → least_due s ≡ None 
 is_something s lawful e = let none : IsTrue (option_map_or (λ (d : DueAction). nat_le d.moment (latest s)) None false) = subst (λ o. IsTrue (option_map_or (λ (d : DueAction). nat_le d.moment (latest s)) o false)) e lawful.1 in absurd (cc)
 
 pub ready_due : (p : PreparedDue) (w : MachineParts) (d : DueAction) → IsConsistent w.memory.state → IsLawful w.memory.state Step.Due → least_due w.memory.state ≡ Some d
-    → MakesDue p d w.memory.state → HasDueRoom p.plan w.memory → length w.events + length p.events.items ≤ w.places → IsForDue p w
-ready_due p w d k lawful least makes room places = record {
+    → MakesDue p d w.memory.state → HasDueRoom p.plan w.memory → IsForDue p w
+ready_due p w d k lawful least makes room = record {
   due = d;
   least = least;
   moment = makes.moment;
@@ -178,5 +178,4 @@ ready_due p w d k lawful least makes room places = record {
   events = makes.events;
   fits = fits_due p.plan d.moment w.memory makes.brings k (timely_due w.memory.state d k lawful least) room;
   kept = subst (λ (s : State). IsConsistent s) (ap (λ o. (unwrap_or (step_of o w.memory.state) (still w.memory.state)).state) least) (kept_due w.memory.state k lawful);
-  places = places;
 }

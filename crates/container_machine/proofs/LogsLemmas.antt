@@ -16,18 +16,6 @@ use Rattle.container_machine.specs.Making.{IsStream, Makes}
 use Rattle.container_machine.specs.Plans.{plan_effect, Brings}
 use Rattle.container_machine.specs.declared.prepared.Prepared.{Prepared}
 
--- a stream that changes nothing
-pub streamed : (p : Prepared) (t : ℕ) (s : State) (to : LogSpec) (f : State → Outcome) → f (at_moment t s) ≡ replies (LogStream to) still (at_moment t s) → IsStream t to p → Makes p t s f
-streamed p t s to f is a =
-    let z : State = at_moment t s in
-    record {
-      moment = a.moment;
-      effect = ap (λ q. plan_effect q z) a.plan ∙ sym (ap (λ (o : Outcome). o.effect) is);
-      events = a.events ∙ sym (ap (λ (o : Outcome). o.effect.events) is);
-      reply = a.reply ∙ sym (ap (λ (o : Outcome). o.reply) is);
-      brings = subst (λ q. Brings q t s) (sym a.plan) tt;
-    }
-
 -- the places of those that pass, the first of these standing at k
 abbrev pub places_at : (LogRecord → Bool) → ℕ → List LogRecord → List ℕ
 places_at p k [] = []

@@ -115,13 +115,12 @@ fits (Plan.Wait connection n until) t m brings k at room = record {
 }
 
 pub ready : (p : Prepared) (w : MachineParts) (connection moment : ℕ) (c : Call) → IsConsistent w.memory.state → IsLawful w.memory.state (Step.Call connection moment c)
-    → Makes p moment w.memory.state (outcome_of c connection) → HasRoomFor p.plan w.memory → length w.events + length p.events.items ≤ w.places → IsFor p w (asked_by connection moment c)
-ready p w connection moment c k lawful makes room places = record {
+    → Makes p moment w.memory.state (outcome_of c connection) → HasRoomFor p.plan w.memory → IsFor p w (asked_by connection moment c)
+ready p w connection moment c k lawful makes room = record {
   moment = makes.moment;
   effect = makes.effect;
   events = makes.events;
   reply = makes.reply;
   fits = fits p.plan moment w.memory makes.brings k (timely_call w.memory.state connection moment c k lawful) room;
   kept = kept_call w.memory.state connection moment c k lawful;
-  places = places;
 }

@@ -44,11 +44,10 @@ makes_drop p t s ticket e =
 
 -- it may be committed on a machine that made no room for it
 pub ready_drop : (p : Prepared) (w : MachineParts) (connection moment ticket : ℕ) → IsConsistent w.memory.state → IsLawful w.memory.state (Step.Call connection moment (Call.Drop ticket)) → IsEnding moment Dropped ticket p
-    → length w.events ≤ w.places → IsFor p w (asked_by connection moment (Call.Drop ticket))
-ready_drop p w connection moment ticket k lawful e fit =
-    let none : length p.events.items ≡ 0 = ap length e.events in
+    → IsFor p w (asked_by connection moment (Call.Drop ticket))
+ready_drop p w connection moment ticket k lawful e =
     ready p w connection moment (Call.Drop ticket) k lawful (makes_drop p moment w.memory.state ticket e)
-    (subst (λ q. HasRoomFor q w.memory) (sym e.plan) tt) (omega (arith, none, fit))
+    (subst (λ q. HasRoomFor q w.memory) (sym e.plan) tt)
 
 -- what isn't one
 pub not_drop : (c : Call) → ((n : ℕ) → c ≡ Call.Drop n → ⊥) → IsFalse (is_drop c)

@@ -1,5 +1,5 @@
 -- own: when a prepared due step may be committed, and what the commit does.
-use Rattle.std.specs.Prelude.{◌≡◌, ◌+◌, ◌≤◌, ◌++◌, Option, Some, None, length}
+use Rattle.std.specs.Prelude.{◌≡◌, Option, Some, None}
 use Rattle.engine_text.specs.declared.step.DueAction.{DueAction}
 use Rattle.machine_model.specs.State.{State}
 use Rattle.machine_model.specs.Chain.{Effect}
@@ -31,9 +31,8 @@ pub record IsForDue (p : PreparedDue) (w : MachineParts) : Type 0 where
   pub events : p.events.items ≡ (due_at due w.memory.state).events
   pub fits : FitsDue p.plan (standing due.moment w.memory)
   pub kept : IsConsistent (finished 0 (due_at due w.memory.state)).state
-  pub places : length w.events + length p.events.items ≤ w.places
 
 -- The machine after a due step, if there is one.
 abbrev pub IsStepped : Option Effect → MachineParts → MachineParts → Type 0
 IsStepped None before after = ⊥
-IsStepped (Some e) before after = (after.memory.state ≡ e.state) × (after.events ≡ before.events ++ e.events)
+IsStepped (Some e) before after = after.memory.state ≡ e.state

@@ -1,8 +1,8 @@
 -- own: what a call that is made ready will do.
 use Rattle.std.specs.Prelude.{◌≡◌, ℕ, List, [], Some}
 use Rattle.engine_text.specs.declared.container.Container.{Container}
-use Rattle.engine_text.specs.declared.reply.LogSpec.{LogSpec}
-use Rattle.engine_text.specs.declared.reply.Reply.TheVariants.{Answer, LogStream}
+use Rattle.engine_text.specs.declared.reply.Reply.{Reply}
+use Rattle.engine_text.specs.declared.reply.Reply.TheVariants.{Answer}
 use Rattle.machine_model.specs.State.{State, container_numbered}
 use Rattle.machine_model.specs.Outcome.{Outcome, at_reference}
 use Rattle.machine_model.specs.Step.{at_moment}
@@ -19,10 +19,10 @@ pub record IsAnswer (at status : ℕ) (body : List ℕ) (p : Prepared) : Type 0 
   pub events : p.events.items ≡ []
   pub plan : p.plan ≡ Plan.Nothing
 
--- A stream of a log that changes nothing.
-pub record IsStream (at : ℕ) (spec : LogSpec) (p : Prepared) : Type 0 where
+-- A stream that changes nothing, by the reply that gives it.
+pub record IsStream (at : ℕ) (given : Reply) (p : Prepared) : Type 0 where
   pub moment : p.moment ≡ at
-  pub reply : p.reply ≡ LogStream spec
+  pub reply : p.reply ≡ given
   pub events : p.events.items ≡ []
   pub plan : p.plan ≡ Plan.Nothing
 

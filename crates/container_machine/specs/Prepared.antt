@@ -1,8 +1,7 @@
 -- own: when a prepared call may be committed, and what the commit does.
-use Rattle.std.specs.Prelude.{◌≡◌, ℕ, ◌+◌, ◌≤◌, ◌++◌, length, Result, Ok, Err}
+use Rattle.std.specs.Prelude.{◌≡◌, ℕ}
 use Rattle.engine_text.specs.declared.call.Call.{Call}
 use Rattle.engine_text.specs.declared.reply.Reply.{Reply}
-use Rattle.engine_text.specs.declared.memory.NoMemory.{NoMemory}
 use Rattle.machine_model.specs.State.{State}
 use Rattle.machine_model.specs.Call.{outcome_of}
 use Rattle.machine_model.specs.Outcome.{Outcome}
@@ -35,7 +34,6 @@ pub record IsFor (p : Prepared) (w : MachineParts) (a : Asked) : Type 0 where
   pub reply : p.reply ≡ (outcome_at a w.memory.state).reply
   pub fits : Fits p.plan (standing a.moment w.memory)
   pub kept : IsConsistent (call_outcome a.connection a.moment a.call w.memory.state).effect.state
-  pub places : length w.events + length p.events.items ≤ w.places
 
 -- It is some call, made ready on this machine.
 abbrev pub IsForSome : Prepared → MachineParts → Type 0
@@ -45,9 +43,3 @@ IsForSome p w = (a : Asked) × IsFor p w a
 pub record IsCommitted (o : Outcome) (answer : Reply) (before after : MachineParts) : Type 0 where
   pub reply : answer ≡ o.reply
   pub state : after.memory.state ≡ o.effect.state
-  pub events : after.events ≡ before.events ++ o.effect.events
-
--- What a call that is made at once does; without memory nothing.
-abbrev pub IsAsked : Result Reply NoMemory → Outcome → MachineParts → MachineParts → Type 0
-IsAsked (Ok answer) o before after = IsCommitted o answer before after
-IsAsked (Err e) o before after = (after.memory.state ≡ before.memory.state) × (after.events ≡ before.events)

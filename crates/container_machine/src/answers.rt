@@ -3,7 +3,7 @@ ghost use Rattle.std.specs.Prelude.{◌≡◌, ℕ, IfOk, codes, string_bytes};
 ghost use Rattle.serde_json.specs.View.{view};
 ghost use Rattle.serde_json.specs.Data.{string, object, no_members, member};
 ghost use Rattle.machine_model.specs.Outcome.{message_text};
-ghost use Rattle.container_machine.specs.Making.{IsAnswer};
+ghost use Rattle.container_machine.specs.Making.{IsAnswer, IsStream};
 
 use super::plan::Plan;
 use super::prepared::Prepared;
@@ -39,6 +39,18 @@ pub fn answer(alloc: Global, moment: u64, status: u16, body: Text) -> Prepared
     Prepared {
         moment,
         reply: Reply::Answer { status, body },
+        events: Vec::new(alloc),
+        plan: Plan::Nothing,
+    }
+}
+
+/// A reply that gives a stream, without events; it changes nothing.
+pub fn stream(alloc: Global, moment: u64, reply: Reply) -> Prepared
+    ensures { IsStream moment reply result }
+{
+    Prepared {
+        moment,
+        reply,
         events: Vec::new(alloc),
         plan: Plan::Nothing,
     }

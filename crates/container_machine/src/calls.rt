@@ -1,5 +1,6 @@
 // The calls, one by one.
 pub mod create;
+pub mod events;
 pub mod execs;
 pub mod inspect;
 pub mod kill;

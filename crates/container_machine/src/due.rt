@@ -32,6 +32,15 @@ pub struct PreparedDue {
     pub(super) plan: DuePlan,
 }
 
+impl PreparedDue {
+    /// The events that the commit will have.
+    pub fn events(&self) -> &[Event]
+        ensures { result.now ≡ self.now.events.items }
+    {
+        self.events.as_slice()
+    }
+}
+
 fn death_of(number: u64, code: Option<u8>) -> Option<Death>
     ensures { deaths result ≡ died_of number code }
 {

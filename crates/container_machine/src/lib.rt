@@ -22,6 +22,6 @@ mod waiting;
 
 pub use due::PreparedDue;
 pub use log_part::LogPart;
-pub use machine::{Machine, ask};
+pub use machine::Machine;
 pub use prepared::Prepared;
 pub use selection::is_selected;

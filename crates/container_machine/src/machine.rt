@@ -1,5 +1,5 @@
-// The machine: its tables and the events so far.
-ghost use Rattle.std.specs.Prelude.{◌≡◌, ℕ, ◌+◌, ◌<◌, ◌≤◌, [], ◌++◌, length, vec_len, vec_capacity, IfOk, OnErr, OnOk, IsFalse, IsTrue};
+// The machine over its tables.
+ghost use Rattle.std.specs.Prelude.{◌≡◌, ℕ, ◌≤◌, IfOk, OnErr, OnOk, IsFalse, IsTrue};
 ghost use Rattle.machine_model.specs.Step.{call_outcome, due_step};
 ghost use Rattle.engine_text.specs.declared.step.Step as steps;
 ghost use Rattle.machine_model.specs.Call.{outcome_of};
@@ -12,14 +12,14 @@ ghost use Rattle.container_machine.specs.Dues.{IsForDue, IsStepped};
 ghost use Rattle.container_machine.specs.Making.{Makes};
 ghost use Rattle.container_machine.specs.Plans.{HasRoomFor};
 ghost use Rattle.machine_model.specs.Consistency.{IsConsistent};
-ghost use Rattle.container_machine.specs.Prepared.{Asked, asked_by, IsFor, IsForSome, IsCommitted, IsAsked};
+ghost use Rattle.container_machine.specs.Prepared.{Asked, asked_by, IsFor, IsForSome, IsCommitted};
 
 use super::calls::execs::create::ExecAsk;
 use super::due::{DuePlan, PreparedDue};
 use super::plan::{Plan, perform};
 use super::prepared::Prepared;
 use super::{calls, due};
-use engine_text::{Call, Event, NoMemory, Reply};
+use engine_text::{Call, NoMemory, Reply};
 use machine_effects::Tables;
 use std::alloc::Global;
 use std::marker::Model;
@@ -28,7 +28,6 @@ use std::marker::Model;
 #[derive(Drop)]
 pub struct Machine {
     pub(super) tables: Tables,
-    pub(super) events: Vec<Event>,
 }
 
 impl Model for Machine {
@@ -43,26 +42,14 @@ impl Model for Machine {
     ghost invariant = { IsSoundInside };
 }
 
-// These events come at the end, for which there is room.
-fn append_reserved(events: &mut Vec<Event>, mut more: Vec<Event>)
-    requires { vec_len events.old + vec_len more ≤ vec_capacity events.old }
-    ensures { events.new.items ≡ events.old.items ++ more.items }
-{
-    let _ = events.append(&mut more);
-}
-
 impl Machine {
-    /// No container, no event. The moment is at most the greatest one.
+    /// No container. The moment is at most the greatest one.
     pub fn new(alloc: Global, seed: [u8; 32], moment: u64) -> Result<Machine, NoMemory>
         requires { moment ≤ greatest_moment }
-        ensures state { IfOk result (λ m. m.memory.state ≡ initial_state seed moment) }
-        ensures events { IfOk result (λ m. m.events ≡ []) }
+        ensures { IfOk result (λ m. m.memory.state ≡ initial_state seed moment) }
     {
         let tables = Tables::new(alloc, seed, moment)?;
-        Ok(Machine {
-            tables,
-            events: Vec::new(alloc),
-        })
+        Ok(Machine { tables })
     }
 
     // The call as it is answered in this state.
@@ -83,6 +70,11 @@ impl Machine {
         self.kept();
         match call {
             Call::Create(asked) => calls::create::prepare(&self.tables, alloc, moment, asked),
+            Call::Events {
+                since,
+                until,
+                filter,
+            } => calls::events::prepare(&self.tables, alloc, moment, *since, *until, filter),
             Call::ExecCreate {
                 target,
                 words,
@@ -170,26 +162,14 @@ impl Machine {
         ensures state { IsConsistent self.now.memory.state }
         ensures moments { 65536 ≤ self.now.memory.room.moments }
     {
-        let _ = &self.events;
+        let _ = &self.tables;
     }
 
-    // No more events stand than have room.
-    fn fits(&self)
-        ensures { length self.now.events ≤ self.now.places }
-    {
-        let _ = self.events.capacity();
-    }
-
-    // Room for that, and for so many events.
-    fn make_room(&mut self, alloc: Global, plan: &Plan, events: usize) -> Result<(), NoMemory>
+    // Room for that.
+    fn make_room(&mut self, alloc: Global, plan: &Plan) -> Result<(), NoMemory>
         ensures state { self.new.memory.state ≡ self.old.memory.state }
-        ensures events { self.new.events ≡ self.old.events }
-        ensures places { OnOk result (length self.new.events + events ≤ self.new.places) }
         ensures room { OnOk result (HasRoomFor plan.now self.new.memory) }
     {
-        if self.events.reserve(events).is_err() {
-            return Err(NoMemory);
-        }
         match plan {
             Plan::Nothing => Ok(()),
             Plan::Create { held, .. } => self
@@ -228,17 +208,15 @@ impl Machine {
         requires lawful { IsLawful self.old.memory.state (steps.Step.Call conn moment call.now) }
         requires built { IsTrue (is_built call.now) }
         ensures state { self.new.memory.state ≡ self.old.memory.state }
-        ensures events { self.new.events ≡ self.old.events }
         ensures ready { IfOk result (λ p. IsFor p self.new (asked_by conn moment call.now)) }
         ensures drop { OnErr result (IsFalse (is_drop call.now)) }
     {
         self.kept();
-        self.fits();
         if let Call::Drop { ticket } = call {
             return Ok(calls::take::prepare_drop(alloc, moment, *ticket));
         }
         let prepared = self.prepare_call(alloc, conn, moment, call)?;
-        self.make_room(alloc, &prepared.plan, prepared.events.len())?;
+        self.make_room(alloc, &prepared.plan)?;
         Ok(prepared)
     }
 
@@ -258,7 +236,6 @@ impl Machine {
         let death = perform(&mut self.tables, plan);
         self.tables.settle(death);
         self.tables.count(events.as_slice(), 1);
-        append_reserved(&mut self.events, events);
         reply
     }
 
@@ -272,21 +249,11 @@ impl Machine {
         }
     }
 
-    // Room for that, and for so many events.
-    fn make_due_room(
-        &mut self,
-        alloc: Global,
-        plan: &DuePlan,
-        events: usize,
-    ) -> Result<(), NoMemory>
+    // Room for that.
+    fn make_due_room(&mut self, alloc: Global, plan: &DuePlan) -> Result<(), NoMemory>
         ensures state { self.new.memory.state ≡ self.old.memory.state }
-        ensures events { self.new.events ≡ self.old.events }
-        ensures places { OnOk result (length self.new.events + events ≤ self.new.places) }
         ensures room { OnOk result (HasDueRoom plan.now self.new.memory) }
     {
-        if self.events.reserve(events).is_err() {
-            return Err(NoMemory);
-        }
         match plan {
             DuePlan::Op { owner, .. } => self.tables.make_op_room(alloc, *owner),
             DuePlan::StopDeadline { .. } => self.tables.make_room(alloc),
@@ -299,7 +266,6 @@ impl Machine {
     pub fn prepare_due(&mut self, alloc: Global) -> Result<PreparedDue, NoMemory>
         requires { IsLawful self.old.memory.state steps.Step.Due }
         ensures state { self.new.memory.state ≡ self.old.memory.state }
-        ensures events { self.new.events ≡ self.old.events }
         ensures ready { IfOk result (λ p. IsForDue p self.new) }
     {
         self.kept();
@@ -307,7 +273,7 @@ impl Machine {
             unreachable!()
         };
         let prepared = due::prepare(&self.tables, alloc, action)?;
-        self.make_due_room(alloc, &prepared.plan, prepared.events.len())?;
+        self.make_due_room(alloc, &prepared.plan)?;
         Ok(prepared)
     }
 
@@ -325,23 +291,5 @@ impl Machine {
         let death = due::perform(&mut self.tables, plan);
         self.tables.settle(death);
         self.tables.count(events.as_slice(), 0);
-        append_reserved(&mut self.events, events);
     }
-}
-
-/// Makes a lawful call, and answers it; out of memory it changes nothing. A drop takes none.
-pub fn ask(
-    machine: &mut Machine,
-    alloc: Global,
-    conn: u32,
-    moment: u64,
-    call: &Call,
-) -> Result<Reply, NoMemory>
-    requires lawful { IsLawful machine.old.memory.state (steps.Step.Call conn moment call.now) }
-    requires built { IsTrue (is_built call.now) }
-    ensures made { IsAsked result (call_outcome conn moment call.now machine.old.memory.state) machine.old machine.new }
-    ensures drop { OnErr result (IsFalse (is_drop call.now)) }
-{
-    let prepared = machine.prepare(alloc, conn, moment, call)?;
-    Ok(machine.commit(prepared))
 }

@@ -21,4 +21,11 @@ impl Prepared {
     {
         &self.reply
     }
+
+    /// The events that the commit will have.
+    pub fn events(&self) -> &[Event]
+        ensures { result.now ≡ self.now.events.items }
+    {
+        self.events.as_slice()
+    }
 }

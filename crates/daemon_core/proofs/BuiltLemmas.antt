@@ -1,5 +1,5 @@
--- What the calls that are built do: they stand at their moment, begin no other stream than a log's, and may be made behind
--- what is due.
+-- What the calls that are built do: they stand at their moment, begin no other stream than a log's or one of events, and may
+-- be made behind what is due.
 use Rattle.std.specs.Prelude.{is_some, unwrap_or, option_and_then}
 use Rattle.std.specs.Option.{option_and_then, option_map_or}
 use Rattle.std.proofs.Common.{◌≡◌, ◌⊎◌, inl, inr, ℕ, List, [], ◌∷◌, refl, subst, sym, ◌∙◌, Bool, true, false, ◌&&◌, ◌||◌, ◌==◌, not, Option, Some, None, find, arith}
@@ -30,7 +30,7 @@ use Rattle.machine_model.proofs.ReplyLemmas.{replies_from}
 use Rattle.session_model.specs.Moments.{ComesTo}
 use Rattle.call_bounds.specs.Built.{is_built}
 use Rattle.session_model.specs.Turning.{GivesNoTicket, IsNotReady}
-use Rattle.daemon_core.specs.Whole.{IsAnswer, IsPlain}
+use Rattle.daemon_core.specs.Whole.{IsAnswer, IsPlain, gives_stream}
 use Rattle.daemon_core.specs.Storing.{HoldsTicket, IsClear, is_open}
 
 -- ---- any call
@@ -79,10 +79,6 @@ are_codes : (c : Call) → list_all is_code (statuses_of c) ≡ true
 are_codes (call.Take ticket) = refl
 are_codes c = refl
 
-no_events : (c : Call) → IsTrue (is_built c) → IsTrue (gives_events c) → ⊥
-no_events (call.Events since until filter) built h = false≢true built
-no_events c built h = false≢true h
-
 no_journal : (c : Call) → IsTrue (is_built c) → IsTrue (gives_journal c) → ⊥
 no_journal call.JournalRead built h = false≢true built
 no_journal c built h = false≢true h
@@ -96,30 +92,45 @@ plain_reply : (c : Call) (r : Reply) → IsTrue (is_built c) → IsTrue (is_repl
 plain_reply c (reply.Answer status body) built h = is_one (statuses_of c) status (are_codes c) h
 plain_reply c (reply.Begun ticket) built h = tt
 plain_reply c (reply.LogStream spec) built h = tt
-plain_reply c (reply.EventStream first until filter) built h = no_events c built h
+plain_reply c (reply.EventStream first until filter) built h = tt
 plain_reply c (reply.JournalStream count) built h = no_journal c built h
 plain_reply c (reply.Fed taken) built h = no_feed c built h
 plain_reply c reply.Dropped built h = tt
 
--- a call that is built begins no other stream than a log's, and feeds none
+-- a call that is built begins no other stream than these, and feeds none
 pub built_answers : (c : Call) → IsTrue (is_built c) → (s : State) → HaveReplies s → (k t : ℕ) → IsPlain (reply_of s k t c)
 built_answers c built s have k t = plain_reply c (reply_of s k t c) built ((obeys c k (at_moment t s)).reply have)
 
--- and where it gives no log, and neither gives nor ends a ticket, it is answered whole
-whole_reply : (c : Call) (r : Reply) → IsPlain r → GivesNoTicket r → IsFalse (ends_ticket c) → IsFalse (gives_log c)
-    → IsTrue (is_reply_of c r) → IsAnswer r
-whole_reply c (reply.Answer status body) plain gives none log h = plain
-whole_reply c (reply.Begun ticket) plain gives none log h = gives
-whole_reply c (reply.LogStream spec) plain gives none log h = false≢true (sym log ∙ h)
-whole_reply c (reply.EventStream first until filter) plain gives none log h = plain
-whole_reply c (reply.JournalStream count) plain gives none log h = plain
-whole_reply c (reply.Fed taken) plain gives none log h = plain
-whole_reply c reply.Dropped plain gives none log h = false≢true (sym none ∙ h)
+-- of what one of several gives, each gives none where none does
+or_left : (x y : Bool) → IsFalse (x || y) → IsFalse x
+or_left false y h = refl
+or_left true y h = absurd (false≢true (sym h))
 
-pub built_whole : (c : Call) → IsTrue (is_built c) → IsFalse (ends_ticket c) → IsFalse (gives_log c) → (s : State) → HaveReplies s
+or_right : (x y : Bool) → IsFalse (x || y) → IsFalse y
+or_right false y h = h
+or_right true y h = absurd (false≢true (sym h))
+
+no_log : (c : Call) → IsFalse (gives_stream c) → IsFalse (gives_log c)
+no_log c none = or_left (gives_log c) (gives_events c) (or_left (gives_log c || gives_events c) (gives_journal c) none)
+
+no_events : (c : Call) → IsFalse (gives_stream c) → IsFalse (gives_events c)
+no_events c none = or_right (gives_log c) (gives_events c) (or_left (gives_log c || gives_events c) (gives_journal c) none)
+
+-- and where it gives no stream, and neither gives nor ends a ticket, it is answered whole
+whole_reply : (c : Call) (r : Reply) → IsPlain r → GivesNoTicket r → IsFalse (ends_ticket c) → IsFalse (gives_stream c)
+    → IsTrue (is_reply_of c r) → IsAnswer r
+whole_reply c (reply.Answer status body) plain gives none stream h = plain
+whole_reply c (reply.Begun ticket) plain gives none stream h = gives
+whole_reply c (reply.LogStream spec) plain gives none stream h = false≢true (sym (no_log c stream) ∙ h)
+whole_reply c (reply.EventStream first until filter) plain gives none stream h = false≢true (sym (no_events c stream) ∙ h)
+whole_reply c (reply.JournalStream count) plain gives none stream h = plain
+whole_reply c (reply.Fed taken) plain gives none stream h = plain
+whole_reply c reply.Dropped plain gives none stream h = false≢true (sym none ∙ h)
+
+pub built_whole : (c : Call) → IsTrue (is_built c) → IsFalse (ends_ticket c) → IsFalse (gives_stream c) → (s : State) → HaveReplies s
     → (k t : ℕ) → GivesNoTicket (reply_of s k t c) → IsAnswer (reply_of s k t c)
-built_whole c built none log s have k t gives =
-    whole_reply c (reply_of s k t c) (built_answers c built s have k t) gives none log ((obeys c k (at_moment t s)).reply have)
+built_whole c built none stream s have k t gives =
+    whole_reply c (reply_of s k t c) (built_answers c built s have k t) gives none stream ((obeys c k (at_moment t s)).reply have)
 
 -- a take that is ready is answered whole
 given_whole : (o : Option Reply) → IsTrue (is_some o) → IsTicketReply o → IsAnswer (unwrap_or o reply.Dropped)
@@ -143,9 +154,10 @@ take_answers n s have ready k t = take_by n s.tickets (ticket_numbered n s) refl
 
 -- ---- when it may be made
 
-pub built_comes : (c : Call) (ms : List ℕ) → IsTrue (is_built c) → ComesTo true c ms
-built_comes (call.Events since until filter) ms h = absurd (false≢true h)
-built_comes c ms h = tt
+-- a call that gives no events comes to no moment
+pub no_events_comes : (c : Call) (ms : List ℕ) → IsFalse (gives_events c) → ComesTo true c ms
+no_events_comes (call.Events since until filter) ms none = absurd (false≢true (sym none))
+no_events_comes c ms none = tt
 
 -- but for a take it is ready at once
 pub built_ready : (c : Call) (s : State) → IsTrue (is_built c) → IsFalse (ends_ticket c) → is_ready s c ≡ true

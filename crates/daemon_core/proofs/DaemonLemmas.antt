@@ -20,10 +20,12 @@ use Rattle.session_model.specs.declared.turned.Turned.TheVariants as T
 use Rattle.session_model.specs.Turning.{Turn, TurnSays, Makes, MakesAt, GivesNoTicket, IsNotReady}
 use Rattle.call_bounds.specs.Built.{is_built}
 use Rattle.daemon_core.specs.Passing.{charter}
+use Rattle.daemon_core.specs.Telling.{IsTold}
 use Rattle.daemon_core.specs.declared.stored.Stored.{Stored}
 use Rattle.daemon_core.specs.declared.daemon.Daemon.{Daemon}
 use Rattle.daemon_core.specs.Storing.{pass_of, is_call, Adds, AddsDues, IsClear, HoldsTicket, Ends, turned_by, drop_of, is_open, charter_for, moment_of}
 use Rattle.daemon_core.proofs.BuiltLemmas.{built_lawful, waits}
+use Rattle.daemon_core.proofs.RingLemmas.{ring_held}
 use Rattle.daemon_core.proofs.TicketLemmas.{none_dropped}
 use Rattle.daemon_core.proofs.DueLemmas.{all_made, dues_calls, dues_own}
 
@@ -36,6 +38,10 @@ pub record Stands (ch : Charter) (s : State) (h : List Step) : Type 0 where
 
 pub as_stored : (d : Stored) (x : State) → d.machine.memory.state ≡ x → d ≡ record d { machine = record d.machine { memory = record d.machine.memory { state = x } } }
 as_stored d x e = ap (λ y. record d { machine = record d.machine { memory = record d.machine.memory { state = y } } }) e
+
+-- its ring goes with its history
+pub told_of : (d : Daemon) → IsTold (charter d) d.stored
+told_of d = record { state = ap (λ (x : Stored). x.machine.memory.state) d.state; ring = ring_held (charter d) d.stored d.told }
 
 pub stands : (d : Daemon) → Stands (charter d) d.stored.machine.memory.state d.stored.steps.items
 stands d = record { is = ap (λ (x : Stored). x.machine.memory.state) d.state; legal = d.legal }

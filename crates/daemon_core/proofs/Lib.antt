@@ -2,7 +2,11 @@ pub mod BuiltLemmas
 pub mod TicketLemmas
 pub mod CountLemmas
 pub mod DueLemmas
+pub mod TellLemmas
+pub mod RingLemmas
 pub mod DaemonLemmas
 pub mod WrittenLemmas
 pub mod StampLemmas
 pub mod PartLemmas
+pub mod LineLemmas
+pub mod EventLemmas

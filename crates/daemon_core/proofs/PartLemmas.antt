@@ -1,5 +1,5 @@
 -- A part of a log's stream, of what the machine tells and what was appended.
-use Rattle.std.proofs.Common.{◌≡◌, ◌≤◌, ◌<◌, ◌+◌, ◌∷◌, min, ℕ, List, [], ◌++◌, refl, sym, ◌∙◌, ap, subst, arith, false, Option, Some, None, unwrap_or, drop, take, length, length-take, length-drop}
+use Rattle.std.proofs.Common.{◌≡◌, ◌≤◌, ◌<◌, ◌+◌, ◌∷◌, min, ℕ, List, [], ◌++◌, sym, ◌∙◌, ap, subst, arith, false, Option, Some, None, unwrap_or, drop, take, length, length-take, length-drop}
 use Rattle.std.proofs.lemmas.Bool.Decides.{nat_tests}
 use Rattle.std.proofs.lemmas.List.{take-take, drop-take}
 use Rattle.engine_text.specs.declared.log.LogRecord.{LogRecord}
@@ -15,7 +15,8 @@ use Rattle.session_model.specs.declared.turned.Part.{Part}
 use Rattle.session_model.specs.declared.turned.Part.TheVariants as P
 use Rattle.session_model.specs.declared.turned.Turned.TheVariants as T
 use Rattle.daemon_core.specs.Framing.{IsTimed, Passes, asked_bytes}
-use Rattle.daemon_core.specs.LogTurns.{GoesOn, LogDues, LogSays, LogTurn, ends_by}
+use Rattle.daemon_core.specs.LogTurns.{GoesOn, LogSays, ends_by}
+use Rattle.daemon_core.specs.PartTurns.{PartDues, PartTurn}
 use Rattle.daemon_core.proofs.StampLemmas.{all_dropped, all_taken, log_timed}
 
 -- ---- records of a log from a place on
@@ -83,21 +84,23 @@ some_first s u [] h = tt
 some_first s u (Step.Due ∷ ds) h = (h.0, some_first (after_step s Step.Due) u ds h.1)
 some_first s u (Step.Call k t c ∷ ds) h = absurd h
 
-dues_of : (s : State) (u : ℕ) (part : Part) (ds : List Step) → DuesUntil s u ds → LogDues s u part ds
+dues_of : (s : State) (u : ℕ) (part : Part) (ds : List Step) → DuesUntil s u ds → PartDues s u part ds
 dues_of s u P.NoMemory ds h = some_first s u ds h
 dues_of s u (P.More next) ds h = h
 dues_of s u P.UpToDate ds h = h
 dues_of s u P.Whole ds h = h
 dues_of s u (P.Gone next first) ds h = h
 
-pub part_told : (k handed : ℕ) (spec : LogSpec) (place : ℕ) (part : Part) (old new : List ℕ) (p q : PassView) → Turn k handed None T.Nothing p q
-    → LogSays (state_after q.charter q.seen) spec place part old new → LogTurn k handed spec place part old new p q
-part_told k handed spec place part old new p q turn says = record {
+-- a part was told of the history behind it
+pub part_told : (k handed : ℕ) (part : Part) (told : Charter → List Step → Type 0) (p q : PassView) → Turn k handed None T.Nothing p q
+    → told q.charter q.seen → PartTurn k handed part told p q
+part_told k handed part told p q turn says = record {
   turns = turn.turns;
   dues = dues_of _ _ part turn.turns.own turn.says;
-  says = subst (λ ch. LogSays (state_after ch q.seen) spec place part old new) turn.turns.stays.charter says;
+  says = subst (λ ch. told ch q.seen) turn.turns.stays.charter says;
 }
 
-pub part_short : (k handed : ℕ) (spec : LogSpec) (place : ℕ) (out : List ℕ) (p q : PassView) → Turn k handed None T.NoMemory p q
-    → LogTurn k handed spec place P.NoMemory out out p q
-part_short k handed spec place out p q turn = record { turns = turn.turns; dues = turn.says; says = refl }
+-- or there was no memory
+pub part_short : (k handed : ℕ) (told : Charter → List Step → Type 0) (p q : PassView) → Turn k handed None T.NoMemory p q
+    → told p.charter q.seen → PartTurn k handed P.NoMemory told p q
+part_short k handed told p q turn says = record { turns = turn.turns; dues = turn.says; says = says }

@@ -4,7 +4,7 @@ ghost use Rattle.session_model.proofs.PassLemmas.{none_joined};
 ghost use Rattle.daemon_core.specs.Passing.{whole_pass};
 
 use crate::{Daemon, Turns};
-use engine_text::{Call, LogSpec};
+use engine_text::{Call, Filter, LogSpec};
 use session_model::{Part, Turned};
 use std::alloc::Global;
 
@@ -47,6 +47,20 @@ impl Turns for Alone {
         out: &mut Vec<u8>,
     ) -> Part {
         self.daemon.log_from(alloc, conn, handed, spec, place, out)
+    }
+
+    fn events_from(
+        &mut self,
+        alloc: Global,
+        conn: u32,
+        handed: u64,
+        number: u64,
+        out: &mut Vec<u8>,
+        filter: &Filter,
+        until: Option<u64>,
+    ) -> Part {
+        self.daemon
+            .events_from(alloc, conn, handed, number, out, filter, until)
     }
 
     ghost sound = { λ a. a.daemon.legal };

@@ -4,6 +4,7 @@ ghost use Rattle.std.specs.Coded.{Coded-set};
 ghost use Rattle.machine_model.specs.History.{IsLegal, state_after, greatest_moment};
 ghost use Rattle.machine_model.proofs.Histories.{IsLegal-prop};
 ghost use Rattle.daemon_core.specs.Storing.{charter_of, turned_by};
+ghost use Rattle.daemon_core.specs.Telling.{last_events};
 
 use crate::moment::moment_used;
 use crate::ready::{drop_of, is_open};
@@ -11,10 +12,11 @@ use crate::room::has_room;
 use crate::stored::Stored;
 use container_machine::Machine;
 use engine_text::{Call, NoMemory, Reply};
+use event_ring::Ring;
 use session_model::Turned;
 use std::alloc::Global;
 
-/// A machine and its history so far, under what no step changes: the seed of ids, the moment of the
+/// A machine, its history so far, and the last events of this, under what no step changes: the seed of ids, the moment of the
 /// opening in milliseconds, and the greatest number of calls.
 #[derive(Drop)]
 pub struct Daemon {
@@ -23,6 +25,8 @@ pub struct Daemon {
     pub(crate) opening: u64,
     pub(crate) greatest: u64,
     pub(crate) ghost state: { stored ≡ record stored { machine = record stored.machine { memory = record stored.machine.memory { state = state_after (charter_of seed opening greatest) stored.steps.items } } } } by { Coded-set stored-code stored _ },
+    // The ring holds the last events of the history.
+    pub(crate) ghost told: { stored ≡ record stored { ring = last_events (charter_of seed opening greatest) stored.steps.items } } by { Coded-set stored-code stored _ },
     pub(crate) ghost legal: { IsLegal (charter_of seed opening greatest) stored.steps.items } by { IsLegal-prop (charter_of seed opening greatest) stored.steps.items },
     pub(crate) ghost counted: { length stored.steps.items < 2 ^ 64 },
     // The end of each ticket that stands has its place among the steps.
@@ -64,6 +68,7 @@ impl Daemon {
             stored: Stored {
                 machine: Machine::new(alloc, seed, moment)?,
                 steps: Vec::new(alloc),
+                ring: Ring::new(alloc)?,
             },
             seed,
             opening: moment,

@@ -2,6 +2,7 @@
 ghost use Rattle.std.specs.Prelude.{◌≡◌, ◌+◌, ◌≤◌, false, length, vec_capacity, vec_len, OnOk};
 ghost use Rattle.machine_model.specs.History.{acts_by, latest};
 ghost use Rattle.daemon_core.specs.Storing.{AddsDues};
+ghost use Rattle.daemon_core.specs.Telling.{IsToldBySome, KeepsTold};
 
 use crate::room::has_steps;
 use crate::stored::Stored;
@@ -20,9 +21,11 @@ impl Stored {
     /// made, or memory is refused.
     pub fn run_due(&mut self, alloc: Global, moment: u64) -> Result<(), NoMemory>
         requires until { moment ≤ latest self.old.machine.memory.state }
+        requires told { IsToldBySome self.old }
         requires ends { vec_len self.old.steps + length self.old.machine.memory.state.tickets ≤ vec_capacity self.old.steps }
         ensures made { AddsDues moment self.old.machine.memory.state self.new.machine.memory.state self.old.steps.items self.new.steps.items }
         ensures ends { vec_len self.new.steps + length self.new.machine.memory.state.tickets ≤ vec_capacity self.new.steps }
+        ensures told { KeepsTold self.old self.new }
         ensures all { OnOk result (acts_by self.new.machine.memory.state moment ≡ false) }
     {
         'due: while self.acts(moment) {

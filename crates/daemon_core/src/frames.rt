@@ -6,6 +6,7 @@ ghost use Rattle.machine_model.specs.Frames.{cut};
 ghost use Rattle.machine_model.specs.LogStream.{is_asked_by, stamped};
 ghost use Rattle.daemon_core.specs.Framing.{Longer, IsTimed, Passes, asked_bytes};
 
+use crate::append::append;
 use container_machine::is_selected;
 use engine_text::{LogRecord, LogSpec, NoMemory, Stream, moment_text};
 use stream_frame::header;
@@ -18,16 +19,6 @@ const PART: usize = 65_536;
 
 /// The records over which a part passes at most.
 const RECORDS: usize = 4096;
-
-fn append(out: &mut Vec<u8>, bytes: &[u8]) -> Result<(), NoMemory>
-    ensures ok { OnOk result (out.new.items ≡ out.old.items ++ bytes.now) }
-    ensures err { OnErr result (out.new.items ≡ out.old.items) }
-{
-    match out.extend_from_slice(bytes) {
-        Ok(()) => Ok(()),
-        Err(_) => Err(NoMemory),
-    }
-}
 
 // The frame of a payload that is told in two pieces.
 fn put_frame(out: &mut Vec<u8>, kind: Stream, front: &[u8], payload: &[u8]) -> Result<(), NoMemory>

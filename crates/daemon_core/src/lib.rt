@@ -2,14 +2,18 @@
 #![tactic(auto)]
 
 mod alone;
+mod append;
 mod daemon;
 mod due;
+mod events_from;
 mod frames;
+mod lines;
 mod log_from;
 mod moment;
 mod ready;
 mod room;
 mod stored;
+mod telling;
 mod turning;
 
 pub use alone::Alone;

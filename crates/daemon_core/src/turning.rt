@@ -1,13 +1,14 @@
 // Turns on the one daemon.
-ghost use Rattle.std.specs.Prelude.{ℕ};
+ghost use Rattle.std.specs.Prelude.{ℕ, ◌≤◌, length};
 ghost use Rattle.std.specs.Option.{option_map};
-ghost use Rattle.machine_model.specs.History.{IsLegal};
+ghost use Rattle.machine_model.specs.History.{IsLegal, events_of};
 ghost use Rattle.session_model.specs.Pass.{PassView, IsNumber, HasItsCalls};
 ghost use Rattle.session_model.specs.Turning.{MayAsk, Turn};
 ghost use Rattle.call_bounds.specs.Built.{AreBuilt};
+ghost use Rattle.daemon_core.specs.EventTurns.{EventTurn};
 ghost use Rattle.daemon_core.specs.LogTurns.{LogTurn};
 
-use engine_text::{Call, LogSpec};
+use engine_text::{Call, Filter, LogSpec};
 use session_model::{Part, Turned};
 use std::alloc::Global;
 
@@ -36,6 +37,23 @@ pub trait Turns: Sized {
     ) -> Part
         requires number { IsNumber (pass self.old).number conn }
         ensures { LogTurn conn handed spec.now place result out.old.items out.new.items (pass self.old) (pass self.new) };
+
+    /// A part of the stream of events from a number on, behind all that is due by the moment that counts
+    /// of the handed one: the lines of those that the filter lets pass, at or before the moment `until`,
+    /// are appended. At every other answer `out` is as before.
+    fn events_from(
+        &mut self,
+        alloc: Global,
+        conn: u32,
+        handed: u64,
+        number: u64,
+        out: &mut Vec<u8>,
+        filter: &Filter,
+        until: Option<u64>,
+    ) -> Part
+        requires number { IsNumber (pass self.old).number conn }
+        requires counted { number ≤ length (events_of (pass self.old).charter (pass self.old).seen) }
+        ensures { EventTurn conn handed filter.now until number result out.old.items out.new.items (pass self.old) (pass self.new) };
 
     /// What was seen is legal.
     ghost sound: { (t : Self) → IsLegal (pass t).charter (pass t).seen };

@@ -7,17 +7,17 @@ use Rattle.std.proofs.lemmas.Bool.Decides.{nat_tests}
 use Rattle.std.proofs.lemmas.List.Elements.{filter-append}
 use Rattle.engine_text.specs.declared.call.Call.{Call}
 use Rattle.engine_text.specs.declared.call.Call.TheVariants as call
-use Rattle.engine_text.specs.declared.reply.LogSpec.{LogSpec}
 use Rattle.engine_text.specs.declared.step.Step.{Step}
 use Rattle.machine_model.specs.State.{State}
-use Rattle.machine_model.specs.History.{Charter, IsLegal, HasNone, HasNoCall, own_calls, is_own, calls_of, bears, input_of, state_after, moment_used}
+use Rattle.machine_model.specs.History.{Charter, IsLegal, HasNone, HasNoCall, own_calls, is_own, calls_of, bears, events_of, input_of, state_after, moment_used}
 use Rattle.session_model.specs.declared.turned.Part.{Part}
 use Rattle.session_model.specs.declared.turned.Turned.{Turned}
 use Rattle.session_model.specs.Pass.{Only, is_call}
 use Rattle.session_model.specs.Turning.{Turns, Turn, TurnSays, MayAsk, HasBegun, ends_ticket}
 use Rattle.call_bounds.specs.Built.{AreBuilt}
-use Rattle.daemon_core.specs.LogTurns.{LogTurn, LogDues, LogSays}
+use Rattle.daemon_core.specs.PartTurns.{PartDues, PartTurn}
 use Rattle.daemon_core.specs.Storing.{pass_of}
+use Rattle.daemon_core.proofs.EventLemmas.{counted_on}
 use Rattle.atomic_table.specs.Seated.{TableId}
 use Rattle.atomic_table.specs.declared.shared.Seat.{Seat}
 use Rattle.turnstile.specs.declared.view.View.{View}
@@ -130,6 +130,12 @@ each_met k c v num may built o h is legal others =
       built,
     )
 
+-- nor has it fewer events
+pub counted_met : (number : ℕ) (v : View Step Opening) → number ≤ length (events_of (charter_in v.charter) v.seen)
+    → EachMet author_of IsKept v (λ o h. number ≤ length (events_of (charter_by o) h))
+counted_met number v le o h is legal others =
+    counted_on (charter_by o) v.seen h others.more number (subst (λ ch. number ≤ length (events_of ch v.seen)) (ap charter_in is) le) others.is
+
 -- ---- joined numbers
 
 not_on : (b : Bool) (n : ℕ) → bit b + n ≡ 0 → (b ≡ false) × (n ≡ 0)
@@ -231,16 +237,16 @@ shared table table' same_table k handed c a v w num apart t =
       says = subst (λ (z : Charter × List Step). TurnSays z.0 (state_after z.0 z.1) k handed c a own) (λ i. (sym under i, t.others.is i)) t.answer.says;
     }
 
--- ---- a part of a log
+-- ---- a part of a stream
 
 -- what a daemon's own asking for it makes
-pub part_of : (o : Opening) (ch' : Charter) (k handed : ℕ) (spec : LogSpec) (place : ℕ) (a : Part) (old new : List ℕ) (h h' : List Step)
-    → LogTurn k handed spec place a old new (pass_of (charter_by o) h) (pass_of ch' h') → MakesPart o k handed spec place a old new h h'
-part_of o ch' k handed spec place a old new h h' turn =
+pub part_of : (o : Opening) (ch' : Charter) (k handed : ℕ) (a : Part) (told : Charter → List Step → Type 0) (h h' : List Step)
+    → PartTurn k handed a told (pass_of (charter_by o) h) (pass_of ch' h') → MakesPart o k handed a told h h'
+part_of o ch' k handed a told h h' turn =
     let t = turn.turns in
     let here : h ++ t.others ≡ h = ap (λ x. h ++ x) (t.alone refl) ∙ append-nil h in
     let at : h' ≡ h ++ t.own = t.seen ∙ ap (λ x. x ++ t.own) here in
-    let Dues : State → Type 0 = λ s. LogDues s (moment_used s handed) a t.own in
+    let Dues : State → Type 0 = λ s. PartDues s (moment_used s handed) a t.own in
     record {
       own = t.own;
       is = at;
@@ -250,23 +256,22 @@ part_of o ch' k handed spec place a old new h h' turn =
       says = turn.says;
     }
 
-pub part_by_one : (o : Opening) (k handed : ℕ) (spec : LogSpec) (place : ℕ) (a : Part) (old new : List ℕ) (h h' : List Step)
-    → MakesPart o k handed spec place a old new h h' → ByOne author_of k h h'
-part_by_one o k handed spec place a old new h h' m = record { more = m.own; is = m.is; own = only_of k m.own m.only }
+pub part_by_one : (o : Opening) (k handed : ℕ) (a : Part) (told : Charter → List Step → Type 0) (h h' : List Step)
+    → MakesPart o k handed a told h h' → ByOne author_of k h h'
+part_by_one o k handed a told h h' m = record { more = m.own; is = m.is; own = only_of k m.own m.only }
 
-pub shared_part : (t t' : TableId) → t' ≡ t → (k handed : ℕ) (spec : LogSpec) (place : ℕ) (a : Part) (old new : List ℕ) (v w : View Step Opening)
-    → v.number ≡ k → times v.number v.joined_calls ≡ 0
-    → TurnedBy author_of IsKept (λ o h h'. MakesPart o k handed spec place a old new h h') v w
-    → LogTurn k handed spec place a old new (shared_pass t v) (shared_pass t' w)
+pub shared_part : (t t' : TableId) → t' ≡ t → (k handed : ℕ) (a : Part) (told : Charter → List Step → Type 0) (v w : View Step Opening)
+    → v.number ≡ k → times v.number v.joined_calls ≡ 0 → TurnedBy author_of IsKept (λ o h h'. MakesPart o k handed a told h h') v w
+    → PartTurn k handed a told (shared_pass t v) (shared_pass t' w)
 unfolding shared_turns
-shared_part table table' same_table k handed spec place a old new v w num apart t =
+shared_part table table' same_table k handed a told v w num apart t =
     let under : charter_in v.charter ≡ charter_by t.charter = ap charter_in t.charter_is in
     let own = t.answer.own in
-    let Dues : State → Type 0 = λ s. LogDues s (moment_used s handed) a own in
+    let Dues : State → Type 0 = λ s. PartDues s (moment_used s handed) a own in
     record {
-      turns = shared_turns table table' same_table k (λ o h h'. MakesPart o k handed spec place a old new h h') v w num apart t own t.answer.is t.answer.only;
+      turns = shared_turns table table' same_table k (λ o h h'. MakesPart o k handed a told h h') v w num apart t own t.answer.is t.answer.only;
       dues = subst (λ (z : Charter × List Step). Dues (state_after z.0 z.1)) (λ i. (sym under i, t.others.is i)) t.answer.dues;
-      says = subst (λ ch. LogSays (state_after ch w.seen) spec place a old new) (sym under) t.answer.says;
+      says = subst (λ ch. told ch w.seen) (sym under) t.answer.says;
     }
 
 -- ---- the pass

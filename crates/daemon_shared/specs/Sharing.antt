@@ -4,13 +4,12 @@ use Rattle.std.specs.List.{filter}
 use Rattle.engine_text.specs.declared.call.Call.{Call}
 use Rattle.engine_text.specs.declared.step.Step.{Step}
 use Rattle.machine_model.specs.History.{Charter, state_after, moment_used, calls_of}
-use Rattle.engine_text.specs.declared.reply.LogSpec.{LogSpec}
 use Rattle.session_model.specs.declared.turned.Part.{Part}
 use Rattle.session_model.specs.declared.turned.Turned.{Turned}
 use Rattle.session_model.specs.Pass.{PassView, Only, is_call}
 use Rattle.session_model.specs.Turning.{MayAsk, TurnSays}
 use Rattle.call_bounds.specs.Built.{AreBuilt}
-use Rattle.daemon_core.specs.LogTurns.{LogDues, LogSays}
+use Rattle.daemon_core.specs.PartTurns.{PartDues}
 use Rattle.daemon_core.specs.Storing.{charter_of, IsStored}
 use Rattle.daemon_core.specs.declared.daemon.Daemon.{Daemon}
 use Rattle.atomic_table.specs.Seated.{TableId}
@@ -72,11 +71,10 @@ pub record Makes (o : Opening) (k handed : ℕ) (c : Option Call) (a : Turned)
   pub only : filter is_call own ≡ calls_of k own
   pub says : TurnSays (charter_by o) (state_after (charter_by o) h) k handed c a own
 
--- a part of a log was asked for in the history h, behind what was due: so it was told, and appended
-pub record MakesPart (o : Opening) (k handed : ℕ) (spec : LogSpec) (place : ℕ) (a : Part) (old new : List ℕ)
-    (h h' : List Step) : Type 0 where
+-- a part of a stream was asked for in the history h, behind what was due: so it was told, and appended
+pub record MakesPart (o : Opening) (k handed : ℕ) (a : Part) (told : Charter → List Step → Type 0) (h h' : List Step) : Type 0 where
   pub own : List Step
   pub is : h' ≡ h ++ own
   pub only : filter is_call own ≡ calls_of k own
-  pub dues : LogDues (state_after (charter_by o) h) (moment_used (state_after (charter_by o) h) handed) a own
-  pub says : LogSays (state_after (charter_by o) h') spec place a old new
+  pub dues : PartDues (state_after (charter_by o) h) (moment_used (state_after (charter_by o) h) handed) a own
+  pub says : told (charter_by o) h'

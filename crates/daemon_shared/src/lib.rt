@@ -3,6 +3,7 @@
 #![tactic(auto)]
 
 mod daemon_run;
+mod event_job;
 mod gate;
 mod hall;
 mod log_job;

@@ -1,4 +1,6 @@
 // A turn that asks for a part of a log.
+ghost use Rattle.machine_model.specs.History.{state_after};
+ghost use Rattle.daemon_core.specs.LogTurns.{LogSays};
 ghost use Rattle.daemon_shared.specs.Sharing.{MakesPart};
 
 use crate::one_daemon::OneDaemon;
@@ -26,7 +28,8 @@ impl Job<OneDaemon> for LogJob {
     ghost may_meet = { λ j o h. Unit {0} };
 
     ghost may_answer = { λ j o h k a i.
-        MakesPart o j.conn j.handed j.spec j.place a j.out.items i.out.items h k };
+        MakesPart o j.conn j.handed a
+        (λ ch x. LogSays (state_after ch x) j.spec j.place a j.out.items i.out.items) h k };
 
     fn run(&mut self, value: &mut OneDaemon) -> Part {
         value.daemon.log_from(

@@ -7,10 +7,11 @@ ghost use Rattle.turnstile.specs.Turns.{IsPass};
 ghost use Rattle.daemon_shared.specs.Sharing.{charter_in, with_calls, shared_pass};
 ghost use Rattle.std.proofs.lemmas.List.Elements.{All-map};
 
+use crate::event_job::EventJob;
 use crate::log_job::LogJob;
 use crate::one_daemon::OneDaemon;
 use daemon_core::Turns;
-use engine_text::{Call, LogSpec};
+use engine_text::{Call, Filter, LogSpec};
 use session_model::{Part, Turned};
 use std::alloc::Global;
 use std::mem;
@@ -119,6 +120,31 @@ impl<'a, R: Wait> Turns for Shared<'a, R> {
             handed,
             spec: *spec,
             place,
+            out: so_far,
+        };
+        let part = self.lock.turn(self.rt, &mut self.pass, &mut job);
+        *out = job.out;
+        part
+    }
+
+    fn events_from(
+        &mut self,
+        alloc: Global,
+        conn: u32,
+        handed: u64,
+        number: u64,
+        out: &mut Vec<u8>,
+        filter: &Filter,
+        until: Option<u64>,
+    ) -> Part {
+        let so_far = mem::replace(&mut *out, Vec::new(alloc));
+        let mut job = EventJob {
+            alloc,
+            conn,
+            handed,
+            place: number,
+            filter,
+            until,
             out: so_far,
         };
         let part = self.lock.turn(self.rt, &mut self.pass, &mut job);

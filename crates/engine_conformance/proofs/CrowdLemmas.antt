@@ -8,18 +8,18 @@ use Rattle.engine_ports.specs.Rose.{Rose}
 use Rattle.engine_text.specs.declared.call.Call.{Call}
 use Rattle.engine_text.specs.declared.call.Call.TheVariants as call
 use Rattle.engine_text.specs.declared.memory.NoMemory.{NoMemory}
-use Rattle.engine_text.specs.declared.reply.LogSpec.{LogSpec}
 use Rattle.engine_text.specs.declared.step.Step.{Step}
 use Rattle.machine_model.specs.State.{State}
-use Rattle.machine_model.specs.History.{Charter, HasNone, HasNoCall, own_calls, is_own, calls_of, bears, input_of, state_after, moment_used}
+use Rattle.machine_model.specs.History.{Charter, HasNone, HasNoCall, own_calls, is_own, calls_of, bears, events_of, input_of, state_after, moment_used}
 use Rattle.session_model.specs.declared.turned.Part.{Part}
 use Rattle.session_model.specs.declared.turned.Turned.{Turned}
 use Rattle.session_model.specs.Pass.{PassView, IsConnection}
 use Rattle.session_model.specs.Turning.{Turns, Turn, TurnSays, MayAsk, HasBegun, ends_ticket}
 use Rattle.session_model.specs.Exchange.{IsQuiet}
 use Rattle.session_model.proofs.HistoryLemmas.{uncalled, quiet_same}
-use Rattle.daemon_core.specs.LogTurns.{LogTurn, LogDues, LogSays}
+use Rattle.daemon_core.specs.PartTurns.{PartDues, PartTurn}
 use Rattle.daemon_core.specs.Storing.{pass_of, is_call}
+use Rattle.daemon_core.proofs.EventLemmas.{counted_on}
 use Rattle.engine_conformance.specs.Bystanding.{Bystands}
 use Rattle.engine_conformance.specs.Crowding.{pass_among}
 use Rattle.engine_conformance.specs.Other.{nameless}
@@ -130,6 +130,12 @@ pub may_behind : (ch ch' : Charter) (k : ℕ) (h h' : List Step) (c : Option Cal
     → MayAsk ch k h c → MayAsk ch' k h' c
 may_behind ch ch' k h h' c by may = subst (λ x. MayAsk x k h' c) (sym by.charter) (may_on ch k h h' c by.quiet may)
 
+-- nor are there fewer events
+pub counted_behind : (ch ch' : Charter) (k : ℕ) (h h' : List Step) (number : ℕ) → Bystands k (pass_of ch h) (pass_of ch' h')
+    → number ≤ length (events_of ch h) → number ≤ length (events_of ch' h')
+counted_behind ch ch' k h h' number by le =
+    subst (λ x. number ≤ length (events_of x h')) (sym by.charter) (counted_on ch h h' by.quiet.0 number le by.quiet.2)
+
 rises_by : (b : Bool) (l r : ℕ) → nat_lt l 18446744073709551615 ≡ b → r ≡ min (l + 1) 18446744073709551615 → Rose l r
 rises_by true l r e is = inl (grind (arith, e, is))
 rises_by false l r e is = inr (grind (arith, e, is))
@@ -184,19 +190,19 @@ turn_behind k handed c result ch ch' ch'' h h' h'' by turn looks looks' later ro
       (met_behind k ch ch' ch'' h h' h'' by turn.turns) turn.says);
 }
 
--- a part of a log was told behind it
-pub log_behind : (k handed : ℕ) (spec : LogSpec) (place : ℕ) (part : Part) (old new : List ℕ) (ch ch' ch'' : Charter) (h h' h'' : List Step)
-    → Bystands k (pass_of ch h) (pass_of ch' h') → LogTurn k handed spec place part old new (pass_of ch' h') (pass_of ch'' h'')
+-- a part of a stream was told behind it
+pub part_behind : (k handed : ℕ) (part : Part) (told : Charter → List Step → Type 0) (ch ch' ch'' : Charter) (h h' h'' : List Step)
+    → Bystands k (pass_of ch h) (pass_of ch' h') → PartTurn k handed part told (pass_of ch' h') (pass_of ch'' h'')
     → (looks looks' : ℕ) → looks ≤ looks' → Rose looks looks'
-    → LogTurn k handed spec place part old new (pass_among k looks (pass_of ch h)) (pass_among k looks' (pass_of ch'' h''))
+    → PartTurn k handed part told (pass_among k looks (pass_of ch h)) (pass_among k looks' (pass_of ch'' h''))
 unfolding turns_behind
-log_behind k handed spec place part old new ch ch' ch'' h h' h'' by turn looks looks' later rose =
-    let Dues : State → Type 0 = λ s. LogDues s (moment_used s handed) part turn.turns.own in
+part_behind k handed part told ch ch' ch'' h h' h'' by turn looks looks' later rose =
+    let Dues : State → Type 0 = λ s. PartDues s (moment_used s handed) part turn.turns.own in
     record {
       turns = turns_behind k ch ch' ch'' h h' h'' by turn.turns looks looks' later rose;
       dues = subst (λ x. Dues (state_after x (h ++ by.quiet.0))) by.charter
           (subst (λ x. Dues (state_after ch' x)) (met_behind k ch ch' ch'' h h' h'' by turn.turns) turn.dues);
-      says = subst (λ x. LogSays (state_after x h'') spec place part old new) by.charter turn.says;
+      says = subst (λ x. told x h'') by.charter turn.says;
     }
 
 -- by the number that the connection has
@@ -207,9 +213,9 @@ turn_numbered looks looks' own own' k handed c result p q is same turn =
     subst (λ n. Turn k handed c result (pass_among own looks p) (pass_among n looks' q)) (sym (same ∙ is))
     (subst (λ n. Turn k handed c result (pass_among n looks p) (pass_among k looks' q)) (sym is) turn)
 
-pub log_numbered : (looks looks' own own' k handed : ℕ) (spec : LogSpec) (place : ℕ) (part : Part) (old new : List ℕ) (p q : PassView)
-    → own ≡ k → own' ≡ own → LogTurn k handed spec place part old new (pass_among k looks p) (pass_among k looks' q)
-    → LogTurn k handed spec place part old new (pass_among own looks p) (pass_among own' looks' q)
-log_numbered looks looks' own own' k handed spec place part old new p q is same turn =
-    subst (λ n. LogTurn k handed spec place part old new (pass_among own looks p) (pass_among n looks' q)) (sym (same ∙ is))
-    (subst (λ n. LogTurn k handed spec place part old new (pass_among n looks p) (pass_among k looks' q)) (sym is) turn)
+pub part_numbered : (looks looks' own own' k handed : ℕ) (part : Part) (told : Charter → List Step → Type 0) (p q : PassView)
+    → own ≡ k → own' ≡ own → PartTurn k handed part told (pass_among k looks p) (pass_among k looks' q)
+    → PartTurn k handed part told (pass_among own looks p) (pass_among own' looks' q)
+part_numbered looks looks' own own' k handed part told p q is same turn =
+    subst (λ n. PartTurn k handed part told (pass_among own looks p) (pass_among n looks' q)) (sym (same ∙ is))
+    (subst (λ n. PartTurn k handed part told (pass_among n looks p) (pass_among k looks' q)) (sym is) turn)

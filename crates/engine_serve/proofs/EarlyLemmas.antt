@@ -1,11 +1,9 @@
 -- What answers a wait whose head comes before it is over.
-use Rattle.std.proofs.Common.{◌≡◌, ◌≤◌, ◌<◌, length, inl, inr, ℕ, List, [], ◌∷◌, ◌++◌, append-nil, append_assoc, refl, sym, ◌∙◌, ap, subst, arith, Bool, true, false, Some, None, Option, Result, Ok, Err}
+use Rattle.std.proofs.Common.{◌≡◌, ◌≤◌, ◌<◌, length, inl, inr, ℕ, List, [], ◌∷◌, ◌++◌, append-nil, append_assoc, refl, sym, ◌∙◌, ap, subst, arith, true, Some, Result, Ok}
 use Rattle.std.specs.Prelude.{IsTrue, IsFalse}
-use Rattle.std.specs.List.{All, flat_map}
 use Rattle.std.proofs.lemmas.Bool.{false≢true}
 use Rattle.std.proofs.lemmas.List.Elements.{All-nil, All-cons}
-use Rattle.engine_ports.specs.Rose.{Rose}
-use Rattle.engine_ports.specs.Sink.{SinkView, SinkTook, IsFront, WriteSays}
+use Rattle.engine_ports.specs.Sink.{SinkView, SinkTook, WriteSays}
 use Rattle.engine_ports.specs.Source.{SourceView}
 use Rattle.engine_ports.specs.Clock.{ClockView, ClockHanded}
 use Rattle.engine_ports.specs.Door.{outside}
@@ -13,37 +11,32 @@ use Rattle.engine_ports.specs.declared.ports.Failed.{Failed}
 use Rattle.engine_ports.proofs.PortLemmas.{rose_since, sink_on, written_on}
 use Rattle.engine_text.specs.declared.call.Call.{Call}
 use Rattle.engine_text.specs.declared.call.Call.TheVariants as call
-use Rattle.engine_text.specs.declared.reply.Reply.{Reply}
 use Rattle.engine_text.specs.declared.reply.Reply.TheVariants as reply
 use Rattle.engine_text.specs.declared.step.Step.{Step}
 use Rattle.machine_model.specs.History.{Charter, IsLegal}
 use Rattle.machine_model.specs.Statuses.{ends_ticket}
-use Rattle.call_bounds.specs.Built.{is_built}
 use Rattle.http_edge.specs.Chunks.{chunk_text, last_chunk, IsChunked}
 use Rattle.http_edge.specs.Message.{Request}
 use Rattle.api_routes.specs.Class.{class_of}
 use Rattle.api_routes.specs.declared.class.Class.TheVariants.{Ask}
-use Rattle.session_model.specs.declared.ending.Ending.{Ending}
 use Rattle.session_model.specs.declared.followed.Followed.{Followed}
 use Rattle.session_model.specs.declared.followed.Followed.TheVariants as F
 use Rattle.session_model.specs.declared.terms.Terms.{Terms}
 use Rattle.session_model.specs.declared.turned.Awaited.{Awaited}
 use Rattle.session_model.specs.declared.turned.Turned.TheVariants as T
-use Rattle.session_model.specs.Exchange.{Flow, GoesOn, flow_of, call_of, is_early, BreaksWait, IsMade, ByItsTicketEarly, BrokenOffEarly}
-use Rattle.session_model.specs.Moments.{is_whole_flow}
+use Rattle.session_model.specs.Exchange.{Flow, is_early, BreaksWait, IsMade, ByItsTicketEarly, BrokenOffEarly}
 use Rattle.session_model.specs.Pass.{PassView}
 use Rattle.session_model.specs.Progress.{Moves}
 use Rattle.session_model.specs.Responses.{terms_of, early_head}
 use Rattle.session_model.specs.Session.{FollowCause}
 use Rattle.session_model.specs.Turning.{Turn}
 use Rattle.session_model.proofs.TurnLemmas.{moves_on}
-use Rattle.attach_hub.specs.Waiting.{Awaits, AwaitSays, IsDropped, Drops}
+use Rattle.daemon_core.specs.Whole.{gives_stream}
+use Rattle.attach_hub.specs.Waiting.{AwaitSays, IsDropped}
 use Rattle.attach_hub.proofs.StatusLemmas.{wait_status}
 use Rattle.engine_serve.specs.declared.went.Went.{Went}
-use Rattle.engine_serve.specs.Serving.{Sends, GoesSo, Answers, Tries}
-use Rattle.engine_serve.specs.Answering.{went_by}
-use Rattle.engine_serve.specs.Early.{one_chunk, broken_flow, SendsBody, SendsBehind, WaitsEarly, Waited, HeadWasLost}
-use Rattle.engine_serve.proofs.SendLemmas.{sent}
+use Rattle.engine_serve.specs.Serving.{Sends, GoesSo, Tries}
+use Rattle.engine_serve.specs.Early.{one_chunk, broken_flow, SendsBehind, WaitsEarly, Waited, HeadWasLost}
 use Rattle.engine_serve.proofs.AnswerLemmas.{begins_wait, tries_whole, left_tries, asks, asks_for}
 
 -- ---- what was sent
@@ -151,10 +144,10 @@ early_by k n r c result p q s u u' v w x same class early made legal first le (H
     (subst (λ ch. IsDropped ch k n q.seen s.seen) same dropped) moves tt (λ o o'. rose) sends
 
 pub waited_early : (k handed n : ℕ) (r : Request) (terms : Terms) (c : Call) (result : Went) (p q s : PassView) (u u' : SinkView)
-    (v w x : ClockView) → terms ≡ terms_of r → IsTrue p.pair → class_of r ≡ Ask c → IsTrue (is_built c) → IsFalse (ends_ticket c)
+    (v w x : ClockView) → terms ≡ terms_of r → IsTrue p.pair → class_of r ≡ Ask c → IsFalse (gives_stream c) → IsFalse (ends_ticket c)
     → IsTrue (is_early r c) → ClockHanded v (handed ∷ []) w → Turn k handed (Some c) (T.Begun n) p q
     → WaitsEarly k n terms result q s u u' w x → Tries k r result p s u u' v x
-waited_early k handed n r terms c result p q s u u' v w x is pair class built kind early clock turn waits =
-    let first = begins_wait k handed n c p q v w pair built kind clock turn in
+waited_early k handed n r terms c result p q s u u' v w x is pair class whole kind early clock turn waits =
+    let first = begins_wait k handed n c p q v w pair whole kind clock turn in
     early_by k n r c result p q s u u' v w x turn.turns.stays.charter class early first.0 turn.turns.legal first.1 clock.stops
     (subst (λ y. WaitsEarly k n y result q s u u' w x) is waits)

@@ -1,28 +1,26 @@
--- What answers a request for a log: the stream that its call gives, by chunks, or its refusal.
-use Rattle.std.proofs.Common.{◌≡◌, ◌≤◌, ◌⊎◌, inl, inr, ℕ, List, [], ◌∷◌, ◌++◌, append-nil, append_assoc, refl, sym, ◌∙◌, ap, subst, arith, Bool, true, false, if◌then◌else◌, Some, None, Option, Result, Ok, Err}
-use Rattle.std.specs.Prelude.{IsTrue, IsFalse}
+-- What answers a request for a log or for events: the stream that its call gives, by chunks, or its refusal.
+use Rattle.std.proofs.Common.{◌≡◌, ◌≤◌, inl, inr, ℕ, List, [], ◌∷◌, ◌++◌, append-nil, append_assoc, refl, sym, ◌∙◌, ap, subst, arith, Bool, true, false, if◌then◌else◌, Some, None, Err}
+use Rattle.std.specs.Prelude.{IsSome, IsTrue, unwrap_or}
 use Rattle.std.proofs.lemmas.Bool.{false≢true}
 use Rattle.engine_ports.specs.Sink.{SinkView, SinkTook, IsFront, WriteSays}
 use Rattle.engine_ports.specs.Source.{SourceView}
 use Rattle.engine_ports.specs.Clock.{ClockView, ClockHanded}
 use Rattle.engine_ports.specs.Door.{outside}
 use Rattle.engine_ports.specs.declared.ports.Failed.{Failed}
-use Rattle.engine_ports.proofs.PortLemmas.{rose_since, sink_on}
+use Rattle.engine_ports.proofs.PortLemmas.{clock_on, rose_since, sink_on}
 use Rattle.engine_text.specs.declared.call.Call.{Call}
 use Rattle.engine_text.specs.declared.call.Call.TheVariants as call
-use Rattle.engine_text.specs.declared.reply.LogSpec.{LogSpec}
 use Rattle.engine_text.specs.declared.reply.Reply.{Reply}
 use Rattle.engine_text.specs.declared.reply.Reply.TheVariants as reply
 use Rattle.engine_text.specs.declared.step.Step.{Step}
 use Rattle.machine_model.specs.State.{State}
-use Rattle.machine_model.specs.Step.{at_moment}
-use Rattle.machine_model.specs.Statuses.{ends_ticket, is_reply_of}
-use Rattle.machine_model.specs.History.{Charter, after_step, state_after, state_from, moment_used, reply_of}
-use Rattle.machine_model.proofs.CallLemmas.{obeys}
-use Rattle.machine_model.proofs.ReplyLemmas.{replies_from}
+use Rattle.machine_model.specs.Statuses.{is_reply_of}
+use Rattle.machine_model.specs.History.{Charter, HasNone, after_step, moment_used, reply_of, state_from}
 use Rattle.call_bounds.specs.Built.{is_built}
 use Rattle.http_edge.specs.Chunks.{last_chunk}
 use Rattle.http_edge.specs.Message.{Request}
+use Rattle.http_edge.specs.Response.{head_text}
+use Rattle.http_edge.specs.declared.head.Form.{Form}
 use Rattle.api_routes.specs.Class.{class_of}
 use Rattle.api_routes.specs.declared.class.Class.TheVariants.{Stream}
 use Rattle.api_routes.specs.declared.class.Takeover.{Takeover}
@@ -30,124 +28,52 @@ use Rattle.session_model.specs.declared.ending.Ending.{Ending}
 use Rattle.session_model.specs.declared.followed.Followed.{Followed}
 use Rattle.session_model.specs.declared.followed.Followed.TheVariants as F
 use Rattle.session_model.specs.declared.terms.Terms.{Terms}
-use Rattle.session_model.specs.declared.turned.Turned.{Turned}
 use Rattle.session_model.specs.declared.turned.Turned.TheVariants as T
-use Rattle.session_model.specs.Exchange.{Flow, Leaves, flow_of, call_of, is_whole, IsMade, IsQuiet, Chunked, HeadIsLost}
-use Rattle.session_model.specs.Moments.{is_whole_flow}
+use Rattle.session_model.specs.Exchange.{Flow, Leaves, flow_of, is_whole, IsMade, IsQuiet, Chunked, HeadIsLost}
+use Rattle.session_model.specs.Moments.{ComesTo, StaysWithin, TakesMoments, greatest_of, is_whole_flow}
 use Rattle.session_model.specs.Pass.{PassView}
 use Rattle.session_model.specs.Progress.{Moves}
-use Rattle.session_model.specs.Responses.{terms_of, head_of_stream, journal_full_response, out_of_memory_response}
+use Rattle.session_model.specs.Responses.{chunked_form, terms_of, head_of_stream, journal_full_response, out_of_memory_response}
 use Rattle.session_model.specs.Session.{FollowCause, IsWritten}
-use Rattle.session_model.specs.Turning.{Turn, Makes, found}
+use Rattle.session_model.specs.Turning.{Turn, Turns, found}
 use Rattle.session_model.proofs.CauseLemmas.{IsLater, cause_since}
-use Rattle.session_model.proofs.HistoryLemmas.{run_append, quiet_same, dues_none}
-use Rattle.session_model.proofs.TurnLemmas.{moves_same, moves_on, moves_weak, makes_call, turn_made, turn_opens, state_seen}
-use Rattle.daemon_core.specs.Whole.{IsAnswer, IsPlain}
-use Rattle.daemon_core.proofs.BuiltLemmas.{call_at, have_replies, built_answers, built_comes}
-use Rattle.attach_hub.specs.Following.{Follows, MayFollow}
-use Rattle.attach_hub.proofs.OpenLemmas.{Opens, logs_open}
+use Rattle.session_model.proofs.HistoryLemmas.{quiet_same, dues_none, extends_on, untimed, uncalled}
+use Rattle.session_model.proofs.MomentLemmas.{moments_weak, within_on}
+use Rattle.session_model.proofs.TurnLemmas.{moves_same, makes_call, turn_made, turn_opens, seen_made, stays_on}
+use Rattle.daemon_core.proofs.BuiltLemmas.{call_at}
+use Rattle.attach_hub.specs.Following.{Follows, HasReached}
 use Rattle.engine_serve.specs.declared.went.Went.{Went}
 use Rattle.engine_serve.specs.Serving.{Sends, Answers, Tries}
 use Rattle.engine_serve.specs.Answering.{SendsReply}
-use Rattle.engine_serve.specs.Streaming.{IsLogs, spec_of, EndsStream, IsStreamed, SendsStream, flow_behind}
+use Rattle.engine_serve.specs.Streaming.{IsStreamed, EndsStream, IsSentAs, SendsStream, flow_behind}
 use Rattle.engine_serve.proofs.EarlyLemmas.{sends_behind}
-use Rattle.engine_serve.proofs.AnswerLemmas.{MovesBy, asks, if_cause, if_pumped, replied, full, no_memory, never_other}
-
--- ---- the call
-
--- it ends no ticket
-pub logs_end_none : (c : Call) → IsLogs c → IsFalse (ends_ticket c)
-logs_end_none (call.Logs target ask) logs = refl
-logs_end_none c logs = absurd logs
-
-asks_stream : (r : Request) (c : Call) → class_of r ≡ Stream c Takeover.None → call_of (class_of r) ≡ Some c
-asks_stream r c class = ap call_of class
-
--- ---- its reply
-
--- what a turn that made it was answered is a reply of it, and no other
-made_reply : (k handed : ℕ) (c : Call) (x : Reply) (t : Turned) (p q : PassView) → IsTrue (is_built c) → IsLogs c
-    → (turn : Turn k handed (Some c) t p q) → Makes p.charter (found k p q turn.turns) k handed c turn.turns.own x
-    → IsPlain x × IsTrue (is_reply_of c x)
-made_reply k handed (call.Logs target ask) x t p q built logs turn makes =
-    let c : Call = call.Logs target ask in
-    let s : State = found k p q turn.turns in
-    let u : ℕ = moment_used s handed in
-    let m = makes_call p.charter s k handed c turn.turns.own x refl makes in
-    let at : State = state_from s m.0 in
-    let have = replies_from s m.0 (have_replies p.charter (p.seen ++ turn.turns.others)) in (
-      subst IsPlain (sym m.2.2) (built_answers c built at have k u),
-      subst (λ y. IsTrue (is_reply_of c y)) (sym m.2.2) ((obeys c k (at_moment u at)).reply have),
-    )
-made_reply k handed c x t p q built logs turn makes = absurd logs
-
-some_not : (spec : LogSpec) → Some spec ≡ None → ⊥
-some_not spec h = cc
-
--- it gives a log's stream, or is answered whole
-whole_reply : (c : Call) (x : Reply) → IsLogs c → IsPlain x → IsTrue (is_reply_of c x) → spec_of x ≡ None → IsAnswer x
-whole_reply (call.Logs target ask) (reply.Answer status body) logs plain is none = plain
-whole_reply (call.Logs target ask) (reply.Begun ticket) logs plain is none = false≢true is
-whole_reply (call.Logs target ask) (reply.LogStream spec) logs plain is none = some_not spec none
-whole_reply (call.Logs target ask) (reply.EventStream first until filter) logs plain is none = false≢true is
-whole_reply (call.Logs target ask) (reply.JournalStream count) logs plain is none = false≢true is
-whole_reply (call.Logs target ask) (reply.Fed taken) logs plain is none = false≢true is
-whole_reply (call.Logs target ask) reply.Dropped logs plain is none = false≢true is
-whole_reply c x logs plain is none = absurd logs
-
-no_ticket : (c : Call) (n : ℕ) → IsLogs c → IsTrue (is_reply_of c (reply.Begun n)) → ⊥
-no_ticket (call.Logs target ask) n logs is = false≢true is
-no_ticket c n logs is = absurd logs
-
-pub log_answers : (k handed : ℕ) (c : Call) (x : Reply) (p q : PassView) → IsTrue (is_built c) → IsLogs c
-    → Turn k handed (Some c) (T.Replied x) p q → spec_of x ≡ None → IsAnswer x
-log_answers k handed c x p q built logs turn none =
-    let f = made_reply k handed c x _ p q built logs turn turn.says.1 in whole_reply c x logs f.0 f.1 none
-
-pub spec_is : (x : Reply) (spec : LogSpec) → spec_of x ≡ Some spec → x ≡ reply.LogStream spec
-spec_is (reply.LogStream s) spec h = ap reply.LogStream (same s spec h)
-  where
-    same : (s spec : LogSpec) → Some s ≡ Some spec → s ≡ spec
-    same s spec h = cc
-spec_is x spec h = absurd (some_not spec (sym h))
-
--- it gives no ticket, and is always made at once
-pub log_never : (k handed : ℕ) (c : Call) (x : Turned) (p q : PassView) → IsTrue (is_built c) → IsLogs c
-    → Turn k handed (Some c) x p q → ((n : ℕ) × (x ≡ T.Begun n)) ⊎ ((x ≡ T.NotYet) ⊎ (x ≡ T.Nothing)) → ⊥
-log_never k handed c x p q built logs turn (inl (n, is)) =
-    let t : Turn k handed (Some c) (T.Begun n) p q = subst (λ y. Turn k handed (Some c) y p q) is turn in
-    no_ticket c n logs (made_reply k handed c (reply.Begun n) _ p q built logs t t.says).1
-log_never k handed c x p q built logs turn (inr other) = never_other k handed c x p q built (logs_end_none c logs) turn other
-
--- the stream that it gave can be followed from there on
-pub opened : (k handed : ℕ) (c : Call) (x : Reply) (spec : LogSpec) (p q : PassView) → IsLogs c → x ≡ reply.LogStream spec
-    → Turn k handed (Some c) (T.Replied x) p q → MayFollow (state_after q.charter q.seen) spec
-opened k handed (call.Logs target ask) x spec p q logs is turn =
-    let c : Call = call.Logs target ask in
-    let s : State = found k p q turn.turns in
-    let u : ℕ = moment_used s handed in
-    let m = makes_call p.charter s k handed c turn.turns.own x refl turn.says.1 in
-    let at : State = state_from s m.0 in
-    let gave : reply_of at k u c ≡ reply.LogStream spec = sym m.2.2 ∙ is in
-    let opens : MayFollow (after_step at (Step.Call k u c)) spec =
-    subst (λ y. Opens y (after_step at (Step.Call k u c))) gave (logs_open target ask k u at) in
-    let end : after_step at (Step.Call k u c) ≡ state_after p.charter q.seen =
-    sym (run_append s m.0 (Step.Call k u c ∷ [])) ∙ ap (state_from s) (sym m.2.1) ∙ state_seen k p q turn.turns in
-    subst (λ ch. MayFollow (state_after ch q.seen) spec) (sym turn.turns.stays.charter) (subst (λ y. MayFollow y spec) end opens)
-opened k handed c x spec p q logs is turn = absurd logs
+use Rattle.engine_serve.proofs.ReplyLemmas.{asks_stream, made_reply, streams_end_none}
+use Rattle.engine_serve.proofs.AnswerLemmas.{MovesBy, asks, if_cause, if_pumped, if_whole, no_drop, replied, full, no_memory}
 
 -- ---- what was sent of the stream
 
-abbrev head_of : Terms → LogSpec → List ℕ
-head_of terms spec = head_of_stream terms Takeover.None (reply.LogStream spec)
+abbrev head_of : Terms → Reply → List ℕ
+head_of terms x = head_of_stream terms Takeover.None x
+
+-- the head of this form is the stream's
+abbrev head_by : Terms → Form → List ℕ
+head_by terms form = head_text (record { status = 200; form = form; close = terms.close })
+
+head_is : (terms : Terms) (x : Reply) (form : Form) → chunked_form x ≡ Some form → head_by terms form ≡ head_of terms x
+head_is terms x form is = ap (λ o. head_by terms (unwrap_or o Form.Empty)) (sym is)
+
+-- a stream that isn't whole need have come to no moment
+unreached : (x : Reply) (ms : List ℕ) → HasReached x false ms
+unreached (reply.EventStream first (Some until) filter) ms = tt
+unreached (reply.EventStream first None filter) ms = tt
+unreached x ms = tt
 
 -- the head's write failed
-pub log_lost : (k : ℕ) (terms : Terms) (spec : LogSpec) (x : Failed) (p : PassView) (u u' : SinkView) (t : ClockView)
-    → WriteSays (Err x) (head_of terms spec) u u'
-    → SendsStream k terms (reply.LogStream spec) (Went.Ends Ending.WriteFault) p p u u' t t
-log_lost k terms spec x p u u' t (part, front, took, rose) = record {
+lost : (k : ℕ) (terms : Terms) (x : Reply) (f : Failed) (p : PassView) (u u' : SinkView) (t : ClockView)
+    → WriteSays (Err f) (head_of terms x) u u' → SendsStream k terms x (Went.Ends Ending.WriteFault) p p u u' t t
+lost k terms x f p u u' t (part, front, took, rose) = record {
   flow = Leaves F.WriteFault None;
-  whole = head_of terms spec;
+  whole = head_of terms x;
   part = part;
   told = inl (refl, refl, refl);
   goes = inr (refl, front, rose);
@@ -155,47 +81,55 @@ log_lost k terms spec x p u u' t (part, front, took, rose) = record {
   cause = λ s s'. (rose, tt);
   quiet = quiet_same k p.seen;
   moves = moves_same k true p t;
+  reached = unreached x _;
   pumped = refl;
 }
 
+pub stream_lost : (k : ℕ) (terms : Terms) (x : Reply) (form : Form) (f : Failed) (p : PassView) (u u' : SinkView) (t : ClockView)
+    → chunked_form x ≡ Some form → WriteSays (Err f) (head_by terms form) u u'
+    → SendsStream k terms x (Went.Ends Ending.WriteFault) p p u u' t t
+stream_lost k terms x form f p u u' t is says =
+    lost k terms x f p u u' t (subst (λ y. WriteSays (Err f) y u u') (head_is terms x form is) says)
+
 -- the stream broke off behind its head: nothing more is written
-broke_off : (k : ℕ) (terms : Terms) (spec : LogSpec) (f : Followed) (e : Ending) (result : Went) (p q : PassView)
-    (u v w x : SinkView) (t t' : ClockView) → is_whole f ≡ false → SinkTook u (head_of terms spec) v
-    → (sent : Follows k (reply.LogStream spec) true f p q v w t t') → result ≡ Went.Ends e → x ≡ w
-    → IsWritten e (Leaves f None) (head_of terms spec ++ sent.sent) (head_of terms spec ++ sent.part) u w
+broke_off : (k : ℕ) (terms : Terms) (g : Reply) (f : Followed) (e : Ending) (result : Went) (p q : PassView)
+    (u v w x : SinkView) (t t' : ClockView) → is_whole f ≡ false → SinkTook u (head_of terms g) v
+    → (sent : Follows k g true f p q v w t t') → result ≡ Went.Ends e → x ≡ w
+    → IsWritten e (Leaves f None) (head_of terms g ++ sent.sent) (head_of terms g ++ sent.part) u w
     → ((s s' : SourceView) → FollowCause f (outside s u t) (outside s' w t'))
-    → SendsStream k terms (reply.LogStream spec) result p q u x t t'
-broke_off k terms spec f e result p q u v w x t t' broken head sent is same written cause =
+    → SendsStream k terms g result p q u x t t'
+broke_off k terms g f e result p q u v w x t t' broken head sent is same written cause =
     let last : (if is_whole f then last_chunk else []) ≡ [] = ap (λ b. if b then last_chunk else []) broken in
     let flow : flow_behind terms f ≡ Leaves f None = ap (λ b. if b then flow_of terms else Leaves f None) broken in
-    let whole : List ℕ = head_of terms spec ++ sent.sent in
+    let whole : List ℕ = head_of terms g ++ sent.sent in
     let all : whole ≡ whole ++ (if is_whole f then last_chunk else []) = sym (ap (λ y. whole ++ y) last ∙ append-nil whole) in
-    subst (λ y. SendsStream k terms (reply.LogStream spec) y p q u x t t') (sym is)
-    (subst (λ y. SendsStream k terms (reply.LogStream spec) (Went.Ends e) p q u y t t') (sym same) (record {
+    subst (λ y. SendsStream k terms g y p q u x t t') (sym is)
+    (subst (λ y. SendsStream k terms g (Went.Ends e) p q u y t t') (sym same) (record {
       flow = Leaves f None;
       whole = whole;
-      part = head_of terms spec ++ sent.part;
+      part = head_of terms g ++ sent.part;
       told = inr (f, sent.body, sent.sent, sent.tells, sent.ends, sent.pieces, sym flow, all);
       goes = written;
-      sink = sink_on u v w (head_of terms spec) sent.part head sent.sink;
+      sink = sink_on u v w (head_of terms g) sent.part head sent.sink;
       cause = λ s s'. (cause s s', tt);
       quiet = sent.quiet;
       moves = sent.moves;
+      reached = unreached g sent.moves.handed;
       pumped = refl;
     }))
 
 -- behind its head it was followed, and ended by the last chunk exactly where it is whole
-pub log_sent : (k : ℕ) (terms : Terms) (spec : LogSpec) (f : Followed) (result : Went) (p q : PassView)
-    (u v w x : SinkView) (t t' : ClockView) → SinkTook u (head_of terms spec) v
-    → Follows k (reply.LogStream spec) true f p q v w t t' → EndsStream terms f result w x
-    → SendsStream k terms (reply.LogStream spec) result p q u x t t'
-log_sent k terms spec F.Whole result p q u v w x t t' head sent ends =
-    let took : SinkTook u (head_of terms spec ++ sent.sent) w =
-    subst (λ y. SinkTook u (head_of terms spec ++ y) w) sent.taken (sink_on u v w (head_of terms spec) sent.part head sent.sink) in
-    let all : Sends (flow_of terms) result (head_of terms spec ++ sent.sent ++ last_chunk) u x =
-    sends_behind result (flow_of terms) (head_of terms spec ++ sent.sent) last_chunk u w x took ends in record {
+sent_so : (k : ℕ) (terms : Terms) (g : Reply) (f : Followed) (result : Went) (p q : PassView)
+    (u v w x : SinkView) (t t' : ClockView) → SinkTook u (head_of terms g) v
+    → Follows k g true f p q v w t t' → EndsStream terms f result w x
+    → SendsStream k terms g result p q u x t t'
+sent_so k terms g F.Whole result p q u v w x t t' head sent ends =
+    let took : SinkTook u (head_of terms g ++ sent.sent) w =
+    subst (λ y. SinkTook u (head_of terms g ++ y) w) sent.taken (sink_on u v w (head_of terms g) sent.part head sent.sink) in
+    let all : Sends (flow_of terms) result (head_of terms g ++ sent.sent ++ last_chunk) u x =
+    sends_behind result (flow_of terms) (head_of terms g ++ sent.sent) last_chunk u w x took ends in record {
       flow = flow_of terms;
-      whole = head_of terms spec ++ sent.sent ++ last_chunk;
+      whole = head_of terms g ++ sent.sent ++ last_chunk;
       part = all.0;
       told = inr (F.Whole, sent.body, sent.sent, sent.tells, sent.ends, sent.pieces, refl, refl);
       goes = all.2;
@@ -203,109 +137,165 @@ log_sent k terms spec F.Whole result p q u v w x t t' head sent ends =
       cause = λ s s'. if_cause terms.close (outside s u t) (outside s' x t');
       quiet = sent.quiet;
       moves = sent.moves;
+      reached = subst (λ b. HasReached g b sent.moves.handed) (sym (if_whole terms.close)) sent.reached;
       pumped = if_pumped terms.close;
     }
-log_sent k terms spec F.Stopped result p q u v w x t t' head sent ends =
-    broke_off k terms spec F.Stopped Ending.Stopped result p q u v w x t t' refl head sent ends.0 ends.1
-    (inl (refl, ap (λ y. head_of terms spec ++ y) sent.taken)) (λ s s'. sent.cause)
-log_sent k terms spec (F.Lagged next first) result p q u v w x t t' head sent ends =
-    broke_off k terms spec (F.Lagged next first) (Ending.Lagged next first) result p q u v w x t t' refl head sent ends.0 ends.1
-    (inl (refl, ap (λ y. head_of terms spec ++ y) sent.taken)) (λ s s'. tt)
-log_sent k terms spec F.NoMemory result p q u v w x t t' head sent ends =
-    broke_off k terms spec F.NoMemory Ending.NoMemory result p q u v w x t t' refl head sent ends.0 ends.1
-    (inl (refl, ap (λ y. head_of terms spec ++ y) sent.taken)) (λ s s'. tt)
-log_sent k terms spec F.WriteFault result p q u v w x t t' head sent ends =
+sent_so k terms g F.Stopped result p q u v w x t t' head sent ends =
+    broke_off k terms g F.Stopped Ending.Stopped result p q u v w x t t' refl head sent ends.0 ends.1
+    (inl (refl, ap (λ y. head_of terms g ++ y) sent.taken)) (λ s s'. sent.cause)
+sent_so k terms g (F.Lagged next first) result p q u v w x t t' head sent ends =
+    broke_off k terms g (F.Lagged next first) (Ending.Lagged next first) result p q u v w x t t' refl head sent ends.0 ends.1
+    (inl (refl, ap (λ y. head_of terms g ++ y) sent.taken)) (λ s s'. tt)
+sent_so k terms g F.NoMemory result p q u v w x t t' head sent ends =
+    broke_off k terms g F.NoMemory Ending.NoMemory result p q u v w x t t' refl head sent ends.0 ends.1
+    (inl (refl, ap (λ y. head_of terms g ++ y) sent.taken)) (λ s s'. tt)
+sent_so k terms g F.WriteFault result p q u v w x t t' head sent ends =
     let rose = rose_since u.faults v.faults w.faults head.faults sent.cause in
-    let front : IsFront (head_of terms spec ++ sent.part) (head_of terms spec ++ sent.sent) =
-    (sent.taken.0, append_assoc (head_of terms spec) sent.part sent.taken.0 ∙ ap (λ y. head_of terms spec ++ y) sent.taken.1) in
-    broke_off k terms spec F.WriteFault Ending.WriteFault result p q u v w x t t' refl head sent ends.0 ends.1
+    let front : IsFront (head_of terms g ++ sent.part) (head_of terms g ++ sent.sent) =
+    (sent.taken.0, append_assoc (head_of terms g) sent.part sent.taken.0 ∙ ap (λ y. head_of terms g ++ y) sent.taken.1) in
+    broke_off k terms g F.WriteFault Ending.WriteFault result p q u v w x t t' refl head sent ends.0 ends.1
     (inr (refl, front, rose)) (λ s s'. rose)
+
+pub stream_sent : (k : ℕ) (terms : Terms) (g : Reply) (form : Form) (f : Followed) (result : Went) (p q : PassView)
+    (u v w x : SinkView) (t t' : ClockView) → chunked_form g ≡ Some form → SinkTook u (head_by terms form) v
+    → Follows k g true f p q v w t t' → EndsStream terms f result w x → SendsStream k terms g result p q u x t t'
+stream_sent k terms g form f result p q u v w x t t' is head sent ends =
+    sent_so k terms g f result p q u v w x t t' (subst (λ y. SinkTook u y v) (head_is terms g form is) head) sent ends
+
+-- ---- the moments that it took
+
+-- where the stream is whole, a call for events up to a moment came to it
+comes_by : (c : Call) (x : Reply) (whole : Bool) (z : State) (k t handed : ℕ) (ms : List ℕ) → IsStreamed c → x ≡ reply_of z k t c
+    → HasReached x whole ms → ComesTo whole c (handed ∷ ms)
+comes_by (call.Events since (Some until) filter) x true z k t handed ms streams is reached =
+    let late : until ≤ greatest_of ms = subst (λ y. HasReached y true ms) is reached in omega (arith, late)
+comes_by (call.Events since None filter) x true z k t handed ms streams is reached = tt
+comes_by (call.Logs target ask) x true z k t handed ms streams is reached = tt
+comes_by c x true z k t handed ms streams is reached = absurd streams
+comes_by c x false z k t handed ms streams is reached = tt
+
+moments_any : (ch : Charter) (k : ℕ) (whole : Bool) (a b : List Step) (ms : List ℕ) → TakesMoments ch k true a b ms → TakesMoments ch k whole a b ms
+moments_any ch k true a b ms moments = moments
+moments_any ch k false a b ms moments = moments_weak ch k a b ms moments
+
+-- a call behind due steps took a moment, and what follows took more
+opens_on : (whole : Bool) (k handed : ℕ) (c : Call) (p q s : PassView) (turns : Turns k p q) (dues : List Step) (v w y : ClockView)
+    → IsTrue p.pair → HasNone k dues → turns.own ≡ dues ++ Step.Call k (moment_used (found k p q turns) handed) c ∷ []
+    → ((z : State) (t : ℕ) → (after_step z (Step.Call k t c)).clock ≡ t) → ClockHanded v (handed ∷ []) w
+    → (more : Moves k true q s w y) → ComesTo whole c (handed ∷ more.handed) → Moves k whole p s v y
+unfolding turn_opens
+opens_on whole k handed c p q s turns dues v w y pair none is punctual clock more comes =
+    let first : Moves k false p q v w = turn_opens false k handed c p q turns dues v w pair none is punctual tt clock in record {
+      extends = extends_on p.seen q.seen s.seen first.extends more.extends;
+      stays = stays_on p q s turns.stays more.stays;
+      handed = handed ∷ more.handed;
+      clock = clock_on v w y (handed ∷ []) more.handed clock more.clock;
+      moments = inr (
+        c,
+        q.seen,
+        record {
+          front = turns.others;
+          back = dues;
+          untimed = untimed k turns.others (turns.strangers pair);
+          uncalled = uncalled k dues none;
+          at = seen_made k (moment_used (found k p q turns) handed) c p q turns dues is;
+        },
+        comes,
+        moments_any p.charter k whole q.seen s.seen more.handed
+            (subst (λ ch. TakesMoments ch k true q.seen s.seen more.handed) turns.stays.charter more.moments),
+      );
+      within = λ h. within_on p.charter p.seen q.seen s.seen (handed ∷ []) more.handed (first.within h)
+          (subst (λ ch. StaysWithin ch q.seen s.seen more.handed) turns.stays.charter (more.within (turns.stays.alone ∙ h)));
+    }
 
 -- ---- the rows
 
-any_by : (k : ℕ) (r : Request) (whole : Bool) (p q : PassView) (t t' : ClockView) → MovesBy k r true p q t t' → MovesBy k r whole p q t t'
-unfolding moves_weak
-any_by k r true p q t t' moves = moves
-any_by k r false p q t t' moves = (moves_weak k p q t t' moves.0, λ none. moves.1 none)
-
-row : (ch : Charter) (k : ℕ) (r : Request) (behind : List ℕ) (c : Call) (spec : LogSpec) (flow : Flow) (whole : List ℕ) (a b d : List Step)
-    → class_of r ≡ Stream c Takeover.None → IsMade ch k k c a b (reply.LogStream spec) → IsQuiet k b d
-    → IsStreamed ch (terms_of r) (reply.LogStream spec) flow whole b d → Answers ch k r behind a d flow whole
-row ch k r behind c spec flow whole a b d class made quiet (inl (same, flows, is)) = record {
-  kind = HeadIsLost c Takeover.None (reply.LogStream spec) class
-      (subst (λ h. IsMade ch k k c a h (reply.LogStream spec)) same made) refl;
+row : (ch : Charter) (k : ℕ) (r : Request) (behind : List ℕ) (c : Call) (x : Reply) (form : Form) (flow : Flow) (whole : List ℕ)
+    (a b d : List Step) → class_of r ≡ Stream c Takeover.None → chunked_form x ≡ Some form → IsMade ch k k c a b x → IsQuiet k b d
+    → IsSentAs ch (terms_of r) x flow whole b d → Answers ch k r behind a d flow whole
+row ch k r behind c x form flow whole a b d class some made quiet (inl (same, flows, is)) = record {
+  kind = HeadIsLost c Takeover.None x class (subst (λ h. IsMade ch k k c a h x) same made) (subst (λ o. IsSome o) (sym some) refl);
   flow_is = flows;
   bytes = is;
 }
-row ch k r behind c spec flow whole a b d class made quiet (inr (f, body, chunks, tells, ends, cut, flows, is)) = record {
-  kind = Chunked c (reply.LogStream spec) f b body chunks class made quiet tells ends cut;
+row ch k r behind c x form flow whole a b d class some made quiet (inr (f, body, chunks, tells, ends, cut, flows, is)) = record {
+  kind = Chunked c x f b body chunks class made quiet tells ends cut;
   flow_is = flows;
   bytes = is;
 }
 
-streamed : (k handed : ℕ) (r : Request) (c : Call) (spec : LogSpec) (result : Went) (p q s : PassView) (u u' : SinkView)
-    (v w x : ClockView) → IsTrue p.pair → class_of r ≡ Stream c Takeover.None → IsTrue (is_built c) → IsLogs c
-    → ClockHanded v (handed ∷ []) w → Turn k handed (Some c) (T.Replied (reply.LogStream spec)) p q
-    → SendsStream k (terms_of r) (reply.LogStream spec) result q s u u' w x → Tries k r result p s u u' v x
-streamed k handed r (call.Logs target ask) spec result p q s u u' v w x pair class built logs clock turn sends =
-    let c : Call = call.Logs target ask in
-    let m = makes_call p.charter _ k handed c turn.turns.own (reply.LogStream spec) refl turn.says.1 in
+streamed : (k handed : ℕ) (r : Request) (c : Call) (x : Reply) (form : Form) (result : Went) (p q s : PassView) (u u' : SinkView)
+    (v w y : ClockView) → IsTrue p.pair → class_of r ≡ Stream c Takeover.None → IsStreamed c → chunked_form x ≡ Some form
+    → ClockHanded v (handed ∷ []) w → Turn k handed (Some c) (T.Replied x) p q
+    → SendsStream k (terms_of r) x result q s u u' w y → Tries k r result p s u u' v y
+streamed k handed r c x form result p q s u u' v w y pair class streams some clock turn sends =
+    let m = makes_call p.charter _ k handed c turn.turns.own x (no_drop c (streams_end_none c streams)) turn.says.1 in
     let none = dues_none k _ _ m.0 m.1 in
-    let made = turn_made k _ c (reply.LogStream spec) p q turn.turns m.0 pair none m.2.1 m.2.0 m.2.2 in
-    let first : Moves k true p q v w =
-    turn_opens true k handed c p q turn.turns m.0 v w pair none m.2.1 (call_at c k) (built_comes c (handed ∷ []) built) clock in
-    let moves : MovesBy k r (is_whole_flow sends.flow) p s v x =
-    any_by k r (is_whole_flow sends.flow) p s v x
-    (asks k r c true p s v x (asks_stream r c class) (moves_on k true p q s v w x first sends.moves)) in
-    let told : IsStreamed p.charter (terms_of r) (reply.LogStream spec) sends.flow sends.whole q.seen s.seen =
-    subst (λ ch. IsStreamed ch (terms_of r) (reply.LogStream spec) sends.flow sends.whole q.seen s.seen) turn.turns.stays.charter sends.told in
+    let made = turn_made k _ c x p q turn.turns m.0 pair none m.2.1 m.2.0 m.2.2 in
+    let comes : ComesTo (is_whole_flow sends.flow) c (handed ∷ sends.moves.handed) =
+    comes_by c x (is_whole_flow sends.flow) (state_from (found k p q turn.turns) m.0) k (moment_used (found k p q turn.turns) handed) handed
+    sends.moves.handed streams m.2.2 sends.reached in
+    let all : Moves k (is_whole_flow sends.flow) p s v y =
+    opens_on (is_whole_flow sends.flow) k handed c p q s turn.turns m.0 v w y pair none m.2.1 (call_at c k) clock sends.moves comes in
+    let moves : MovesBy k r (is_whole_flow sends.flow) p s v y =
+    asks k r c (is_whole_flow sends.flow) p s v y (asks_stream r c class) all in
+    let told : IsSentAs p.charter (terms_of r) x sends.flow sends.whole q.seen s.seen =
+    subst (λ ch. IsSentAs ch (terms_of r) x sends.flow sends.whole q.seen s.seen) turn.turns.stays.charter sends.told in
     let later : (o : SourceView) → IsLater (outside o u v) (outside o u w) =
     λ o. record { reads = omega arith; ends = omega arith; writes = omega arith; stops = clock.stops } in record {
       flow = sends.flow;
       whole = sends.whole;
       part = sends.part;
-      answer = λ behind. row p.charter k r behind c spec sends.flow sends.whole p.seen q.seen s.seen class made sends.quiet told;
+      answer = λ behind. row p.charter k r behind c x form sends.flow sends.whole p.seen q.seen s.seen class some made sends.quiet told;
       goes = sends.goes;
       sink = sends.sink;
-      cause = λ o o'. cause_since sends.flow (outside o u v) (outside o u w) (outside o' u' x) (later o) (sends.cause o o');
+      cause = λ o o'. cause_since sends.flow (outside o u v) (outside o u w) (outside o' u' y) (later o) (sends.cause o o');
       moves = moves.0;
       unasked = moves.1;
       pumped = sends.pumped;
     }
-streamed k handed r c spec result p q s u u' v w x pair class built logs clock turn sends = absurd logs
 
 -- ---- by the terms that were taken of the request
 
-pub log_streamed : (k handed : ℕ) (r : Request) (terms : Terms) (c : Call) (x : Reply) (spec : LogSpec) (result : Went)
+pub stream_streamed : (k handed : ℕ) (r : Request) (terms : Terms) (c : Call) (x : Reply) (form : Form) (result : Went)
     (p q s : PassView) (u u' : SinkView) (v w y : ClockView) → terms ≡ terms_of r → IsTrue p.pair
-    → class_of r ≡ Stream c Takeover.None → IsTrue (is_built c) → IsLogs c → ClockHanded v (handed ∷ []) w
-    → Turn k handed (Some c) (T.Replied x) p q → x ≡ reply.LogStream spec
-    → SendsStream k terms (reply.LogStream spec) result q s u u' w y → Tries k r result p s u u' v y
-log_streamed k handed r terms c x spec result p q s u u' v w y is pair class built logs clock turn gave sends =
-    streamed k handed r c spec result p q s u u' v w y pair class built logs clock
-    (subst (λ z. Turn k handed (Some c) (T.Replied z) p q) gave turn)
-    (subst (λ z. SendsStream k z (reply.LogStream spec) result q s u u' w y) is sends)
+    → class_of r ≡ Stream c Takeover.None → IsStreamed c → chunked_form x ≡ Some form → ClockHanded v (handed ∷ []) w
+    → Turn k handed (Some c) (T.Replied x) p q → SendsStream k terms x result q s u u' w y → Tries k r result p s u u' v y
+stream_streamed k handed r terms c x form result p q s u u' v w y is pair class streams some clock turn sends =
+    streamed k handed r c x form result p q s u u' v w y pair class streams some clock turn
+    (subst (λ z. SendsStream k z x result q s u u' w y) is sends)
 
-pub log_refused : (k handed : ℕ) (r : Request) (terms : Terms) (c : Call) (x : Reply) (result : Went) (p q : PassView)
+-- where it is answered whole it is no call for events
+refused_comes : (c : Call) (x : Reply) (status : ℕ) (body : List ℕ) (ms : List ℕ) → IsStreamed c → IsTrue (is_reply_of c x)
+    → x ≡ reply.Answer status body → ComesTo true c ms
+refused_comes (call.Logs target ask) x status body ms streams is answers = tt
+refused_comes (call.Events since until filter) x status body ms streams is answers =
+    let other : IsTrue (is_reply_of (call.Events since until filter) (reply.Answer status body)) =
+    subst (λ y. IsTrue (is_reply_of (call.Events since until filter) y)) answers is in absurd (false≢true other)
+refused_comes c x status body ms streams is answers = absurd streams
+
+pub stream_refused : (k handed : ℕ) (r : Request) (terms : Terms) (c : Call) (x : Reply) (result : Went) (p q : PassView)
     (u u' : SinkView) (t t' : ClockView) → terms ≡ terms_of r → IsTrue p.pair → class_of r ≡ Stream c Takeover.None
-    → IsTrue (is_built c) → IsLogs c → ClockHanded t (handed ∷ []) t' → Turn k handed (Some c) (T.Replied x) p q
+    → IsTrue (is_built c) → IsStreamed c → ClockHanded t (handed ∷ []) t' → Turn k handed (Some c) (T.Replied x) p q
     → SendsReply terms x result u u' → Tries k r result p q u u' t t'
-log_refused k handed r terms c x result p q u u' t t' is pair class built logs clock turn sends =
-    replied k handed r c x result p q u u' t t' pair (asks_stream r c class) built (logs_end_none c logs) clock turn
+stream_refused k handed r terms c x result p q u u' t t' is pair class built streams clock turn sends =
+    let comes : ComesTo true c (handed ∷ []) =
+    refused_comes c x sends.0 sends.1 (handed ∷ []) streams (made_reply k handed c x _ p q built streams turn turn.says.1).1 sends.2 in
+    replied k handed r c x result p q u u' t t' pair (asks_stream r c class) comes (streams_end_none c streams) clock turn
     (subst (λ y. SendsReply y x result u u') is sends)
 
-pub log_full : (k handed : ℕ) (r : Request) (terms : Terms) (c : Call) (result : Went) (p q : PassView)
+pub stream_full : (k handed : ℕ) (r : Request) (terms : Terms) (c : Call) (result : Went) (p q : PassView)
     (u u' : SinkView) (t t' : ClockView) → terms ≡ terms_of r → IsTrue p.pair → class_of r ≡ Stream c Takeover.None
     → ClockHanded t (handed ∷ []) t' → Turn k handed (Some c) T.JournalFull p q
     → Sends (flow_of terms) result (journal_full_response terms) u u' → Tries k r result p q u u' t t'
-log_full k handed r terms c result p q u u' t t' is pair class clock turn sends =
+stream_full k handed r terms c result p q u u' t t' is pair class clock turn sends =
     full k handed r c result p q u u' t t' pair (asks_stream r c class) clock turn
     (subst (λ y. Sends (flow_of y) result (journal_full_response y) u u') is sends)
 
-pub log_short : (k handed : ℕ) (r : Request) (terms : Terms) (c : Call) (result : Went) (p q : PassView)
+pub stream_short : (k handed : ℕ) (r : Request) (terms : Terms) (c : Call) (result : Went) (p q : PassView)
     (u u' : SinkView) (t t' : ClockView) → terms ≡ terms_of r → IsTrue p.pair → class_of r ≡ Stream c Takeover.None
     → ClockHanded t (handed ∷ []) t' → Turn k handed (Some c) T.NoMemory p q
     → Sends (flow_of terms) result (out_of_memory_response terms) u u' → Tries k r result p q u u' t t'
-log_short k handed r terms c result p q u u' t t' is pair class clock turn sends =
+stream_short k handed r terms c result p q u u' t t' is pair class clock turn sends =
     no_memory k handed r c result p q u u' t t' pair (asks_stream r c class) clock turn
     (subst (λ y. Sends (flow_of y) result (out_of_memory_response y) u u') is sends)

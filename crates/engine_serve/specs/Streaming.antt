@@ -1,14 +1,12 @@
 -- What is sent of a stream, and how the session goes on behind it (own).
-use Rattle.std.specs.Prelude.{ℕ, ◌≡◌, ◌⊎◌, true, List, [], ◌++◌, Option, Some, None, if◌then◌else◌, IsFalse}
+use Rattle.std.specs.Prelude.{ℕ, ◌≡◌, ◌⊎◌, true, List, [], ◌++◌, None, if◌then◌else◌, IsFalse}
 use Rattle.engine_ports.specs.Source.{SourceView}
 use Rattle.engine_ports.specs.Sink.{SinkView, SinkTook}
 use Rattle.engine_ports.specs.Clock.{ClockView}
 use Rattle.engine_ports.specs.Door.{outside}
 use Rattle.engine_text.specs.declared.call.Call.{Call}
 use Rattle.engine_text.specs.declared.call.Call.TheVariants as call
-use Rattle.engine_text.specs.declared.reply.LogSpec.{LogSpec}
 use Rattle.engine_text.specs.declared.reply.Reply.{Reply}
-use Rattle.engine_text.specs.declared.reply.Reply.TheVariants.{LogStream}
 use Rattle.engine_text.specs.declared.step.Step.{Step}
 use Rattle.machine_model.specs.History.{Charter}
 use Rattle.http_edge.specs.Chunks.{IsChunked, last_chunk}
@@ -19,20 +17,18 @@ use Rattle.session_model.specs.declared.terms.Terms.{Terms}
 use Rattle.session_model.specs.Pass.{PassView}
 use Rattle.session_model.specs.Responses.{head_of_stream}
 use Rattle.session_model.specs.Exchange.{Flow, Leaves, flow_of, IsQuiet, IsBody, EndsSo, is_whole}
+use Rattle.session_model.specs.Moments.{is_whole_flow}
 use Rattle.session_model.specs.Session.{Cause, ending_of_ends, is_pumped}
 use Rattle.session_model.specs.Progress.{Moves}
+use Rattle.attach_hub.specs.Following.{HasReached}
 use Rattle.engine_serve.specs.declared.went.Went.{Went}
 use Rattle.engine_serve.specs.Serving.{GoesSo, Sends}
 
--- the call for a log
-abbrev pub IsLogs : Call → Type 0
-IsLogs (call.Logs target ask) = Unit {0}
-IsLogs c = ⊥
-
--- the log stream that a reply gives
-abbrev pub spec_of : Reply → Option LogSpec
-spec_of (LogStream spec) = Some spec
-spec_of reply = None
+-- the calls whose streams are sent in chunks: for a log, and for events
+abbrev pub IsStreamed : Call → Type 0
+IsStreamed (call.Logs target ask) = Unit {0}
+IsStreamed (call.Events since until filter) = Unit {0}
+IsStreamed c = ⊥
 
 -- ---- behind a stream in chunks
 
@@ -49,8 +45,8 @@ EndsStream terms followed result u u' = (result ≡ Went.Ends (ending_of_ends fo
 
 -- its head, of which a write failed; or its head, chunks of its body, and the last chunk exactly where
 -- it is whole
-abbrev pub IsStreamed : Charter → Terms → Reply → Flow → List ℕ → List Step → List Step → Type 0
-IsStreamed ch terms reply flow whole a b =
+abbrev pub IsSentAs : Charter → Terms → Reply → Flow → List ℕ → List Step → List Step → Type 0
+IsSentAs ch terms reply flow whole a b =
     ((a ≡ b) × (flow ≡ Leaves F.WriteFault None) × (whole ≡ head_of_stream terms Takeover.None reply))
     ⊎ ((f : Followed) × (body : List ℕ) × (chunks : List ℕ)
     × IsBody ch reply (is_whole f) a b body × EndsSo ch reply f body a b × IsChunked body chunks
@@ -63,10 +59,11 @@ pub record SendsStream (k : ℕ) (terms : Terms) (reply : Reply) (result : Went)
   pub flow : Flow
   pub whole : List ℕ
   pub part : List ℕ
-  pub told : IsStreamed p.charter terms reply flow whole p.seen q.seen
+  pub told : IsSentAs p.charter terms reply flow whole p.seen q.seen
   pub goes : GoesSo flow result whole part u u'
   pub sink : SinkTook u part u'
   pub cause : (s s' : SourceView) → Cause flow (outside s u t) (outside s' u' t')
   pub quiet : IsQuiet k p.seen q.seen
   pub moves : Moves k true p q t t'
+  pub reached : HasReached reply (is_whole_flow flow) moves.handed
   pub pumped : IsFalse (is_pumped flow)

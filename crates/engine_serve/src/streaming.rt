@@ -1,37 +1,40 @@
 // A request for a stream, answered.
-ghost use Rattle.std.specs.Prelude.{◌≡◌, IsTrue};
+ghost use Rattle.std.specs.Prelude.{◌≡◌, true, IsTrue, Some};
 ghost use Rattle.call_bounds.specs.Built.{is_built};
 ghost use Rattle.call_bounds.specs.Soundness.{IsSound};
-ghost use Rattle.engine_text.specs.declared.reply.Reply.TheVariants.{LogStream};
-ghost use Rattle.machine_model.specs.History.{state_after};
 ghost use Rattle.http_edge.specs.Reader.{request_of};
 ghost use Rattle.api_routes.specs.Class.{class_of};
 ghost use Rattle.api_routes.specs.declared.class.Class.TheVariants.{Stream};
 ghost use Rattle.api_routes.specs.declared.class.Takeover.TheVariants as takes;
 ghost use Rattle.session_model.specs.Pass.{IsNumber};
+ghost use Rattle.session_model.specs.Responses.{chunked_form};
 ghost use Rattle.session_model.specs.Session.{ending_of_ends};
-ghost use Rattle.attach_hub.specs.Following.{MayFollow};
+ghost use Rattle.attach_hub.specs.Following.{CanFollow, Follows};
 ghost use Rattle.engine_serve.specs.Serving.{Tries};
-ghost use Rattle.engine_serve.specs.Streaming.{IsLogs, spec_of, EndsStream, SendsStream};
+ghost use Rattle.engine_serve.specs.Streaming.{IsStreamed, EndsStream, SendsStream};
 
 use crate::answer::{behind, send_journal_full, send_out_of_memory, send_reply};
 use crate::went::Went;
-use attach_hub::follow_log;
+use attach_hub::{follow_events, follow_log};
 use daemon_core::Turns;
 use engine_ports::{Clock, Failed, Sink};
-use engine_text::{Call, LogSpec, Reply};
+use engine_text::{Call, Reply};
 use http_edge::{Form, Head, RequestView, write_head, write_last};
 use session_model::{Ending, Followed, Terms, Turned};
 use std::alloc::Global;
 use std::sync::Wait;
 
-/// The log stream that a reply gives.
-fn spec_of(reply: &Reply) -> Option<LogSpec>
-    ensures { result ≡ spec_of reply.now }
+/// The form of the stream that a reply gives.
+fn form_of(reply: &Reply) -> Option<Form>
+    ensures { result ≡ chunked_form reply.now }
 {
     match reply {
-        Reply::LogStream { spec } => Some(*spec),
-        _ => None,
+        Reply::LogStream { .. } => Some(Form::ChunkedFrames),
+        Reply::EventStream { first, .. } => Some(Form::ChunkedJson {
+            first: Some(*first),
+        }),
+        Reply::JournalStream { .. } => Some(Form::ChunkedPlain),
+        Reply::Answer { .. } | Reply::Begun { .. } | Reply::Fed { .. } | Reply::Dropped => None,
     }
 }
 
@@ -61,38 +64,70 @@ fn end_stream<K: Sink>(sink: &mut K, terms: Terms, followed: Followed) -> Went
     }
 }
 
-/// Sends a log in chunks: the head at once, and then its parts as they come.
-fn send_log<W: Wait, T: Turns, K: Sink, C: Clock>(
+/// Writes the stream that a reply gives, as it comes.
+fn follow<W: Wait, T: Turns, K: Sink, C: Clock>(
+    rt: &W,
+    turns: &mut T,
+    alloc: Global,
+    conn: u32,
+    reply: &Reply,
+    sink: &mut K,
+    clock: &mut C,
+) -> Followed
+    requires number { IsNumber (T.pass turns.old).number conn }
+    requires pair { IsTrue (T.pass turns.old).pair }
+    requires may { CanFollow (T.pass turns.old).charter (T.pass turns.old).seen reply.now }
+    ensures { Follows conn reply.now true result
+        (T.pass turns.old) (T.pass turns.new) (K.takes sink.old) (K.takes sink.new) (C.times clock.old) (C.times clock.new) }
+{
+    match reply {
+        Reply::LogStream { spec } => follow_log(rt, turns, alloc, conn, spec, true, sink, clock),
+        Reply::EventStream {
+            first,
+            until,
+            filter,
+        } => follow_events(
+            rt, turns, alloc, conn, *first, *until, filter, true, sink, clock,
+        ),
+        _ => unreachable!(),
+    }
+}
+
+/// Sends a stream in chunks: the head at once, and then its parts as they come.
+fn send_stream<W: Wait, T: Turns, K: Sink, C: Clock>(
     rt: &W,
     turns: &mut T,
     alloc: Global,
     conn: u32,
     terms: Terms,
-    spec: &LogSpec,
+    form: Form,
+    reply: &Reply,
     sink: &mut K,
     clock: &mut C,
 ) -> Went
     requires number { IsNumber (T.pass turns.old).number conn }
     requires pair { IsTrue (T.pass turns.old).pair }
-    requires may { MayFollow (state_after (T.pass turns.old).charter (T.pass turns.old).seen) spec.now }
-    ensures { SendsStream conn terms (LogStream spec.now) result
+    requires form { chunked_form reply.now ≡ Some form }
+    requires may { CanFollow (T.pass turns.old).charter (T.pass turns.old).seen reply.now }
+    ensures { SendsStream conn terms reply.now result
         (T.pass turns.old) (T.pass turns.new) (K.takes sink.old) (K.takes sink.new) (C.times clock.old) (C.times clock.new) }
 {
     let head = Head {
         status: 200,
-        form: Form::ChunkedFrames,
+        form,
         close: terms.close,
     };
     match write_head(sink, &head) {
         Err(Failed) => Went::Ends(Ending::WriteFault),
         Ok(()) => {
-            let followed = follow_log(rt, turns, alloc, conn, spec, true, sink, clock);
+            let followed = follow(rt, turns, alloc, conn, reply, sink, clock);
             end_stream(sink, terms, followed)
         }
     }
 }
 
-/// Answers a request for a log by its call: with the stream that it gives, or with its refusal.
+/// Answers a request for a log or for events by its call: with the stream that it gives, or with its
+/// refusal.
 pub(crate) fn stream<W: Wait, T: Turns, K: Sink, C: Clock>(
     rt: &W,
     turns: &mut T,
@@ -108,14 +143,14 @@ pub(crate) fn stream<W: Wait, T: Turns, K: Sink, C: Clock>(
     requires class { class_of (request_of request.now) ≡ Stream call.now takes.None }
     requires sound { IsSound call.now }
     requires built { IsTrue (is_built call.now) }
-    requires logs { IsLogs call.now }
+    requires streamed { IsStreamed call.now }
     ensures { Tries conn (request_of request.now) result (T.pass turns.old) (T.pass turns.new) (K.takes sink.old) (K.takes sink.new) (C.times clock.old) (C.times clock.new) }
 {
     let terms = Terms::of(request);
     let handed = clock.now();
     match turns.turn(alloc, conn, handed, Some(call)) {
-        Turned::Replied(reply) => match spec_of(&reply) {
-            Some(spec) => send_log(rt, turns, alloc, conn, terms, &spec, sink, clock),
+        Turned::Replied(reply) => match form_of(&reply) {
+            Some(form) => send_stream(rt, turns, alloc, conn, terms, form, &reply, sink, clock),
             None => send_reply(sink, terms, &reply),
         },
         Turned::JournalFull => send_journal_full(sink, terms),

@@ -2,10 +2,10 @@
 ghost use Rattle.std.specs.Prelude.{◌≡◌, IfOk};
 ghost use Rattle.machine_model.specs.Calls.Logs as spec;
 ghost use Rattle.machine_effects.specs.Held.{container_in};
-ghost use Rattle.container_machine.specs.Making.{IsStream, Makes};
+ghost use Rattle.container_machine.specs.Making.{Makes};
 
+use crate::answers::stream;
 use crate::lookup::{Looked, look};
-use crate::plan::Plan;
 use crate::prepared::Prepared;
 use crate::selection::first_place;
 use engine_text::{LogAsk, LogSpec, NoMemory, Owner, Reply, StopRule};
@@ -41,18 +41,6 @@ fn log_spec(ask: &LogAsk, h: &Held) -> LogSpec
     }
 }
 
-// A stream, which changes nothing.
-fn stream(alloc: Global, moment: u64, of: LogSpec) -> Prepared
-    ensures { IsStream moment of result }
-{
-    Prepared {
-        moment,
-        reply: Reply::LogStream { spec: of },
-        events: Vec::new(alloc),
-        plan: Plan::Nothing,
-    }
-}
-
 /// Makes the stream ready.
 pub fn prepare(
     tables: &Tables,
@@ -64,7 +52,10 @@ pub fn prepare(
     ensures { IfOk result (λ p. Makes p moment tables.now.state (spec.logs_outcome target.now ask.now)) }
 {
     match look(tables, alloc, moment, target)? {
-        Looked::Stands(h) => Ok(stream(alloc, moment, log_spec(ask, h))),
+        Looked::Stands(h) => {
+            let spec = log_spec(ask, h);
+            Ok(stream(alloc, moment, Reply::LogStream { spec }))
+        }
         Looked::Refused(prepared) => Ok(prepared),
     }
 }

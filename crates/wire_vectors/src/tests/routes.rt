@@ -55,7 +55,7 @@ GET /containers/a/logs  400 message you must choose at least one stream
 GET /containers/a/logs?stdout=1&tail=x  400 message bad tail
 GET /containers/a/logs?stdout=1&since=1.1234567890  400 message bad time
 GET /containers/a/logs?stderr=1&until=12345678901  400 message bad time
-GET /events?since=5.  501 message not built
+GET /engine/journal  501 message not built
 GET /events?since=  400 message bad time
 GET /volumes?filters=[]  400 message invalid filter
 DELETE /containers/a?link=1  400 message links are left out";

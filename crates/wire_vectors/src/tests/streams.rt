@@ -73,3 +73,29 @@ fn a_log_has_the_streams_the_moments_and_the_tail_of_its_query(
     assert!(rt; is_up_to(up_to, 2500));
     Ok(())
 }
+
+// Whether a request asks in chunks for all events from that moment on, without an end.
+fn are_events_since(class: &Option<Class>, moment: u64) -> bool {
+    match class {
+        Some(
+            Class::Stream(
+                Call::Events {
+                    since,
+                    until,
+                    filter,
+                },
+                Takeover::None,
+            ),
+        ) => { *since == Some(moment) && until.is_none() && filter.len() == 0 }
+        _ => false,
+    }
+}
+
+#[test]
+fn events_have_the_moments_of_their_query(rt: HostRuntime) -> Result<(), Fail> {
+    let alloc = rt.alloc();
+    let routes = Routes::new(alloc)?;
+    let class = class_of(alloc, &routes, "GET", "/events?since=5.", "")?;
+    assert!(rt; are_events_since(&class, 5_000));
+    Ok(())
+}

@@ -8,15 +8,15 @@ use Rattle.machine_model.specs.Outcome.{replies}
 use Rattle.machine_model.specs.Step.{at_moment}
 use Rattle.container_machine.specs.Making.{IsLooked}
 use Rattle.container_machine.specs.declared.lookup.Looked.{Looked}
-use Rattle.container_machine.proofs.LogsLemmas.{streamed}
+use Rattle.container_machine.proofs.AnswerLemmas.{streamed}
 use Rattle.container_machine.proofs.calls.logs.prepare.Goals as goal
 
 pub returns-in-Stands : goal.returns-in-Stands
 returns-in-Stands c =
     let l : IsLooked (Looked.Stands c.in-Stands.h) c.args.moment c.args.target.now c.args.tables.now.state = subst (λ (l : Looked). IsLooked l c.args.moment c.args.target.now c.args.tables.now.state) c.in-Stands.is c.in_ok-h.ensures in
-    streamed c.stream.result c.args.moment c.args.tables.now.state c.log_spec.result (logs_outcome c.args.target.now c.args.ask.now)
+    streamed c.stream.result c.args.moment c.args.tables.now.state (LogStream c.log_spec-spec.result) (logs_outcome c.args.target.now c.args.ask.now)
     (l.1 (λ (d : Container). replies (LogStream (log_spec c.args.ask.now d)) still)
-    ∙ ap (λ (to : LogSpec). replies (LogStream to) still (at_moment c.args.moment c.args.tables.now.state)) (sym c.log_spec.ensures)) c.stream.ensures
+    ∙ ap (λ (to : LogSpec). replies (LogStream to) still (at_moment c.args.moment c.args.tables.now.state)) (sym c.log_spec-spec.ensures)) c.stream.ensures
 
 pub returns-in-Refused : goal.returns-in-Refused
 returns-in-Refused c =

@@ -1,5 +1,4 @@
-use Rattle.std.proofs.Common.{◌≤◌, arith, refl, ap, sym, subst, ◌∙◌, ◌++◌, List}
-use Rattle.engine_text.specs.declared.event.Event.{Event}
+use Rattle.std.proofs.Common.{◌≤◌, arith, refl, ap, sym, subst, ◌∙◌}
 use Rattle.machine_effects.specs.Memory.{Memory, Room, standing}
 use Rattle.container_machine.specs.DuePlans.{FitsDue}
 use Rattle.machine_model.specs.Step.{at_moment, counted}
@@ -29,7 +28,6 @@ returns c =
     stepped_as c.args.self.now _ (finished 0 (due_at c.requires.due c.args.self.now.memory.state)) (ap (λ o. step_of o c.args.self.now.memory.state) c.requires.least)
     (due_parts c.args.prepared c.args.self.now c.perform-death.result c.as_slice.result.now c.stand_at.new.self.state c.perform-death.new.tables.state c.settle.new.self.state c.count.new.self.state
     c.requires (ap (λ (m : Memory). m.state) c.stand_at.ensures ∙ ap (λ (w : MachineParts). at_moment c.args.prepared.moment w.memory.state) c.self.view_is) c.perform-death.ensures.state c.perform-death.ensures.died c.settle.ensures.state c.as_slice.ensures.value c.count.ensures.state)
-    (c.append_reserved.ensures ∙ (ap (λ (w : MachineParts). w.events ++ c.args.prepared.events.items) c.self.view_is ∙ ap (λ (l : List Event). c.args.self.now.events ++ l) c.requires.events))
 
 pub perform-death-requires : goal.perform-death-requires
 perform-death-requires c =

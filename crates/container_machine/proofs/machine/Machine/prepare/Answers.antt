@@ -1,4 +1,4 @@
-use Rattle.std.proofs.Common.{◌≡◌, subst, sym, arith}
+use Rattle.std.proofs.Common.{◌≡◌, subst, sym}
 use Rattle.engine_text.specs.declared.call.Call.{Call}
 use Rattle.machine_model.specs.State.{State}
 use Rattle.machine_model.specs.Call.{outcome_of}
@@ -17,7 +17,7 @@ returns-in-Drop-clause-ready c =
     subst (λ (x : Call). IsFor c.prepare_drop.result c.args.self.now (asked_by c.args.conn c.args.moment x)) (sym c.in-Drop.is)
     (ready_drop c.prepare_drop.result c.args.self.now c.args.conn c.args.moment c.in-Drop.ticket c.kept.ensures.state
     (subst (λ (x : Call). IsLawful c.args.self.now.memory.state (Step.Call c.args.conn c.args.moment x)) c.in-Drop.is c.requires.lawful)
-    c.prepare_drop.ensures c.fits.ensures)
+    c.prepare_drop.ensures)
 
 pub prepare_call-requires-clause-until : goal.prepare_call-requires-clause-until
 prepare_call-requires-clause-until c =
@@ -30,7 +30,7 @@ returns-clause-ready c =
     (subst (λ (s : State). IsConsistent s) e c.kept.ensures.state)
     (subst (λ (s : State). IsLawful s (Step.Call c.args.conn c.args.moment c.args.call.now)) e c.requires.lawful)
     (subst (λ (s : State). Makes c.in_ok-prepared.prepared c.args.moment s (outcome_of c.args.call.now c.args.conn)) e c.in_ok-prepared.ensures)
-    c.in_ok-make_room.ensures.room (omega (arith, c.in_ok-make_room.ensures.places))
+    c.in_ok-make_room.ensures.room
 
 pub prepare_call-requires-clause-heard : goal.prepare_call-requires-clause-heard
 prepare_call-requires-clause-heard c = not_drop c.args.call.now c.in_default.not-Drop

@@ -1,4 +1,4 @@
-use Rattle.std.proofs.Common.{◌≡◌, subst, sym, ap, ◌∙◌, arith}
+use Rattle.std.proofs.Common.{◌≡◌, subst, sym, ap, ◌∙◌}
 use Rattle.engine_text.specs.declared.step.Step.{Step}
 use Rattle.machine_model.specs.Consistency.{IsConsistent}
 use Rattle.machine_model.specs.Due.{least_due}
@@ -18,4 +18,4 @@ returns-clause-ready c =
     (subst (λ (s : State). IsLawful s Step.Due) e c.requires)
     (ap least_due (sym same) ∙ sym c.in-Some.ensures)
     (subst (λ (s : State). MakesDue c.in_ok-prepared.prepared c.in-Some.action s) same c.in_ok-prepared.ensures)
-    c.in_ok-make_due_room.ensures.room (omega (arith, c.in_ok-make_due_room.ensures.places))
+    c.in_ok-make_due_room.ensures.room

@@ -3,8 +3,9 @@ use Rattle.machine_model.specs.History.{moment_used, greatest_moment}
 use Rattle.daemon_core.specs.Passing.{charter}
 use Rattle.daemon_core.specs.Storing.{HoldsTicket}
 use Rattle.daemon_core.proofs.DueLemmas.{clear_behind}
+use Rattle.daemon_core.proofs.RingLemmas.{holds_last}
 use Rattle.daemon_core.proofs.TicketLemmas.{holds_at, holds_on, none_dropped}
-use Rattle.daemon_core.proofs.DaemonLemmas.{stands, as_stored, stands_due, rested, short, answered_as, used_at, used_from, used_until}
+use Rattle.daemon_core.proofs.DaemonLemmas.{stands, as_stored, told_of, stands_due, rested, short, answered_as, used_at, used_from, used_until}
 use Rattle.daemon_core.proofs.daemon.Daemon.ask.Goals as goal
 
 pub invariant_of-self-clause-state : goal.invariant_of-self-clause-state
@@ -13,6 +14,14 @@ invariant_of-self-clause-state c =
     let r = c.run_due.new.self in
     as_stored r _ (stands_due (charter d) c.moment_used-moment.result d.stored.machine.memory.state r.machine.memory.state d.stored.steps.items r.steps.items
     (stands d) c.run_due.ensures.made).is
+
+pub run_due-requires-clause-told : goal.run_due-requires-clause-told
+run_due-requires-clause-told c = (charter c.args.self.now, told_of c.args.self.now)
+
+pub invariant_of-self-clause-told : goal.invariant_of-self-clause-told
+invariant_of-self-clause-told c =
+    let d = c.args.self.now in
+    holds_last (charter d) c.run_due.new.self (c.run_due.ensures.told (charter d) (told_of d)).ring
 
 pub invariant_of-self-clause-legal : goal.invariant_of-self-clause-legal
 invariant_of-self-clause-legal c =

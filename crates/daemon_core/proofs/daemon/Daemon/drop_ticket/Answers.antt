@@ -2,7 +2,9 @@ use Rattle.std.proofs.Common.{subst, sym}
 use Rattle.engine_text.specs.declared.call.Call.TheVariants as call
 use Rattle.daemon_core.specs.Passing.{charter}
 use Rattle.daemon_core.specs.Storing.{HoldsTicket}
-use Rattle.daemon_core.proofs.DaemonLemmas.{stands, as_stored, stands_on, drop_lawful, drop_made}
+use Rattle.daemon_core.proofs.DaemonLemmas.{stands, as_stored, told_of, stands_on, drop_lawful, drop_made}
+use Rattle.daemon_core.proofs.TellLemmas.{told_made}
+use Rattle.daemon_core.proofs.RingLemmas.{holds_last}
 use Rattle.daemon_core.proofs.TicketLemmas.{holds_at}
 use Rattle.daemon_core.proofs.daemon.Daemon.drop_ticket.Goals as goal
 
@@ -25,6 +27,16 @@ invariant_of-self-clause-state c =
     c.args.conn c.now-moment.result (call.Drop c.args.ticket) (stands d)
     (drop_lawful d.stored.machine.memory.state c.args.conn c.now-moment.result c.args.ticket c.now-moment.ensures.clock holds)
     c.make.ensures.made c.make.ensures.state c.make.ensures.steps).is
+
+pub make-requires-clause-told : goal.make-requires-clause-told
+make-requires-clause-told c = (charter c.args.self.now, told_of c.args.self.now)
+
+pub invariant_of-self-clause-told : goal.invariant_of-self-clause-told
+invariant_of-self-clause-told c =
+    let d = c.args.self.now in
+    let r = c.make.new.self in
+    holds_last (charter d) r (told_made c.make.result d.stored r c.make.ensures.told c.make.ensures.state c.make.ensures.steps c.make.ensures.ring
+    (charter d) (told_of d)).ring
 
 pub invariant_of-self-clause-legal : goal.invariant_of-self-clause-legal
 invariant_of-self-clause-legal c =

@@ -5,7 +5,9 @@ use Rattle.machine_model.specs.Room.{HasRoom}
 use Rattle.machine_model.specs.History.{IsLawful}
 use Rattle.daemon_core.specs.Passing.{charter}
 use Rattle.daemon_core.specs.Storing.{is_open}
-use Rattle.daemon_core.proofs.DaemonLemmas.{room_same, stands, as_stored, stands_on, lawful_by}
+use Rattle.daemon_core.proofs.DaemonLemmas.{room_same, stands, as_stored, told_of, stands_on, lawful_by}
+use Rattle.daemon_core.proofs.RingLemmas.{holds_last}
+use Rattle.daemon_core.proofs.TellLemmas.{told_made}
 use Rattle.daemon_core.proofs.daemon.Daemon.make.Goals as goal
 
 pub invariant_of-self-2-clause-state : goal.invariant_of-self-2-clause-state
@@ -21,6 +23,16 @@ invariant_of-self-2-clause-state c =
     (lawful_by (charter d) s c.args.conn c.args.moment asked c.requires.built c.requires.sound c.requires.kind c.requires.holds c.requires.at room may) in
     as_stored r _ (stands_on c.make.result (charter d) s r.machine.memory.state d.stored.steps.items r.steps.items c.args.conn c.args.moment c.in-Ok.made
     (stands d) lawful c.make.ensures.made c.make.ensures.state c.make.ensures.steps).is
+
+pub make-requires-clause-told : goal.make-requires-clause-told
+make-requires-clause-told c = (charter c.args.self.now, told_of c.args.self.now)
+
+pub invariant_of-self-2-clause-told : goal.invariant_of-self-2-clause-told
+invariant_of-self-2-clause-told c =
+    let d = c.args.self.now in
+    let r = c.make.new.self in
+    holds_last (charter d) r (told_made c.make.result d.stored r c.make.ensures.told c.make.ensures.state c.make.ensures.steps c.make.ensures.ring
+    (charter d) (told_of d)).ring
 
 pub invariant_of-self-2-clause-legal : goal.invariant_of-self-2-clause-legal
 invariant_of-self-2-clause-legal c =

@@ -6,13 +6,13 @@ pub returns-clause-own : goal.returns-clause-own
 returns-clause-own c =
     let d = c.args.value.now.daemon.value in
     let job = c.args.self.now in
-    part_by_one (opening_in d) job.conn job.handed job.spec job.place c.log_from.result _ _ d.stored.steps.items c.log_from.new.self.stored.steps.items
-    (part_of (opening_in d) _ job.conn job.handed job.spec job.place c.log_from.result _ _ d.stored.steps.items
-    c.log_from.new.self.stored.steps.items (rw c.deref_mut.ensures.value at c.log_from.ensures))
+    part_by_one (opening_in d) job.conn job.handed c.log_from.result _ d.stored.steps.items c.log_from.new.self.stored.steps.items
+    (part_of (opening_in d) _ job.conn job.handed c.log_from.result _ d.stored.steps.items c.log_from.new.self.stored.steps.items
+    (rw c.deref_mut.ensures.value at c.log_from.ensures))
 
 pub returns-clause-answer : goal.returns-clause-answer
 returns-clause-answer c =
     let d = c.args.value.now.daemon.value in
     let job = c.args.self.now in
-    part_of (opening_in d) _ job.conn job.handed job.spec job.place c.log_from.result _ _ d.stored.steps.items
-    c.log_from.new.self.stored.steps.items (rw c.deref_mut.ensures.value at c.log_from.ensures)
+    part_of (opening_in d) _ job.conn job.handed c.log_from.result _ d.stored.steps.items c.log_from.new.self.stored.steps.items
+    (rw c.deref_mut.ensures.value at c.log_from.ensures)

@@ -8,4 +8,4 @@ pub turn-part-requires-clause-meets : goal.turn-part-requires-clause-meets
 turn-part-requires-clause-meets g c = λ o h is legal others. tt
 
 pub returns : goal.returns
-returns g c = rw c.replace-so_far.ensures.value at (shared_part _ _ c.turn-part.ensures.pass.1.0 c.args.conn c.args.handed c.args.spec.now c.args.place c.turn-part.result _ _ c.args.self.now.pass.me.0 c.turn-part.new.pass.me.0 c.requires.number c.args.self.now.apart c.turn-part.ensures.turned)
+returns g c = rw c.replace-so_far.ensures.value at (shared_part _ _ c.turn-part.ensures.pass.1.0 c.args.conn c.args.handed c.turn-part.result _ c.args.self.now.pass.me.0 c.turn-part.new.pass.me.0 c.requires.number c.args.self.now.apart c.turn-part.ensures.turned)

@@ -1,7 +1,7 @@
 use Rattle.std.proofs.Common.{subst}
 use Rattle.daemon_core.specs.Passing.{charter, whole_pass}
 use Rattle.engine_conformance.specs.Bystanding.{Bystands}
-use Rattle.engine_conformance.proofs.CrowdLemmas.{log_behind, log_numbered}
+use Rattle.engine_conformance.proofs.CrowdLemmas.{part_behind, part_numbered}
 use Rattle.engine_conformance.proofs.crowding.CrowdTurns.log_from.Goals as goal
 
 pub returns : goal.returns
@@ -12,8 +12,8 @@ returns c =
     let d'' = c.log_from.new.self in
     let by : Bystands c.args.conn (whole_pass d) (whole_pass d') =
     subst (λ n. Bystands n (whole_pass d) (whole_pass d')) c.requires.number c.let_other.ensures.stands in
-    log_numbered _ _ s.own c.let_other.new.self.own c.args.conn c.args.handed _ c.args.place c.log_from.result _ _ (whole_pass d) (whole_pass d'')
+    part_numbered _ _ s.own c.let_other.new.self.own c.args.conn c.args.handed c.log_from.result _ (whole_pass d) (whole_pass d'')
     c.requires.number c.let_other.ensures.own
-    (log_behind c.args.conn c.args.handed _ c.args.place c.log_from.result _ _ (charter d) (charter d') (charter d'')
+    (part_behind c.args.conn c.args.handed c.log_from.result _ (charter d) (charter d') (charter d'')
     d.stored.steps.items d'.stored.steps.items d''.stored.steps.items by c.log_from.ensures _ _
     c.let_other.ensures.later c.let_other.ensures.looked)

@@ -1,6 +1,7 @@
 use Rattle.session_model.specs.Pass.{IsNumber}
+use Rattle.attach_hub.specs.Streams.{reply_of}
 use Rattle.attach_hub.proofs.FollowLemmas.{Following}
-use Rattle.attach_hub.proofs.following.follow_log.Given as goal
+use Rattle.attach_hub.proofs.following.follow.Given as goal
 
 abbrev pub invariant-loop : goal.invariant-loop
 invariant-loop g l =
@@ -8,5 +9,5 @@ invariant-loop g l =
     record {
       iterator : (goal.iterator-loop g).can_next l.iterator' × (goal.iterator-loop g).is_finite l.iterator';
       number : IsNumber (pass l.turns).number l.conn;
-      following : Following l.conn l.spec l.chunked (pass l.fn.turns) (pass l.turns) (g.K.Sink.takes l.fn.sink) (g.K.Sink.takes l.sink) (g.C.Clock.times l.fn.clock) (g.C.Clock.times l.clock) l.place;
+      following : Following l.conn (reply_of l.stream) l.chunked (pass l.fn.turns) (pass l.turns) (g.K.Sink.takes l.fn.sink) (g.K.Sink.takes l.sink) (g.C.Clock.times l.fn.clock) (g.C.Clock.times l.clock) l.place;
     }

@@ -1,12 +1,15 @@
-use Rattle.std.proofs.Common.{refl, subst, Ok, Err}
+use Rattle.std.proofs.Common.{subst, Err}
 use Rattle.engine_ports.specs.Sink.{SinkTook, WriteSays}
 use Rattle.attach_hub.specs.Following.{written_of}
-use Rattle.attach_hub.proofs.FollowLemmas.{following, asked_on, asked_number, more, failed, stopped, short, gone, whole, paused}
-use Rattle.attach_hub.proofs.following.follow_log.Goals.{in-More+in-Ok, in-UpToDate+in-Go}
-use Rattle.attach_hub.proofs.following.follow_log.Goals as goal
+use Rattle.attach_hub.proofs.FollowLemmas.{following, asks_from, asked_on, asked_number, more, failed, stopped, short, gone, whole, paused}
+use Rattle.attach_hub.proofs.following.follow.Goals.{in-More+in-Ok, in-UpToDate+in-Go}
+use Rattle.attach_hub.proofs.following.follow.Goals as goal
 
 pub loop-init : goal.loop-init
-loop-init g c = record { iterator = (tt, tt); number = c.requires.number; following = following c.args.conn c.args.spec.now c.args.chunked _ _ _ _ refl c.requires.may }
+loop-init g c = record { iterator = (tt, tt); number = c.requires.number; following = following c.args.conn _ c.args.chunked _ _ _ _ c.first_of-place.ensures c.requires.may }
+
+pub part_of-requires-clause-stands : goal.part_of-requires-clause-stands
+part_of-requires-clause-stands g c = asks_from c.args.conn _ c.args.chunked _ _ _ _ _ _ _ c.loop.invariant.following
 
 pub returns-in-Err : goal.returns-in-Err
 returns-in-Err g c =
@@ -17,12 +20,12 @@ returns-in-Err g c =
 pub returns-in-Stop : goal.returns-in-Stop
 returns-in-Stop g c =
     stopped c.args.conn _ c.args.chunked _ _ _ _ _ _ _ _
-    (asked_on c.args.conn c.now-handed.result _ c.args.chunked _ _ _ _ _ _ _ _ _ _ _ _ _ c.requires.pair c.loop.invariant.following c.now-handed.ensures c.in-UpToDate.ensures)
+    (asked_on c.args.conn c.now-handed.result _ c.args.chunked _ _ _ _ _ _ _ _ _ _ _ _ c.requires.pair c.loop.invariant.following c.now-handed.ensures c.in-UpToDate.ensures)
     c.in-Stop.ensures.0 c.in-Stop.ensures.1
 
 pub returns-in-Whole : goal.returns-in-Whole
 returns-in-Whole g c =
-    whole c.args.conn c.now-handed.result _ c.args.chunked _ _ _ _ _ _ _ _ _ _ _ c.requires.pair c.requires.may.runless c.loop.invariant.following c.now-handed.ensures c.in-Whole.ensures
+    whole c.args.conn c.now-handed.result _ c.args.chunked _ _ _ _ _ _ _ _ _ _ _ c.requires.pair c.requires.may c.loop.invariant.following c.now-handed.ensures c.in-Whole.ensures
 
 pub returns-in-Gone : goal.returns-in-Gone
 returns-in-Gone g c =
@@ -31,10 +34,10 @@ returns-in-Gone g c =
 pub returns-in-NoMemory : goal.returns-in-NoMemory
 returns-in-NoMemory g c =
     short c.args.conn _ c.args.chunked _ _ _ _ _ _ _
-    (asked_on c.args.conn c.now-handed.result _ c.args.chunked _ _ _ _ _ _ _ _ _ _ _ _ _ c.requires.pair c.loop.invariant.following c.now-handed.ensures c.in-NoMemory.ensures)
+    (asked_on c.args.conn c.now-handed.result _ c.args.chunked _ _ _ _ _ _ _ _ _ _ _ _ c.requires.pair c.loop.invariant.following c.now-handed.ensures c.in-NoMemory.ensures)
 
 pub loop-preserved : goal.loop-preserved
-loop-preserved g c = elim c.match-log_from.branch [
+loop-preserved g c = elim c.match-part_of.branch [
   | in-More+in-Ok w ↦ rw (w.sink-is, w.clock-is, w.place-is) (record {
     iterator = (tt, tt);
     number = asked_number c.args.conn c.now-handed.result _ _ _ _ _ _ _ c.loop.invariant.number w.in-More.ensures;
@@ -48,7 +51,7 @@ loop-preserved g c = elim c.match-log_from.branch [
     number = asked_number c.args.conn c.now-handed.result _ _ _ _ _ _ _ c.loop.invariant.number w.in-UpToDate.ensures;
     following =
         paused c.args.conn _ c.args.chunked _ _ _ _ _ _ _ _
-        (asked_on c.args.conn c.now-handed.result _ c.args.chunked _ _ _ _ _ _ _ _ _ _ _ _ _ c.requires.pair c.loop.invariant.following c.now-handed.ensures w.in-UpToDate.ensures)
+        (asked_on c.args.conn c.now-handed.result _ c.args.chunked _ _ _ _ _ _ _ _ _ _ _ _ c.requires.pair c.loop.invariant.following c.now-handed.ensures w.in-UpToDate.ensures)
         w.in-Go.ensures;
   })
 ]

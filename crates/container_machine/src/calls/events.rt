@@ -1,0 +1,30 @@
+// Events: the stream of a history's events, from a number on.
+ghost use Rattle.std.specs.Prelude.{IfOk};
+ghost use Rattle.machine_model.specs.Calls.Events as spec;
+ghost use Rattle.container_machine.specs.Making.{Makes};
+
+use crate::answers::stream;
+use crate::prepared::Prepared;
+use engine_text::{Filter, NoMemory, Reply};
+use machine_effects::Tables;
+use std::alloc::Global;
+
+/// Makes the stream ready.
+pub fn prepare(
+    tables: &Tables,
+    alloc: Global,
+    moment: u64,
+    since: Option<u64>,
+    until: Option<u64>,
+    filter: &Filter,
+) -> Result<Prepared, NoMemory>
+    ensures { IfOk result (λ p. Makes p moment tables.now.state (spec.events_outcome since until filter.now)) }
+{
+    let filter = filter.copy(alloc)?;
+    let reply = Reply::EventStream {
+        first: tables.first_event(since),
+        until,
+        filter,
+    };
+    Ok(stream(alloc, moment, reply))
+}

@@ -1,0 +1,130 @@
+-- That the ring goes with the history: what a step adds to its events, when they are, and that there is room for them.
+use Rattle.std.proofs.Common.{◌≡◌, ◌≤◌, ◌<◌, ◌+◌, ◌^◌, ℕ, List, [], ◌∷◌, ◌++◌, Option, refl, subst, sym, ◌∙◌, ap, append-nil, length, length-append, arith, Result, Ok, Err, OnErr}
+use Rattle.std.specs.Prelude.{IsFalse, IfOk, unwrap_or}
+use Rattle.std.specs.Option.{unwrap_or}
+use Rattle.engine_text.specs.declared.call.Call.{Call}
+use Rattle.engine_text.specs.declared.call.Call.TheVariants as call
+use Rattle.engine_text.specs.declared.event.Event.{Event}
+use Rattle.engine_text.specs.declared.memory.NoMemory.{NoMemory}
+use Rattle.engine_text.specs.declared.reply.Reply.{Reply}
+use Rattle.engine_text.specs.declared.step.DueAction.{DueAction}
+use Rattle.engine_text.specs.declared.step.Step.{Step}
+use Rattle.event_ring.specs.Ring.{Kept, ring_of}
+use Rattle.machine_model.specs.State.{State}
+use Rattle.machine_model.specs.Chain.{still}
+use Rattle.machine_model.specs.Call.{outcome_of}
+use Rattle.machine_model.specs.Consistency.{IsConsistent}
+use Rattle.machine_model.specs.History.{Charter, IsLawful, after_step, events_of, is_drop, opening_state, state_after}
+use Rattle.machine_model.specs.Step.{step_effect, step_of}
+use Rattle.machine_model.proofs.Histories.{events_append, run_append}
+use Rattle.machine_model.proofs.Kept.PastLemmas.{events_counted}
+use Rattle.machine_model.proofs.Laws.{kept_step}
+use Rattle.machine_model.proofs.ListLemmas.{all_weaken}
+use Rattle.machine_model.proofs.MomentLemmas.{Moves, moves}
+use Rattle.container_machine.specs.Dues.{IsForDue}
+use Rattle.container_machine.specs.Parts.{MachineParts}
+use Rattle.container_machine.specs.declared.due.PreparedDue.{PreparedDue}
+use Rattle.daemon_core.specs.Telling.{AreTimed, IsToldBySome, KeepsTold, Plays}
+use Rattle.daemon_core.specs.declared.stored.Stored.{Stored}
+
+-- ---- the events of a step
+
+-- they come behind those of the history
+pub events_more : (ch : Charter) (h : List Step) (x : Step)
+    → events_of ch (h ++ x ∷ []) ≡ events_of ch h ++ (step_effect x (state_after ch h)).events
+events_more ch h x =
+    events_append (opening_state ch) h (x ∷ [])
+    ∙ ap (λ es. events_of ch h ++ es) (append-nil (step_effect x (state_after ch h)).events)
+
+-- none lies past the greatest moment
+pub timed_step : (s : State) (x : Step) → IsConsistent s → IsLawful s x → AreTimed (step_effect x s).events
+timed_step s x kept lawful =
+    let one : Moves s (step_effect x s) = moves s x kept.limits.dues lawful in
+    let until = (kept_step s x kept lawful).limits.clock in
+    all_weaken (λ (v : Event). v.moment ≡ (step_effect x s).state.clock) (λ (v : Event). v.moment ≤ 9000000000000)
+    (λ v at. omega (arith, at, until)) (step_effect x s).events one.0
+
+-- what is made ready has those of the due step
+pub due_events : (p : PreparedDue) (w : MachineParts) → IsForDue p w → p.events.items ≡ (step_effect Step.Due w.memory.state).events
+due_events p w ready =
+    let s : State = w.memory.state in
+    ready.events ∙ sym (ap (λ (o : Option DueAction). (unwrap_or (step_of o s) (still s)).events) ready.least)
+
+-- a drop has none
+pub some_told : (c : Call) (k : ℕ) (s : State) → 0 < length (outcome_of c k s).effect.events → IsFalse (is_drop c)
+some_told (call.Drop n) k s some = absurd (omega (arith, some))
+some_told c k s some = refl
+
+-- ---- their count
+
+pub few_events : (ch : Charter) (h : List Step) → IsConsistent (state_after ch h) → length (events_of ch h) ≤ 2 ^ 63
+few_events ch h kept =
+    let count = (events_counted ch h).1 in
+    let events = kept.counts.events in
+    let steps = kept.counts.steps in
+    omega (arith, count, events, steps)
+
+state_more : (ch : Charter) (h : List Step) (s : State) (x : Step) → s ≡ state_after ch h → after_step s x ≡ state_after ch (h ++ x ∷ [])
+state_more ch h s x is = ap (λ (y : State). after_step y x) is ∙ sym (run_append ch h (x ∷ []))
+
+-- so the ring can count them
+pub room_for : (d : Stored) (x : Step) (events : List Event) → IsToldBySome d → IsConsistent d.machine.memory.state
+    → IsLawful d.machine.memory.state x → events ≡ (step_effect x d.machine.memory.state).events → d.ring.count + length events ≤ 2 ^ 63
+room_for d x events (ch, told) kept lawful are =
+    let s : State = d.machine.memory.state in
+    let h : List Step = d.steps.items in
+    let is : s ≡ state_after ch h = told.state in
+    let more : length (events_of ch (h ++ x ∷ [])) ≤ 2 ^ 63 =
+    few_events ch (h ++ x ∷ []) (subst IsConsistent (state_more ch h s x is) (kept_step s x kept lawful)) in
+    let sum : length (events_of ch (h ++ x ∷ [])) ≡ length (events_of ch h) + length (step_effect x (state_after ch h)).events =
+    ap length (events_more ch h x) ∙ length-append (events_of ch h) (step_effect x (state_after ch h)).events in
+    let count : d.ring.count ≡ length (events_of ch h) = ap (λ (r : Kept). r.count) told.ring in
+    let these : length events ≡ length (step_effect x (state_after ch h)).events =
+    ap length (are ∙ ap (λ (y : State). (step_effect x y).events) is) in
+    omega (arith, more, sum, count, these)
+
+-- ---- behind a step
+
+-- its events came to the ring
+pub played : (d d' : Stored) (x : Step) (events : List Event) → d'.machine.memory.state ≡ after_step d.machine.memory.state x
+    → events ≡ (step_effect x d.machine.memory.state).events
+    → ((all : List Event) → d.ring ≡ ring_of all → d'.ring ≡ ring_of (all ++ events)) → Plays x d d'
+played d d' x events state are ring = record { state = state; ring = λ all is. ring all is ∙ ap (λ es. ring_of (all ++ es)) are }
+
+-- the ring holds the last events of a history that is longer by the step
+pub told_more : (d d1 d' : Stored) (x : Step) → Plays x d d1 → d'.machine ≡ d1.machine → d'.ring ≡ d1.ring
+    → d'.steps.items ≡ d.steps.items ++ x ∷ [] → KeepsTold d d'
+told_more d d1 d' x plays machine ring steps ch told =
+    let h : List Step = d.steps.items in
+    record {
+      state = ap (λ (m : MachineParts). m.memory.state) machine ∙ plays.state ∙ state_more ch h d.machine.memory.state x told.state
+          ∙ ap (state_after ch) (sym steps);
+      ring = ring ∙ plays.ring (events_of ch h) told.ring
+          ∙ ap ring_of (ap (λ (y : State). events_of ch h ++ (step_effect x y).events) told.state
+          ∙ sym (events_more ch h x) ∙ ap (events_of ch) (sym steps));
+    }
+
+pub told_on : (d d' d'' : Stored) → KeepsTold d d' → KeepsTold d' d'' → KeepsTold d d''
+told_on d d' d'' first more ch told = more ch (first ch told)
+
+-- by some charter
+pub told_by : (d d' : Stored) → KeepsTold d d' → IsToldBySome d → IsToldBySome d'
+told_by d d' keeps (ch, told) = (ch, keeps ch told)
+
+-- where nothing changed it stays told
+told_same : (d d' : Stored) → d'.machine.memory.state ≡ d.machine.memory.state → d'.steps.items ≡ d.steps.items → d'.ring ≡ d.ring
+    → KeepsTold d d'
+told_same d d' state steps ring ch told = record {
+  state = state ∙ told.state ∙ ap (state_after ch) (sym steps);
+  ring = ring ∙ told.ring ∙ ap (λ h. ring_of (events_of ch h)) (sym steps);
+}
+
+pub told_still : (d d' : Stored) → d'.machine ≡ d.machine → d'.steps.items ≡ d.steps.items → d'.ring ≡ d.ring → KeepsTold d d'
+told_still d d' machine steps ring = told_same d d' (ap (λ (m : MachineParts). m.memory.state) machine) steps ring
+
+-- behind a call, whether it was made or not
+pub told_made : (r : Result Reply NoMemory) (d d' : Stored) → IfOk r (λ x. KeepsTold d d')
+    → OnErr r (d'.machine.memory.state ≡ d.machine.memory.state) → OnErr r (d'.steps.items ≡ d.steps.items) → OnErr r (d'.ring ≡ d.ring)
+    → KeepsTold d d'
+told_made (Ok x) d d' keeps _ _ _ = keeps
+told_made (Err x) d d' _ state steps ring = told_same d d' state steps ring

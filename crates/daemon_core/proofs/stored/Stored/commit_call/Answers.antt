@@ -1,0 +1,56 @@
+use Rattle.std.proofs.Common.{◌≡◌, ◌<◌, refl, subst, sym, ap, ◌∙◌, length}
+use Rattle.engine_text.specs.declared.step.Step.{Step}
+use Rattle.machine_model.specs.State.{State}
+use Rattle.machine_model.specs.History.{after_step, reply_of}
+use Rattle.machine_model.specs.Step.{at_moment, step_effect}
+use Rattle.container_machine.specs.Prepared.{asked_by}
+use Rattle.daemon_core.specs.Telling.{AreTimed}
+use Rattle.daemon_core.proofs.TellLemmas.{played, room_for, some_told, timed_step}
+use Rattle.daemon_core.proofs.WrittenLemmas.{on_err}
+use Rattle.daemon_core.proofs.stored.Stored.commit_call.Goals as goal
+
+pub with_lines-requires : goal.with_lines-requires
+with_lines-requires c =
+    let s : State = c.args.self.now.machine.memory.state in
+    let x : Step = Step.Call c.args.conn c.args.moment c.args.call.now in
+    let are : c.events.result.now ≡ (step_effect x s).events =
+    c.events.ensures ∙ c.in_ok-prepared.ensures.ready.events ∙ ap (λ (y : State). (step_effect x y).events) c.prepare.ensures.state in
+    subst AreTimed (sym are) (timed_step s x c.kept.ensures.state c.requires.lawful)
+
+pub keep_all-requires : goal.keep_all-requires
+keep_all-requires c =
+    let s : State = c.args.self.now.machine.memory.state in
+    let x : Step = Step.Call c.args.conn c.args.moment c.args.call.now in
+    let are : c.in_ok-lines.lines.items ≡ (step_effect x s).events =
+    c.in_ok-lines.ensures.ok ∙ c.events.ensures ∙ c.in_ok-prepared.ensures.ready.events
+    ∙ ap (λ (y : State). (step_effect x y).events) c.prepare.ensures.state in
+    room_for c.args.self.now x c.in_ok-lines.lines.items c.requires.told c.kept.ensures.state c.requires.lawful are
+
+pub returns : goal.returns
+returns c =
+    let k = c.args.conn in
+    let t = c.args.moment in
+    let call = c.args.call.now in
+    let s : State = c.args.self.now.machine.memory.state in
+    let x : Step = Step.Call k t call in
+    let n = c.commit-reply.new.self in
+    let are : c.in_ok-lines.lines.items ≡ (step_effect x s).events =
+    c.in_ok-lines.ensures.ok ∙ c.events.ensures ∙ c.in_ok-prepared.ensures.ready.events
+    ∙ ap (λ (y : State). (step_effect x y).events) c.prepare.ensures.state in
+    let done = c.commit-reply.ensures (asked_by k t call) c.in_ok-prepared.ensures.ready in
+    let is : n.memory.state ≡ after_step s x = done.state ∙ ap (λ (y : State). after_step y x) c.prepare.ensures.state in
+    record {
+      steps = refl;
+      made = played c.args.self.now (record { machine = n; steps = c.args.self.now.steps; ring = c.keep_all.new.ring }) x
+          c.in_ok-lines.lines.items is are c.keep_all.ensures;
+      reply = done.reply ∙ ap (λ (y : State). reply_of y k t call) c.prepare.ensures.state;
+      state = tt;
+      ring = tt;
+      drop = tt;
+    }
+
+pub returns-in_err-lines-clause-drop : goal.returns-in_err-lines-clause-drop
+returns-in_err-lines-clause-drop c =
+    let some : 0 < length c.events.result.now = c.in_err-lines.ensures.err in
+    let told = subst (λ es. 0 < length es) (c.events.ensures ∙ c.in_ok-prepared.ensures.ready.events) some in
+    on_err c.from_residual-in_err-lines.result (some_told c.args.call.now c.args.conn (at_moment c.args.moment c.prepare.new.self.memory.state) told)
