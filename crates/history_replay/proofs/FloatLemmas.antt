@@ -1,8 +1,7 @@
 -- The value of an entry has no float.
 use Rattle.std.specs.Option.{option_map_or}
-use Rattle.std.proofs.Common.{◌≡◌, ◌||◌, ℕ, ℤ, pos, negsuc, List, [], ◌∷◌, Bool, false, Option, Some, None, refl, ap}
-use Rattle.serde_json.specs.Data.{Data, number, string, Members, no_members, null}
-use Rattle.serde_json.specs.Find.{of_integer}
+use Rattle.std.proofs.Common.{◌≡◌, ℕ, ℤ, pos, negsuc, List, [], ◌∷◌, false, Option, Some, None, refl}
+use Rattle.serde_json.specs.Data.{Data, Members, no_members, null}
 use Rattle.serde_json.specs.Written.{has_float, members_have_float}
 use Rattle.json_laws.proofs.NoFloat.{no_float-put, no_float-pairs_data}
 use Rattle.api_json.specs.Values.{list_of, pairs_of, text, natural, integer}
@@ -11,10 +10,8 @@ use Rattle.machine_model.specs.JournalLines.{signal_value, put_rows, filter_valu
 use Rattle.engine_text.specs.declared.call.Call.{Call}
 use Rattle.engine_text.specs.declared.entry.Entry.{Entry}
 use Rattle.engine_text.specs.declared.filter.FilterRow.{FilterRow}
-use Rattle.engine_text.specs.declared.mounts.Mount.{Mount}
 use Rattle.engine_text.specs.declared.reply.Reply.{Reply}
 use Rattle.engine_text.specs.declared.reply.Reply.TheVariants.{Answer, Begun, LogStream, EventStream, JournalStream, Fed, Dropped}
-use Rattle.engine_text.specs.declared.signal.Signal.{Signal}
 
 -- of things that have none, the list has none
 list : {A : Type 0} (f : A → Data) (xs : List A) → ((x : A) → has_float (f x) ≡ false) → has_float (list_of f xs) ≡ false

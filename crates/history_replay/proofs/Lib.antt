@@ -1,4 +1,13 @@
 pub mod VerdictFacts
+mod TestLemmas
+mod MemberLemmas
 mod ValueLemmas
 mod FloatLemmas
+mod RisingLemmas
+mod WordLemmas
+mod ListLemmas
+mod PartLemmas
+mod CarriedLemmas
+mod CallLemmas
+mod EntryLemmas
 mod JournalLemmas

@@ -1,6 +1,12 @@
 pub mod Object
 pub mod CreateParts
 pub mod Line
+pub mod ReadParts
+pub mod ReadLists
+pub mod ReadCalls
+pub mod ReadEntry
+pub mod Texts
+pub mod Rising
 pub mod Stored
 pub mod Due
 pub mod Entry

@@ -1,11 +1,20 @@
 //! Journals: their lines, and what a checker says of them.
 #![tactic(auto)]
 
+mod fault;
 mod journal;
 mod places;
+mod reading;
+mod sound;
 mod verdict;
 mod writing;
 
+pub use fault::LineFault;
 pub use journal::Journal;
+pub use reading::{law_line_reads_back, read_line};
+pub use sound::is_sound;
 pub use verdict::Verdict;
-pub use writing::write_line;
+pub use writing::{reply_text, write_line};
+
+#[cfg(test)]
+mod tests;

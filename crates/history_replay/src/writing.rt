@@ -11,4 +11,5 @@ mod options;
 mod replies;
 mod values;
 
-pub use line::write_line;
+pub use line::{line_of, write_line};
+pub use replies::{ended_ticket, reply_text};

@@ -1,10 +1,11 @@
 // Replies as values.
-ghost use Rattle.std.specs.Prelude.{◌≡◌, IfOk};
+ghost use Rattle.std.specs.Prelude.{◌≡◌, IfOk, false};
 ghost use Rattle.serde_json.specs.View.{view};
+ghost use Rattle.serde_json.specs.Written.{has_float, compact_text};
 ghost use Rattle.machine_model.specs.JournalLines as spec;
 
 use super::object::Object;
-use engine_text::{Call, Reply, Text};
+use engine_text::{Call, NoMemory, Reply, Text};
 use serde_json::Value;
 use std::alloc::{AllocError, Global};
 
@@ -42,8 +43,8 @@ fn fed_value(alloc: Global, taken: bool) -> Result<Value, AllocError>
     Ok(Object::new(alloc).flag(alloc, "fed", taken)?.value())
 }
 
-// The ticket that a call ends, or 0.
-fn ended_ticket(call: &Call) -> u64
+/// The ticket that a call ends, or 0.
+pub fn ended_ticket(call: &Call) -> u64
     ensures { result ≡ spec.ended_ticket call.now }
 {
     match call {
@@ -66,4 +67,21 @@ pub fn reply_value(alloc: Global, call: &Call, reply: &Reply) -> Result<Value, A
         Reply::Fed { taken } => fed_value(alloc, *taken),
         Reply::Dropped => one_number(alloc, "dropped", ended_ticket(call)),
     }
+}
+
+// The compact text of a value without a float.
+fn value_text(alloc: Global, value: &Value) -> Result<Text, NoMemory>
+    requires { has_float (view value.now) ≡ false }
+    ensures { IfOk result (λ text. text ≡ compact_text (view value.now)) }
+{
+    let text = value.to_string(alloc)?;
+    Ok(Text::from_string(text))
+}
+
+/// The text of a reply, beside its call: what a line keeps of it.
+pub fn reply_text(alloc: Global, call: &Call, reply: &Reply) -> Result<Text, NoMemory>
+    ensures { IfOk result (λ text. text ≡ compact_text (spec.reply_value call.now reply.now)) }
+{
+    let value = reply_value(alloc, call, reply)?;
+    value_text(alloc, &value)
 }

@@ -1,4 +1,4 @@
-use Rattle.std.proofs.Common.{◌≡◌, ◌+◌, ℕ, List, drop, sym, ap, ap₂, ◌∙◌}
+use Rattle.std.proofs.Common.{◌+◌, ℕ, List, drop, sym, ap, ap₂, ◌∙◌}
 use Rattle.std.proofs.lemmas.List.{at_drop_more, at_drop_all}
 use Rattle.serde_json.specs.Data.{string, put, object}
 use Rattle.json_laws.specs.Pairs.{put_pairs}

@@ -1,0 +1,15 @@
+// A journal's lines, read: one file for each kind of value.
+mod calls;
+mod carried;
+mod create;
+mod execs;
+mod feeds;
+mod filter;
+mod line;
+mod lists;
+mod logs;
+mod options;
+mod parts;
+mod replies;
+
+pub use line::{law_line_reads_back, read_line};
