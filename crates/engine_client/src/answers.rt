@@ -1,0 +1,12 @@
+// What is read of the bodies of answers, and what a fault ends a command with.
+mod codes;
+mod faults;
+mod fields;
+mod lists;
+mod telling;
+
+pub use codes::{exit_code_in, status_code_in};
+pub use faults::{fault_line, status_of};
+pub use fields::{id_in, message_in};
+pub use lists::{container_lines_in, volume_names_in};
+pub use telling::write_fault;

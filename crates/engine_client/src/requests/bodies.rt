@@ -1,0 +1,73 @@
+// The bodies of requests.
+ghost use Rattle.std.specs.Prelude.{◌≡◌, codes, IfOk, unwrap_or};
+ghost use Rattle.serde_json.specs.View.{view};
+ghost use Rattle.client_model.specs.Commands.Container as container;
+ghost use Rattle.client_model.specs.Commands.Exec as exec;
+ghost use Rattle.client_model.specs.Commands.VolumeCreate as volume;
+
+use super::object::Object;
+use client_model::{NewContainer, Restart};
+use engine_text::Text;
+use serde_json::Value;
+use std::alloc::{AllocError, Global};
+
+/// A restart policy.
+fn policy_value(alloc: Global, policy: &str, most: u64) -> Result<Value, AllocError>
+    ensures { IfOk result (λ v. view v ≡ container.policy_data (container.restart_of policy.now most)) }
+{
+    let object = Object::new(alloc).number(alloc, "MaximumRetryCount", most)?;
+    let object = object.text(alloc, "Name", policy)?;
+    Ok(object.value())
+}
+
+/// The policy that is given, or `no`.
+fn given_policy(alloc: Global, restart: &Option<Restart>) -> Result<Value, AllocError>
+    ensures { IfOk result (λ v. view v ≡ container.policy_data (unwrap_or restart.now (container.restart_of (codes "no") 0))) }
+{
+    match restart {
+        Some(restart) => policy_value(alloc, restart.policy.as_str(), restart.most),
+        None => policy_value(alloc, "no", 0),
+    }
+}
+
+/// The volumes, and the policy.
+fn host_value(alloc: Global, c: &NewContainer) -> Result<Value, AllocError>
+    ensures { IfOk result (λ v. view v ≡ container.host_data c.now) }
+{
+    let policy = given_policy(alloc, &c.restart)?;
+    let object = Object::new(alloc).words(alloc, "Binds", c.binds.as_slice())?;
+    let object = object.with(alloc, "RestartPolicy", policy)?;
+    Ok(object.value())
+}
+
+/// The body of ContainerCreate.
+pub(crate) fn container_value(alloc: Global, c: &NewContainer) -> Result<Value, AllocError>
+    ensures { IfOk result (λ v. view v ≡ container.container_data c.now) }
+{
+    let host = host_value(alloc, c)?;
+    let object = Object::new(alloc).words(alloc, "Cmd", c.words.as_slice())?;
+    let object = object.with(alloc, "HostConfig", host)?;
+    let object = object.text(alloc, "Image", c.image.as_str())?;
+    let object = object.flag(alloc, "OpenStdin", c.input)?;
+    let object = object.flag(alloc, "StdinOnce", c.input)?;
+    Ok(object.value())
+}
+
+/// The body of ContainerExec.
+pub(crate) fn exec_value(alloc: Global, words: &[Text], input: bool) -> Result<Value, AllocError>
+    ensures { IfOk result (λ v. view v ≡ exec.exec_data words.now input) }
+{
+    let object = Object::new(alloc).flag(alloc, "AttachStderr", true)?;
+    let object = object.flag(alloc, "AttachStdin", input)?;
+    let object = object.flag(alloc, "AttachStdout", true)?;
+    let object = object.words(alloc, "Cmd", words)?;
+    Ok(object.value())
+}
+
+/// The body of VolumeCreate.
+pub(crate) fn volume_value(alloc: Global, name: &str) -> Result<Value, AllocError>
+    ensures { IfOk result (λ v. view v ≡ volume.volume_data name.now) }
+{
+    let object = Object::new(alloc).text(alloc, "Name", name)?;
+    Ok(object.value())
+}

@@ -1,0 +1,14 @@
+// The words of a line.
+mod containers;
+mod execs;
+mod few;
+mod optioned;
+mod options;
+mod replays;
+mod split;
+mod table;
+mod targets;
+mod views;
+mod volumes;
+
+pub use table::read_line;
