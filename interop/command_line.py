@@ -196,5 +196,6 @@ step(f"run --rm {TOOLS} echo hi", ".*", 125)
 
 # events
 step("events --since 2000-01-01T00:00:00Z --until 2000-01-01T00:00:01Z", "")
-step("events --since 2000-01-01T00:00:00Z --until 0s --filter container=once --filter event=die --format '{{.Action}}'", "die.*")
+time.sleep(1)  # (the client cuts `0s` down to whole seconds)
+step("events --since 2000-01-01T00:00:00Z --until 0s --filter container=behind --format '{{.Action}}'", "create\nstart\nkill\ndie\ndestroy")
 steps.end()
