@@ -3,7 +3,7 @@ ghost use Rattle.std.specs.Prelude.{◌≡◌, ◌<◌, ◌≤◌, [], length, t
 ghost use Rattle.std.specs.Prelude.{ℕ, List};
 ghost use Rattle.engine_text.specs.declared.script.Stream.{Stream};
 ghost use Rattle.stream_frame.specs.Demuxing.{Header, Payload, Adds, ended_of};
-ghost use Rattle.stream_frame.specs.Steps.{rest_of, stream_of, header_byte, by_byte, by_payload, payload_rest, held_after, IsSoundNext, IsNextOf, PayloadHas};
+ghost use Rattle.stream_frame.specs.Steps.{rest_of, stream_of, header_byte, by_byte, by_payload, payload_rest, held_after, items_of, IsSoundNext, IsNextOf, PayloadHas};
 ghost use Rattle.stream_frame.specs.Walks.{items_left};
 
 use crate::fault::{Ended, FrameFault};
@@ -103,7 +103,9 @@ impl Demux {
     /// the last. It goes past the whole piece, or to the fault, whether or not the items are
     /// taken. A fault is told by each piece from then on, and nothing else.
     pub fn push<'p>(&mut self, piece: &'p [u8]) -> Pieces<'p>
-        ensures { Adds self.old piece.now (items_left result) self.new }
+        ensures adds { Adds self.old piece.now (items_left result) self.new }
+        ensures items { items_left result ≡ items_of self.old piece.now }
+        ensures after { self.new ≡ held_after self.old piece.now }
     {
         let before = self.same();
         self.pass(piece);
