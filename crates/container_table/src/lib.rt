@@ -8,8 +8,6 @@ mod entries;
 mod held;
 mod lookups;
 mod table;
-#[cfg(test)]
-mod tests;
 mod timers;
 
 pub use held::Held;

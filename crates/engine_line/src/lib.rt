@@ -9,6 +9,3 @@ mod values;
 pub use line::{Line, Stepping, Work};
 pub use read::read_line;
 pub use values::{moment_in, port_in, seed_of};
-
-#[cfg(test)]
-mod tests;

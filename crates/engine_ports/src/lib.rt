@@ -17,6 +17,3 @@ pub use door::{Arrival, Door, NoDoor, Parting, Parts};
 pub use link::Link;
 pub use memory::{Closed, Departed, MemClock, MemDoor, MemLink, MemSink, MemSource, NoMemory};
 pub use ports::{Clock, Failed, Got, Pause, Sink, Source};
-
-#[cfg(test)]
-mod tests;

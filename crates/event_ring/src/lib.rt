@@ -8,8 +8,6 @@ mod part;
 mod prepared;
 mod ring;
 mod search;
-#[cfg(test)]
-mod tests;
 
 pub use filters::matches;
 pub use fold::Fold;

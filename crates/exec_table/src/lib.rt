@@ -3,8 +3,6 @@
 
 mod execs;
 mod listing;
-#[cfg(test)]
-mod tests;
 
 pub use execs::Execs;
 pub use listing::ExecList;

@@ -15,6 +15,3 @@ pub use reading::{law_line_reads_back, read_line};
 pub use sound::is_sound;
 pub use verdict::Verdict;
 pub use writing::{reply_text, write_line};
-
-#[cfg(test)]
-mod tests;

@@ -66,6 +66,3 @@ pub fn line_of_value(alloc: Global, value: &Value) -> Result<Vec<u8>, AllocError
     line.push(b'\n')?;
     Ok(line)
 }
-
-#[cfg(test)]
-mod tests;

@@ -9,8 +9,6 @@ mod heads;
 mod numbers;
 mod pieces;
 mod reader;
-#[cfg(test)]
-mod tests;
 
 pub use framing::Left;
 pub use got::{Answered, BodyGot, Stage, Stopped};

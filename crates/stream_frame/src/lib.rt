@@ -12,6 +12,3 @@ pub use fault::{Ended, FrameFault};
 pub use heads::header;
 pub use laws::{law_first_wrong, law_gives_back, law_goes_on, law_one_reading};
 pub use pieces::Pieces;
-
-#[cfg(test)]
-mod tests;

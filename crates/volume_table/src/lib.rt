@@ -4,8 +4,6 @@
 mod answers;
 mod listing;
 mod references;
-#[cfg(test)]
-mod tests;
 mod volumes;
 
 pub use answers::{Made, Removed};

@@ -1,0 +1,14 @@
+mod connections;
+mod copies;
+mod delays;
+mod execs;
+mod frames;
+mod journals;
+mod lines;
+mod ports;
+mod responses;
+mod ring;
+mod sockets;
+mod turns;
+mod values;
+mod volumes;

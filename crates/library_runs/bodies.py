@@ -1,0 +1,167 @@
+"""Bodies of requests, and of answers."""
+from lines import *
+
+USUAL = ('{"Hostname":"","Domainname":"","User":"","AttachStdin":false,"AttachStdout":true,"AttachStderr":true,"Tty":false,'
+         '"OpenStdin":false,"StdinOnce":false,"Env":null,"Cmd":["echo","hi"],"Image":"engine/tools:latest","Volumes":{},'
+         '"WorkingDir":"","Entrypoint":null,"OnBuild":null,"Labels":{},"HostConfig":{"Binds":null,"ContainerIDFile":"",'
+         '"LogConfig":{"Type":"","Config":{}},"NetworkMode":"default","PortBindings":{},"RestartPolicy":{"Name":"no",'
+         '"MaximumRetryCount":0},"AutoRemove":false,"VolumeDriver":"","VolumesFrom":null,"ConsoleSize":[24,80],"CapAdd":null,'
+         '"CapDrop":null,"Dns":[],"DnsOptions":[],"DnsSearch":[],"ExtraHosts":null,"IpcMode":"","Links":null,"OomScoreAdj":0,'
+         '"PidMode":"","Privileged":false,"ReadonlyRootfs":false,"SecurityOpt":null,"Memory":0,"NanoCpus":0,"PidsLimit":0,'
+         '"Ulimits":null},"NetworkingConfig":{"EndpointsConfig":{}}}')
+WHOLE = ('{"HostConfig":{"Mounts":[{"Type":"volume","Source":"w2","Target":"/w","ReadOnly":true}],"Binds":["v1:/d","v2:/e:ro"],'
+         '"RestartPolicy":{"MaximumRetryCount":3,"Name":"on-failure"},"AutoRemove":false},"Labels":{"b":"2","a":"1"},'
+         '"StopTimeout":-1,"StopSignal":"hup","StdinOnce":true,"OpenStdin":true,"Tty":false,"Cmd":["9"],"Entrypoint":"exit",'
+         '"Image":"engine/tools"}')
+PLAIN = "policy No; signal 15; seconds 10; stdin false; once false"
+
+
+def create(name, image, words="", labels="", mounts=""):
+    return f"name {name}; image {image}; words {words}; {PLAIN}; labels{labels}; mounts{mounts}"
+
+
+KINDS = {"create": "create|", "exec": "exec", "start": "exec start", "volume": "volume", "filter": "filter by name"}
+
+
+def refused(text):
+    """A kind of body, the text of its refusal, and the body."""
+    for line in text.strip("\n").split("\n"):
+        kind, rest = line.split(" ", 1)
+        answer, body = rest.split(": ", 1)
+        ask(f"body|{KINDS[kind]}|{body}", answer)
+
+
+heading("a create as the usual client writes it, one with every field, and one with doubled keys, of which the last counts")
+ask(f"body|create||{USUAL}", create("(none)", "engine/tools:latest", "echo hi"))
+ask(f"body|create|/web|{WHOLE}", "name /web; image engine/tools; words exit 9; policy OnFailure(3); signal 1; seconds -1; stdin true; "
+    "once true; labels a=1 b=2; mounts v1:/d:rw v2:/e:ro w2:/w:ro")
+ask('body|create||{"Image":7,"Cmd":"a","Image":"i","Cmd":"b"}', create("(none)", "i", "b"))
+heading("creates are refused by their first fault")
+refused(r"""
+create bad JSON: []
+create bad JSON: {"Image":1e999}
+create bad field Image: {}
+create bad field Image: {"Image":null}
+create bad field Entrypoint: {"Image":"i","Entrypoint":1}
+create bad field Cmd: {"Image":"i","Cmd":["a",1]}
+create bad field Tty: {"Image":"i","Tty":"no"}
+create TTY is left out: {"Image":"i","Tty":true}
+create bad field OpenStdin: {"Image":"i","OpenStdin":1}
+create bad field StdinOnce: {"Image":"i","StdinOnce":1}
+create bad field StopSignal: {"Image":"i","StopSignal":"x"}
+create bad field StopTimeout: {"Image":"i","StopTimeout":-2}
+create bad field StopTimeout: {"Image":"i","StopTimeout":1.0}
+create bad field Labels: {"Image":"i","Labels":{"a":null}}
+create bad field Volumes: {"Image":"i","Volumes":[]}
+create anonymous volumes are left out: {"Image":"i","Volumes":{"/d":{}}}
+create bad field HostConfig: {"Image":"i","HostConfig":"h"}
+create bad field Image: {"Image":7,"Cmd":7,"Tty":7}
+""")
+heading("host configs are refused by their first fault")
+refused(r"""
+create bad field Binds: {"Image":"i","HostConfig":{"Binds":"v1:/d"}}
+create bad mount: {"Image":"i","HostConfig":{"Binds":["v1"]}}
+create bad mount: {"Image":"i","HostConfig":{"Binds":["v1:/d:ro:x"]}}
+create bad mount: {"Image":"i","HostConfig":{"Binds":["v1:/d:z"]}}
+create bad mount: {"Image":"i","HostConfig":{"Binds":["/host:/d"]}}
+create bad mount: {"Image":"i","HostConfig":{"Binds":["v1:d"]}}
+create bad field Mounts: {"Image":"i","HostConfig":{"Mounts":{}}}
+create bad field Mounts: {"Image":"i","HostConfig":{"Mounts":[1]}}
+create bad mount: {"Image":"i","HostConfig":{"Mounts":[{"Source":"v1","Target":"/d"}]}}
+create bad mount: {"Image":"i","HostConfig":{"Mounts":[{"Type":"bind","Source":"v1","Target":"/d"}]}}
+create bad field Type: {"Image":"i","HostConfig":{"Mounts":[{"Type":1}]}}
+create bad field Source: {"Image":"i","HostConfig":{"Mounts":[{"Type":"volume","Source":1}]}}
+create bad field Target: {"Image":"i","HostConfig":{"Mounts":[{"Type":"volume","Source":"v1","Target":1}]}}
+create bad field ReadOnly: {"Image":"i","HostConfig":{"Mounts":[{"Type":"volume","Source":"v1","Target":"/d","ReadOnly":0}]}}
+create bad field RestartPolicy: {"Image":"i","HostConfig":{"RestartPolicy":"no"}}
+create bad field Name: {"Image":"i","HostConfig":{"RestartPolicy":{"Name":1}}}
+create bad field MaximumRetryCount: {"Image":"i","HostConfig":{"RestartPolicy":{"MaximumRetryCount":1.5}}}
+create bad restart policy: {"Image":"i","HostConfig":{"RestartPolicy":{"Name":"sometimes"}}}
+create bad restart policy: {"Image":"i","HostConfig":{"RestartPolicy":{"Name":"no","MaximumRetryCount":1}}}
+create bad restart policy: {"Image":"i","HostConfig":{"RestartPolicy":{"MaximumRetryCount":18446744073709551615}}}
+create bad field AutoRemove: {"Image":"i","HostConfig":{"AutoRemove":"yes"}}
+create AutoRemove is not built: {"Image":"i","HostConfig":{"AutoRemove":true}}
+""")
+heading("sixteen mounts are taken and seventeen not")
+FIFTEEN = ",".join(['"v1:/d"'] * 15)
+MOUNT = '"Mounts":[{"Type":"volume","Source":"v1","Target":"/d"}]'
+ask(f'body|create||{{"Image":"i","HostConfig":{{"Binds":[{FIFTEEN}],{MOUNT}}}}}', create("(none)", "i", mounts=" v1:/d:rw" * 16))
+ask(f'body|create||{{"Image":"i","HostConfig":{{"Binds":[{FIFTEEN},"v1:/d"],{MOUNT}}}}}', "bad mount")
+heading("other bodies are refused by their first fault")
+refused(r"""
+exec bad JSON: 
+exec bad field Cmd: {}
+exec bad field Cmd: {"Cmd":[]}
+exec bad field AttachStdin: {"Cmd":"a","AttachStdin":1}
+exec bad field AttachStdout: {"Cmd":"a","AttachStdout":1}
+exec bad field AttachStderr: {"Cmd":"a","AttachStderr":1}
+exec TTY is left out: {"Cmd":"a","Tty":true}
+start bad field Detach: {"Detach":1}
+start TTY is left out: {"Tty":true}
+volume bad field Name: {}
+volume bad volume name: {"Name":""}
+volume bad field Driver: {"Name":"v1","Driver":1}
+volume bad driver: {"Name":"v1","Driver":"nfs"}
+""")
+heading("filters of other forms are refused")
+refused(r"""
+filter invalid filter: []
+filter invalid filter: null
+filter invalid filter: {
+filter invalid filter: {"type":["container"]}
+filter invalid filter: {"name":"web"}
+filter invalid filter: {"name":[1]}
+filter invalid filter: {"name":{"web":1}}
+filter invalid filter: {"name":null}
+""")
+heading("execs, volumes and filters are read")
+table("body|", """
+exec|{"Cmd":"cat","AttachStdin":true,"AttachStdout":true}=> words cat; stdin true; stdout true; stderr false
+exec start|=> attached
+exec start|{"Detach":true,"Tty":false}=> detached
+volume|{"Name":"data","Driver":"","Labels":{"k":"v"}}=> name data; labels k=v
+filter|{"name":{"web":true,"no":false},"label":["k=v","k"]}=> rows label=k=v,k name=web
+filter|=> rows
+filter|{}=> rows
+""")
+
+# ---- bodies of answers
+
+BODY = (
+    r'{"Image":"engine/tools","Cmd":["echo","hi"],"StopTimeout":-1,"OpenStdin":true,"Labels":{"b":"\"2\"","a":"1"},'
+    r'"HostConfig":{"Binds":["v1:/d:ro"],"RestartPolicy":{"Name":"on-failure","MaximumRetryCount":3}}}'
+)
+INSPECT = (
+    r'{"Args":["hi"],"Config":{"Cmd":["echo","hi"],"Image":"engine/tools:latest","Labels":{"a":"1","b":"\"2\""},'
+    r'"OpenStdin":true,"StdinOnce":false,"StopSignal":"SIGTERM","StopTimeout":-1,"Tty":false},'
+    r'"Created":"2000-02-29T00:00:00.000000000Z","HostConfig":{"AutoRemove":false,'
+    r'"RestartPolicy":{"MaximumRetryCount":3,"Name":"on-failure"}},"Id":"0123","Image":"engine/tools:latest",'
+    r'"Mounts":[{"Destination":"/d","Driver":"local","Mode":"","Name":"v1","RW":false,'
+    r'"Source":"/var/lib/engine/volumes/v1/_data","Type":"volume"}],"Name":"/web","Path":"echo","RestartCount":2,'
+    r'"State":{"Dead":false,"Error":"","ExitCode":1,"FinishedAt":"0001-01-01T00:00:00Z","OOMKilled":false,'
+    r'"Paused":true,"Pid":1001,"Restarting":false,"Running":true,"StartedAt":"2023-11-14T22:13:20.700000000Z",'
+    r'"Status":"paused"}}'
+)
+LIST = (
+    r'[{"Command":"echo hi","Created":951782400,"Id":"0123","Image":"engine/tools:latest","Labels":{"a":"1",'
+    r'"b":"\"2\""},"Mounts":[{"Destination":"/d","Driver":"local","Mode":"","Name":"v1","RW":false,'
+    r'"Source":"/var/lib/engine/volumes/v1/_data","Type":"volume"}],"Names":["/web"],"Ports":[],"State":"exited",'
+    r'"Status":"Exited (137)"}]'
+)
+EXEC = (
+    r'{"CanRemove":false,"ContainerID":"0123","DetachKeys":"","ExitCode":null,"ID":"4567","OpenStderr":false,'
+    r'"OpenStdin":true,"OpenStdout":true,"Pid":1002,"ProcessConfig":{"arguments":["5","10"],"entrypoint":"tick",'
+    r'"privileged":false,"tty":false},"Running":true}'
+)
+VOLUME = (
+    r'{"CreatedAt":"2000-02-29T00:00:00.000000000Z","Driver":"local","Labels":{},'
+    r'"Mountpoint":"/var/lib/engine/volumes/v1/_data","Name":"v1","Options":{},"Scope":"local"}'
+)
+VOLUMES = (
+    r'{"Volumes":[{"CreatedAt":"2000-02-29T00:00:00.000000000Z","Driver":"local","Labels":{},'
+    r'"Mountpoint":"/var/lib/engine/volumes/v1/_data","Name":"v1","Options":{},"Scope":"local"}],"Warnings":[]}'
+)
+heading("bodies of answers")
+for question, answer in ((f"inspect|{BODY}", INSPECT), (f"list|{BODY}", LIST), ("list of none|", "[]"),
+                         ('exec|{"Cmd":["tick","5","10"]}', EXEC), ("volume|v1", VOLUME), ("volumes|v1", VOLUMES)):
+    ask(f"view|{question}", answer)
