@@ -34,5 +34,6 @@ pub mod LogLemmas
 pub mod NameLemmas
 pub mod IdLemmas
 pub mod NewExecLemmas
+pub mod ExecStartLemmas
 pub mod VolumeLemmas
 pub mod ForceLemmas

@@ -1,5 +1,6 @@
 pub mod Deadlines
 pub mod Effects
+pub mod ExecStarts
 pub mod Fit
 pub mod Foretold
 pub mod Halts

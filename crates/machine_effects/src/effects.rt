@@ -6,6 +6,8 @@ mod destroy;
 mod due;
 mod end_main;
 mod exec_create;
+mod exec_start;
+mod feed;
 mod freeze;
 mod halt;
 mod launch;

@@ -9,7 +9,8 @@ use engine_text::{Exec, NoMemory, Numbers, Owner};
 use proc_kernel::Kernel;
 use std::alloc::Global;
 
-fn exec_at(execs: &[Exec], number: u64) -> Option<usize>
+/// Where the exec of that number stands.
+pub fn exec_at(execs: &[Exec], number: u64) -> Option<usize>
     ensures { result ≡ position (λ x. x.number == number) execs.now }
 {
     execs.iter().position(|x| x.number == number)

@@ -8,6 +8,7 @@ mod effects;
 mod events;
 mod exec_places;
 mod exec_rows;
+mod exec_starts;
 mod execs;
 mod foretell;
 mod foretell_calls;
