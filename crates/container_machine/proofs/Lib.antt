@@ -1,6 +1,9 @@
 pub mod AnswerLemmas
+pub mod AttachLemmas
 pub mod CreateLemmas
 pub mod ExecLemmas
+pub mod ExecStartLemmas
+pub mod FeedLemmas
 pub mod FilterLemmas
 pub mod InspectLemmas
 pub mod KillLemmas

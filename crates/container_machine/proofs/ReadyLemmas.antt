@@ -57,6 +57,7 @@ starts n script t m named k room = record {
 
 fits : (plan : Plan) (t : ℕ) (m : Memory) → Brings plan t m.state → IsConsistent m.state → IsMomentOf m.state t → HasRoomFor plan m → Fits plan (standing t m)
 fits Plan.Nothing t m brings k at room = tt
+fits (Plan.Attach n) t m brings k at room = tt
 fits (Plan.Create held volumes) t m brings k at room = record {
   room = record { place = room.place; volumes = room.volumes; uses = room.uses };
   volumes = brings.volumes;
@@ -81,6 +82,9 @@ fits (Plan.ExecCreate x output) t m brings k at room = record {
   output = brings;
   number = omega (arith, k.numbers.next_number, k.counts.steps);
 }
+fits (Plan.ExecStart n script detach) t m brings k at room = record { pid = omega (arith, k.numbers.next_pid, k.counts.steps); spare = room }
+fits (Plan.Feed owner piece) t m brings k at room = room
+fits (Plan.FeedEnd owner) t m brings k at room = tt
 fits (Plan.Kill n sent last kit) t m brings k at room = record {
   signal = brings.1;
   timely = timely t m.state at;

@@ -1,5 +1,8 @@
+pub mod Attach
 pub mod Create
+pub mod ExecRefusals
 pub mod Execs
+pub mod Feed
 pub mod Kill
 pub mod List
 pub mod Remove

@@ -6,4 +6,5 @@ pub mod Making
 pub mod Parts
 pub mod Plans
 pub mod Prepared
+pub mod Runs
 pub mod Views

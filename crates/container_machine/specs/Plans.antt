@@ -3,10 +3,12 @@ use Rattle.std.specs.Prelude.{◌≡◌, ℕ, ◌+◌, ◌<◌, ◌≤◌, [], N
 use Rattle.machine_model.specs.State.{State}
 use Rattle.machine_model.specs.Chain.{Effect, change, still}
 use Rattle.machine_model.specs.Calls.Create.{add, make_volume, volume_named}
+use Rattle.machine_model.specs.Calls.Feed.{end_input, feed_process}
 use Rattle.machine_model.specs.Calls.Pause.{pause}
 use Rattle.machine_model.specs.Calls.Restart.{launch_again}
 use Rattle.machine_model.specs.Calls.Take.{end_ticket}
 use Rattle.machine_model.specs.Calls.Volumes.{remove_volume}
+use Rattle.machine_effects.specs.ExecStarts.{CanSpawn, start_effect}
 use Rattle.machine_effects.specs.Fit.{CanRemove, IsScriptOf, exec_numbers, outputs_of}
 use Rattle.machine_effects.specs.Halts.{HasHaltRoom}
 use Rattle.machine_effects.specs.Held.{container_in, output_in}
@@ -21,6 +23,7 @@ use Rattle.machine_model.specs.Effects.Destroy.{destroy}
 use Rattle.machine_model.specs.Effects.Launch.{launch_by_call}
 use Rattle.machine_model.specs.Effects.Meet.{thaw_container}
 use Rattle.machine_model.specs.Names.{holder}
+use Rattle.container_machine.specs.Calls.Attach.{attach_effect}
 use Rattle.container_machine.specs.Calls.Create.{IsNew}
 use Rattle.container_machine.specs.Calls.Execs.{add_exec}
 use Rattle.container_machine.specs.Calls.Restart.{restart_restarting_effect}
@@ -37,9 +40,13 @@ use Rattle.container_machine.specs.declared.plan.Plan.{Plan}
 -- What the plan does.
 abbrev pub plan_effect : Plan → State → Effect
 plan_effect Plan.Nothing = still
+plan_effect (Plan.Attach n) = attach_effect n
 plan_effect (Plan.Create held volumes) = add (container_in held)
 plan_effect (Plan.EndTicket ticket) = change (end_ticket ticket)
 plan_effect (Plan.ExecCreate x output) = add_exec x
+plan_effect (Plan.ExecStart n script detach) = start_effect n script detach
+plan_effect (Plan.Feed owner piece) = feed_process owner piece
+plan_effect (Plan.FeedEnd owner) = end_input owner
 plan_effect (Plan.Halt connection n halting sent seconds kit) = halt_effect connection n halting seconds sent.number
 plan_effect (Plan.Kill n sent last kit) = kill_effect n sent last
 plan_effect (Plan.KillRestarting n sent) = kill_restarting_effect n sent
@@ -60,9 +67,13 @@ plan_effect (Plan.Wait connection n until) = wait_effect connection n until
 -- The tables stand as it needs them.
 abbrev pub Fits : Plan → Memory → Type 0
 Fits Plan.Nothing m = ⊤
+Fits (Plan.Attach n) m = ⊤
 Fits (Plan.Create held volumes) m = CanAdd (container_in held) volumes.items m
 Fits (Plan.EndTicket ticket) m = ⊤
 Fits (Plan.ExecCreate x output) m = CanAddExec x output m
+Fits (Plan.ExecStart n script detach) m = CanSpawn m
+Fits (Plan.Feed owner piece) m = 0 < m.spare
+Fits (Plan.FeedEnd owner) m = ⊤
 Fits (Plan.Halt connection n halting sent seconds kit) m = CanStop n sent kit m
 Fits (Plan.Kill n sent last kit) m = CanKill n sent kit m
 Fits (Plan.KillRestarting n sent) m = ⊤
@@ -83,9 +94,13 @@ Fits (Plan.Wait connection n until) m = CanBegin m
 -- There is room for it.
 abbrev pub HasRoomFor : Plan → Memory → Type 0
 HasRoomFor Plan.Nothing m = ⊤
+HasRoomFor (Plan.Attach n) m = ⊤
 HasRoomFor (Plan.Create held volumes) m = HasAddRoom (length held.container.life.mounts) m
 HasRoomFor (Plan.EndTicket ticket) m = ⊤
 HasRoomFor (Plan.ExecCreate x output) m = HasExecRoom m
+HasRoomFor (Plan.ExecStart n script detach) m = 0 < m.spare
+HasRoomFor (Plan.Feed owner piece) m = 0 < m.spare
+HasRoomFor (Plan.FeedEnd owner) m = ⊤
 HasRoomFor (Plan.Halt connection n halting sent seconds kit) m = HasHaltRoom m
 HasRoomFor (Plan.Kill n sent last kit) m = HasRoom m
 HasRoomFor (Plan.KillRestarting n sent) m = ⊤
@@ -113,9 +128,13 @@ pub record Serves (n : ℕ) (kit : Kit) (s : State) : Type 0 where
 -- What the plan brings fits the state at that moment.
 abbrev pub Brings : Plan → ℕ → State → Type 0
 Brings Plan.Nothing t s = ⊤
+Brings (Plan.Attach n) t s = ⊤
 Brings (Plan.Create held volumes) t s = IsNew (container_in held) volumes.items t s
 Brings (Plan.EndTicket ticket) t s = ⊤
 Brings (Plan.ExecCreate x output) t s = output_in output ≡ empty_output x.number
+Brings (Plan.ExecStart n script detach) t s = ⊤
+Brings (Plan.Feed owner piece) t s = ⊤
+Brings (Plan.FeedEnd owner) t s = ⊤
 Brings (Plan.Halt connection n halting sent seconds kit) t s = Serves n kit s × (sent.number < 32)
 Brings (Plan.Kill n sent last kit) t s = Serves n kit s × (sent.number < 32)
 Brings (Plan.KillRestarting n sent) t s = ⊤

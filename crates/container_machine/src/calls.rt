@@ -1,7 +1,9 @@
 // The calls, one by one.
+pub mod attach;
 pub mod create;
 pub mod events;
 pub mod execs;
+pub mod feed;
 pub mod inspect;
 pub mod kill;
 pub mod list;

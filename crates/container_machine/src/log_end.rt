@@ -4,9 +4,10 @@ ghost use Rattle.api_json.specs.Status.{is_restarting};
 ghost use Rattle.machine_effects.specs.Held.{container_in};
 ghost use Rattle.machine_model.specs.Effects.Settle.{is_at_rest};
 ghost use Rattle.machine_model.specs.LogStream as logs;
-ghost use Rattle.machine_model.specs.Streams.{run_state, runs_begun};
+ghost use Rattle.machine_model.specs.Streams.{run_state};
 ghost use Rattle.container_machine.specs.LogParts.{is_over};
 
+use super::runs::{Run, run_of};
 use engine_text::{LogRecord, LogSpec, Owner, Status, StopRule};
 use machine_effects::{Held, Tables};
 
@@ -44,37 +45,14 @@ fn at_rest(tables: &Tables, owner: Owner) -> bool
     }
 }
 
-// How many runs have begun, of an owner that stands.
-fn runs_begun(tables: &Tables, owner: Owner) -> Option<u64>
-    ensures { result ≡ runs_begun owner tables.now.state }
-{
-    match owner {
-        Owner::Container(number) => match tables.numbered(number) {
-            Some(h) => Some(h.container.life.starts),
-            None => None,
-        },
-        Owner::Exec(number) => match tables.exec(number) {
-            Some(x) => Some(if x.started { 1 } else { 0 }),
-            None => None,
-        },
-    }
-}
-
 // Whether the run has ended.
 fn is_over(tables: &Tables, owner: Owner, run: u64) -> bool
     ensures { result ≡ is_over (run_state owner run tables.now.state) }
 {
-    match runs_begun(tables, owner) {
-        None => true,
-        Some(begun) => {
-            if begun < run {
-                false
-            } else if run == begun {
-                !tables.stands(owner)
-            } else {
-                true
-            }
-        }
+    match run_of(tables, owner, run) {
+        Run::Coming => false,
+        Run::Live => false,
+        Run::Over => true,
     }
 }
 

@@ -69,6 +69,9 @@ impl Machine {
     {
         self.kept();
         match call {
+            Call::Attach { target, ask } => {
+                calls::attach::prepare(&self.tables, alloc, moment, target.as_str(), ask)
+            }
             Call::Create(asked) => calls::create::prepare(&self.tables, alloc, moment, asked),
             Call::Events {
                 since,
@@ -93,6 +96,19 @@ impl Machine {
             Call::ExecInspect { id } => {
                 calls::execs::inspect::prepare(&self.tables, alloc, moment, id.as_str())
             }
+            Call::ExecStart { id, detach } => {
+                calls::execs::start::prepare(&self.tables, alloc, moment, id.as_str(), *detach)
+            }
+            Call::Feed { owner, run, bytes } => {
+                calls::feed::prepare(&self.tables, alloc, moment, *owner, *run, bytes)
+            }
+            Call::FeedEnd { owner, run } => Ok(calls::feed::prepare_end(
+                &self.tables,
+                alloc,
+                moment,
+                *owner,
+                *run,
+            )),
             Call::Kill { target, signal } => {
                 calls::kill::prepare(&self.tables, alloc, moment, target.as_str(), *signal)
             }
@@ -172,11 +188,15 @@ impl Machine {
     {
         match plan {
             Plan::Nothing => Ok(()),
+            Plan::Attach { .. } => Ok(()),
             Plan::Create { held, .. } => self
                 .tables
                 .make_add_room(alloc, held.container.life.mounts.len()),
             Plan::EndTicket { .. } => Ok(()),
             Plan::ExecCreate { .. } => self.tables.make_exec_room(),
+            Plan::ExecStart { .. } => self.tables.make_process_room(alloc),
+            Plan::Feed { .. } => self.tables.make_process_room(alloc),
+            Plan::FeedEnd { .. } => Ok(()),
             Plan::Halt { .. } => self.tables.make_halt_room(alloc),
             Plan::KillRestarting { .. } => Ok(()),
             Plan::Kill { .. } => self.tables.make_room(alloc),

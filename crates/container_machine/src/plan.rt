@@ -4,13 +4,16 @@ ghost use Rattle.container_machine.specs.Plans.{plan_effect, Fits};
 ghost use Rattle.machine_effects.specs.Settled.{deaths};
 
 use super::{calls, halts};
-use engine_text::{Exec, Pairs, Script, Signal, Text, Until, Volume};
+use engine_text::{Bytes, Exec, Owner, Pairs, Script, Signal, Text, Until, Volume};
 use machine_effects::{Death, Halting, Held, HeldOutput, Kit, Tables};
 
 /// What a prepared call does.
 #[derive(Drop)]
 pub enum Plan {
     Nothing,
+    Attach {
+        number: u64,
+    },
     Create {
         held: Held,
         volumes: Vec<Volume>,
@@ -21,6 +24,18 @@ pub enum Plan {
     ExecCreate {
         exec: Exec,
         output: HeldOutput,
+    },
+    ExecStart {
+        number: u64,
+        script: Script,
+        detach: bool,
+    },
+    Feed {
+        owner: Owner,
+        piece: Bytes,
+    },
+    FeedEnd {
+        owner: Owner,
     },
     Halt {
         conn: u32,
@@ -94,6 +109,7 @@ pub enum Plan {
 }
 
 /// Makes it. It takes no memory.
+#[tactic(auto, using(crate::proofs::AttachLemmas::attached_state, crate::proofs::AttachLemmas::none_attached))]
 pub fn perform(tables: &mut Tables, plan: Plan) -> Option<Death>
     requires { Fits plan tables.old }
     ensures state { tables.new.state ≡ (plan_effect plan tables.old.state).state }
@@ -102,6 +118,7 @@ pub fn perform(tables: &mut Tables, plan: Plan) -> Option<Death>
 {
     match plan {
         Plan::Nothing => None,
+        Plan::Attach { .. } => None,
         Plan::Create { held, volumes } => {
             calls::create::perform(tables, held, volumes);
             None
@@ -112,6 +129,22 @@ pub fn perform(tables: &mut Tables, plan: Plan) -> Option<Death>
         }
         Plan::ExecCreate { exec, output } => {
             calls::execs::create::perform(tables, exec, output);
+            None
+        }
+        Plan::ExecStart {
+            number,
+            script,
+            detach,
+        } => {
+            calls::execs::start::perform(tables, number, script, detach);
+            None
+        }
+        Plan::Feed { owner, piece } => {
+            tables.feed(owner, piece);
+            None
+        }
+        Plan::FeedEnd { owner } => {
+            tables.end_input(owner);
             None
         }
         Plan::Halt {

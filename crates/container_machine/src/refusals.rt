@@ -164,6 +164,13 @@ pub fn no_such_exec(alloc: Global, id: &str) -> Result<Text, NoMemory>
     join(alloc, "No such exec instance: ", id, "")
 }
 
+/// An exec starts once.
+pub fn exec_already_started(alloc: Global, id: &str) -> Result<Text, NoMemory>
+    ensures { IfOk result (λ t. t ≡ spec.exec_already_started id.now) }
+{
+    join(alloc, "exec ", id, " has already started")
+}
+
 /// No volume has that name.
 pub fn no_such_volume(alloc: Global, name: &str) -> Result<Text, NoMemory>
     ensures { IfOk result (λ t. t ≡ spec.no_such_volume name.now) }

@@ -1,3 +1,5 @@
 // The calls of execs.
 pub mod create;
 pub mod inspect;
+mod refusal;
+pub mod start;

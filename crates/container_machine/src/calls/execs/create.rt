@@ -7,13 +7,13 @@ ghost use Rattle.machine_effects.specs.NewExecs.{CanAddExec};
 ghost use Rattle.container_machine.specs.Calls.Execs.{add_exec};
 ghost use Rattle.container_machine.specs.Making.{Makes};
 
+use super::refusal::refusal_of;
 use crate::answers::refuse;
 use crate::lookup::{Looked, look};
 use crate::plan::Plan;
 use crate::prepared::Prepared;
-use crate::refusals::{being_removed, dead, not_running, paused, restarting};
 use crate::texts::join;
-use engine_text::{Action, Exec, NoMemory, Reply, Status, Text, Words};
+use engine_text::{Action, Exec, NoMemory, Reply, Text, Words};
 use machine_effects::{Held, HeldOutput, Tables, add, exec_event};
 use std::alloc::Global;
 
@@ -101,33 +101,9 @@ fn prepare_by_status(
         (spec.new_exec (container_in h.now) asked.now.words.now asked.now.stdin asked.now.out asked.now.err s)
         (container_in h.now) s))) }
 {
-    let id = h.container.id.as_str();
-    match h.container.life.status {
-        Status::Created => {
-            let text = not_running(alloc, id)?;
-            refuse(alloc, moment, 409, &text)
-        }
-        Status::Running => prepare_new(tables, alloc, moment, h, asked),
-        Status::Paused => {
-            let text = paused(alloc, id)?;
-            refuse(alloc, moment, 409, &text)
-        }
-        Status::Restarting => {
-            let text = restarting(alloc, id)?;
-            refuse(alloc, moment, 409, &text)
-        }
-        Status::Removing => {
-            let text = being_removed(alloc, id)?;
-            refuse(alloc, moment, 409, &text)
-        }
-        Status::Exited => {
-            let text = not_running(alloc, id)?;
-            refuse(alloc, moment, 409, &text)
-        }
-        Status::Dead => {
-            let text = dead(alloc, id)?;
-            refuse(alloc, moment, 409, &text)
-        }
+    match refusal_of(alloc, h)? {
+        None => prepare_new(tables, alloc, moment, h, asked),
+        Some(text) => refuse(alloc, moment, 409, &text),
     }
 }
 

@@ -15,7 +15,8 @@ use engine_text::{Exec, NoMemory, Owner};
 use machine_effects::{Held, Tables};
 use std::alloc::Global;
 
-fn refuse_missing(alloc: Global, moment: u64, id: &str) -> Result<Prepared, NoMemory>
+/// No exec has that id.
+pub(super) fn refuse_missing(alloc: Global, moment: u64, id: &str) -> Result<Prepared, NoMemory>
     ensures { IfOk result (λ p. IsAnswer moment 404 (message_text (no_such_exec id.now)) p) }
 {
     let text = no_such_exec(alloc, id)?;
