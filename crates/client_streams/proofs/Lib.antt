@@ -1,0 +1,3 @@
+pub mod OutputLemmas
+pub mod FrameLemmas
+pub mod TakingLemmas

@@ -1,0 +1,9 @@
+//! What the client writes of a body as it comes.
+#![tactic(auto)]
+
+mod frames;
+mod laws;
+mod taker;
+
+pub use laws::{law_ends, law_pieces};
+pub use taker::{Showing, Taker};
