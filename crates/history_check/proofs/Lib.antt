@@ -1,0 +1,6 @@
+mod RunLemmas
+mod CountLemmas
+mod EntryLemmas
+mod LineEndLemmas
+mod VerdictLemmas
+mod LegalLemmas

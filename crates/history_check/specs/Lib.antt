@@ -1,0 +1,4 @@
+pub mod Cutting
+pub mod Counting
+pub mod Checking
+pub mod Legal

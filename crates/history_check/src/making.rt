@@ -1,0 +1,39 @@
+// The machine's steps, made again.
+ghost use Rattle.std.specs.Prelude.{◌≡◌, ◌+◌, IfOk, OnOk, OnErr, IsTrue};
+ghost use Rattle.call_bounds.specs.Built.{is_built};
+ghost use Rattle.engine_text.specs.declared.step.Step as steps;
+ghost use Rattle.machine_model.specs.History.{IsLawful, after_step, reply_of};
+
+use container_machine::Machine;
+use engine_text::{Call, NoMemory, Reply};
+use std::alloc::Global;
+
+/// Makes the step that is due first.
+pub fn step_due(machine: &mut Machine, alloc: Global) -> Result<(), NoMemory>
+    requires { IsLawful machine.old.memory.state steps.Step.Due }
+    ensures made { OnOk result (machine.new.memory.state ≡ after_step machine.old.memory.state steps.Step.Due) }
+    ensures counted { OnOk result (machine.new.memory.state.step_count ≡ machine.old.memory.state.step_count + 1) }
+    ensures stays { OnErr result (machine.new.memory.state ≡ machine.old.memory.state) }
+{
+    let prepared = machine.prepare_due(alloc)?;
+    machine.commit_due(prepared);
+    Ok(())
+}
+
+/// Makes a lawful call, and gives its reply.
+pub fn ask(
+    machine: &mut Machine,
+    alloc: Global,
+    conn: u32,
+    moment: u64,
+    call: &Call,
+) -> Result<Reply, NoMemory>
+    requires lawful { IsLawful machine.old.memory.state (steps.Step.Call conn moment call.now) }
+    requires built { IsTrue (is_built call.now) }
+    ensures reply { IfOk result (λ r. r ≡ reply_of machine.old.memory.state conn moment call.now) }
+    ensures made { OnOk result (machine.new.memory.state ≡ after_step machine.old.memory.state (steps.Step.Call conn moment call.now)) }
+    ensures stays { OnErr result (machine.new.memory.state ≡ machine.old.memory.state) }
+{
+    let prepared = machine.prepare(alloc, conn, moment, call)?;
+    Ok(machine.commit(prepared))
+}
