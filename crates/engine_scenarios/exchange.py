@@ -228,3 +228,14 @@ def talk(name, *slots, status=0, words=LISTENS, ended=(), unheard=()):
     text = "".join(slot_line(*slot) + "\n" + (slot[2] + "\n" if slot[2] not in ACTS else "") for slot in said)
     told = "".join(f"\n-- {slot_line(who, ms, does)}\n{wanted}" for who, ms, does, wanted in slots)
     SCENARIOS.append((name + ".talk", text, ("talk",), words, status, told))
+
+
+# the body of a create as the docker command line sends it
+USUAL = ('{"Hostname":"","Domainname":"","User":"","AttachStdin":false,"AttachStdout":true,"AttachStderr":true,"Tty":false,'
+         '"OpenStdin":false,"StdinOnce":false,"Env":null,"Cmd":["echo","hi"],"Image":"engine/tools:latest","Volumes":{},'
+         '"WorkingDir":"","Entrypoint":null,"OnBuild":null,"Labels":{},"HostConfig":{"Binds":null,"ContainerIDFile":"",'
+         '"LogConfig":{"Type":"","Config":{}},"NetworkMode":"default","PortBindings":{},"RestartPolicy":{"Name":"no",'
+         '"MaximumRetryCount":0},"AutoRemove":false,"VolumeDriver":"","VolumesFrom":null,"ConsoleSize":[24,80],"CapAdd":null,'
+         '"CapDrop":null,"Dns":[],"DnsOptions":[],"DnsSearch":[],"ExtraHosts":null,"IpcMode":"","Links":null,"OomScoreAdj":0,'
+         '"PidMode":"","Privileged":false,"ReadonlyRootfs":false,"SecurityOpt":null,"Memory":0,"NanoCpus":0,"PidsLimit":0,'
+         '"Ulimits":null},"NetworkingConfig":{"EndpointsConfig":{}}}')

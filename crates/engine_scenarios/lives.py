@@ -5,14 +5,6 @@ from exchange import *
 
 USAGE = ("usage: engined --stdio | --listen ADDR | --drill N [--seed HEX] [--clock START:STEP] [--connections N] "
          "[--journal N]\n")
-USUAL = ('{"Hostname":"","Domainname":"","User":"","AttachStdin":false,"AttachStdout":true,"AttachStderr":true,"Tty":false,'
-         '"OpenStdin":false,"StdinOnce":false,"Env":null,"Cmd":["echo","hi"],"Image":"engine/tools:latest","Volumes":{},'
-         '"WorkingDir":"","Entrypoint":null,"OnBuild":null,"Labels":{},"HostConfig":{"Binds":null,"ContainerIDFile":"",'
-         '"LogConfig":{"Type":"","Config":{}},"NetworkMode":"default","PortBindings":{},"RestartPolicy":{"Name":"no",'
-         '"MaximumRetryCount":0},"AutoRemove":false,"VolumeDriver":"","VolumesFrom":null,"ConsoleSize":[24,80],"CapAdd":null,'
-         '"CapDrop":null,"Dns":[],"DnsOptions":[],"DnsSearch":[],"ExtraHosts":null,"IpcMode":"","Links":null,"OomScoreAdj":0,'
-         '"PidMode":"","Privileged":false,"ReadonlyRootfs":false,"SecurityOpt":null,"Memory":0,"NanoCpus":0,"PidsLimit":0,'
-         '"Ulimits":null},"NetworkingConfig":{"EndpointsConfig":{}}}')
 
 scenario("create", WEB, created(0), comings=("pieces=1", "pieces=4096", "cuts"))
 scenario("nothing", "", "", comings=("pieces=1", "read=0"))

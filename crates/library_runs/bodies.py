@@ -1,14 +1,7 @@
 """Bodies of requests, and of answers."""
 from lines import *
+from exchange import USUAL
 
-USUAL = ('{"Hostname":"","Domainname":"","User":"","AttachStdin":false,"AttachStdout":true,"AttachStderr":true,"Tty":false,'
-         '"OpenStdin":false,"StdinOnce":false,"Env":null,"Cmd":["echo","hi"],"Image":"engine/tools:latest","Volumes":{},'
-         '"WorkingDir":"","Entrypoint":null,"OnBuild":null,"Labels":{},"HostConfig":{"Binds":null,"ContainerIDFile":"",'
-         '"LogConfig":{"Type":"","Config":{}},"NetworkMode":"default","PortBindings":{},"RestartPolicy":{"Name":"no",'
-         '"MaximumRetryCount":0},"AutoRemove":false,"VolumeDriver":"","VolumesFrom":null,"ConsoleSize":[24,80],"CapAdd":null,'
-         '"CapDrop":null,"Dns":[],"DnsOptions":[],"DnsSearch":[],"ExtraHosts":null,"IpcMode":"","Links":null,"OomScoreAdj":0,'
-         '"PidMode":"","Privileged":false,"ReadonlyRootfs":false,"SecurityOpt":null,"Memory":0,"NanoCpus":0,"PidsLimit":0,'
-         '"Ulimits":null},"NetworkingConfig":{"EndpointsConfig":{}}}')
 WHOLE = ('{"HostConfig":{"Mounts":[{"Type":"volume","Source":"w2","Target":"/w","ReadOnly":true}],"Binds":["v1:/d","v2:/e:ro"],'
          '"RestartPolicy":{"MaximumRetryCount":3,"Name":"on-failure"},"AutoRemove":false},"Labels":{"b":"2","a":"1"},'
          '"StopTimeout":-1,"StopSignal":"hup","StdinOnce":true,"OpenStdin":true,"Tty":false,"Cmd":["9"],"Entrypoint":"exit",'

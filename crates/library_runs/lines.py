@@ -1,4 +1,9 @@
 """How a vector is written down: a question, which is a line of stdin, and its answer."""
+import pathlib
+import sys
+
+# what stored requests of the daemon are made of serves here too: bodies and ids
+sys.path.append(str(pathlib.Path(__file__).parent.parent / "engine_scenarios"))
 
 LINES = []
 

@@ -1,10 +1,5 @@
 """Tables of containers and of timers, by steps."""
-import pathlib
-import sys
-
 from lines import *
-
-sys.path.append(str(pathlib.Path(__file__).parent.parent / "engine_scenarios"))
 from exchange import id_of
 
 
