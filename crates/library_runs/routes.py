@@ -42,7 +42,7 @@ GET /nothing/%ff  404 message page not found
 POST /containers//start  404 message page not found
 POST /containers/%ff/start  400 message bad path
 GET /containers/a/start  404 message page not found
-POST /containers/create/attach?stream=1&stdout=1  501 message not built
+POST /containers/create/attach?stream=1&stdout=1  attach to create: Plain, AttachAsk { logs: false, stream: true, stdin: false, out: true, err: false }
 """)
 heading("each fault of a query has its text")
 routes(r"""
@@ -60,7 +60,6 @@ GET /containers/a/logs  400 message you must choose at least one stream
 GET /containers/a/logs?stdout=1&tail=x  400 message bad tail
 GET /containers/a/logs?stdout=1&since=1.1234567890  400 message bad time
 GET /containers/a/logs?stderr=1&until=12345678901  400 message bad time
-GET /engine/journal  501 message not built
 GET /events?since=  400 message bad time
 GET /volumes?filters=[]  400 message invalid filter
 DELETE /containers/a?link=1  400 message links are left out
@@ -109,3 +108,6 @@ ask("route|GET|/v1.43/containers/a/logs?stderr=1&until=2.5&tail=7&follow=1&times
     log("a", follow="true", err="true", stamps="true", tail="Some(7)", greatest=2500))
 heading("events have the moments of their query")
 ask("route|GET|/events?since=5.|", "events: None, Some(5000), None, rows")
+heading("the journal has no query")
+ask("route|GET|/engine/journal|", "journal: None")
+ask("route|GET|/v1.43/engine/journal?since=x|", "journal: None")

@@ -9,7 +9,7 @@ use Rattle.api_routes.specs.Routes.{method_of, route_for}
 use Rattle.api_routes.specs.Path.{path_of, query_of, parameter_of}
 use Rattle.api_routes.specs.Version.{behind_version}
 use Rattle.api_routes.specs.RouteClass.{route_class}
-use Rattle.call_bounds.specs.Built.{is_built}
+use Rattle.built_calls.specs.Built.{is_built}
 use Rattle.api_routes.specs.Class.{class_of, read_class, if_built, or_not_found, refusal, or_refusal}
 use Rattle.api_routes.specs.Laws.{OfItsCall}
 use Rattle.api_routes.specs.declared.class.Class.{Class}

@@ -8,7 +8,7 @@ use Rattle.api_routes.specs.Fault.{and_then, status_of, message_of}
 use Rattle.api_routes.specs.Path.{path_of, query_of, parameter_of}
 use Rattle.api_routes.specs.Version.{behind_version}
 use Rattle.api_routes.specs.RouteClass.{route_class}
-use Rattle.call_bounds.specs.Built.{is_built}
+use Rattle.built_calls.specs.Built.{is_built}
 use Rattle.api_routes.specs.declared.class.Class.{Class}
 use Rattle.api_routes.specs.declared.class.Class.TheVariants.{Direct, Ask, Stream}
 use Rattle.api_routes.specs.declared.class.DirectKind.TheVariants.{Message}

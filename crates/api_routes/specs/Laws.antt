@@ -2,7 +2,7 @@
 use Rattle.std.specs.Prelude.{◌≡◌, ◌==◌, ◌||◌, ℕ, Bool, IsTrue}
 use Rattle.engine_text.specs.declared.call.Call.{Call}
 use Rattle.call_bounds.specs.Soundness.{IsSound}
-use Rattle.call_bounds.specs.Built.{is_built}
+use Rattle.built_calls.specs.Built.{is_built}
 use Rattle.http_edge.specs.Message.{Request}
 use Rattle.api_routes.specs.Class.{class_of}
 use Rattle.api_routes.specs.declared.class.Class.{Class}

@@ -6,7 +6,7 @@ ghost use Rattle.api_routes.specs.declared.fault.Fault as faults;
 
 use crate::refused::Refused;
 use crate::{Class, Fault};
-use call_bounds::is_built;
+use built_calls::is_built;
 
 /// Whether the call of a class is built; what the bytes answer has none.
 fn is_answered(class: &Class) -> bool

@@ -1,2 +1,1 @@
 pub mod Soundness
-pub mod Built

@@ -1,6 +1,2 @@
-//! The bounds of the calls that requests make, and which calls are built.
+//! The bounds of the calls that requests make, as definitions and lemmas alone.
 #![tactic(auto)]
-
-mod built;
-
-pub use built::is_built;

@@ -34,4 +34,11 @@ impl Machine {
     {
         self.tables.open_tickets()
     }
+
+    /// How many containers there are.
+    pub fn containers(&self) -> u64
+        ensures { result ≡ length self.now.memory.state.containers }
+    {
+        self.tables.containers() as u64
+    }
 }

@@ -1,12 +1,11 @@
 // The machine over its tables.
-ghost use Rattle.std.specs.Prelude.{◌≡◌, ℕ, ◌≤◌, IfOk, OnErr, OnOk, IsFalse, IsTrue};
+ghost use Rattle.std.specs.Prelude.{◌≡◌, ℕ, ◌≤◌, IfOk, OnErr, OnOk, IsFalse};
 ghost use Rattle.machine_model.specs.Step.{call_outcome, due_step};
 ghost use Rattle.engine_text.specs.declared.step.Step as steps;
 ghost use Rattle.machine_model.specs.Call.{outcome_of};
 ghost use Rattle.machine_model.specs.History.{IsLawful, greatest_moment, is_drop, is_due};
 ghost use Rattle.machine_model.specs.State.{initial_state};
 ghost use Rattle.machine_model.specs.Soundness.{IsSound};
-ghost use Rattle.call_bounds.specs.Built.{is_built};
 ghost use Rattle.container_machine.specs.DuePlans.{HasDueRoom};
 ghost use Rattle.container_machine.specs.Dues.{IsForDue, IsStepped};
 ghost use Rattle.container_machine.specs.Making.{Makes};
@@ -63,7 +62,6 @@ impl Machine {
     ) -> Result<Prepared, NoMemory>
         requires sound { IsSound call.now }
         requires until { moment ≤ greatest_moment }
-        requires built { IsTrue (is_built call.now) }
         requires heard { IsFalse (is_drop call.now) }
         ensures { IfOk result (λ p. Makes p moment self.now.memory.state (outcome_of call.now conn)) }
     {
@@ -115,6 +113,7 @@ impl Machine {
             Call::Inspect { target } => {
                 calls::inspect::prepare(&self.tables, alloc, moment, target.as_str())
             }
+            Call::JournalRead => calls::events::prepare_journal(&self.tables, alloc, moment),
             Call::List { all, limit, filter } => {
                 calls::list::prepare(&self.tables, alloc, moment, *all, *limit, filter)
             }
@@ -169,7 +168,7 @@ impl Machine {
                 let target = target.as_str();
                 calls::wait::prepare(&self.tables, alloc, conn, moment, target, *until)
             }
-            _ => unreachable!(),
+            Call::Drop { .. } => unreachable!(),
         }
     }
 
@@ -226,7 +225,6 @@ impl Machine {
         call: &Call,
     ) -> Result<Prepared, NoMemory>
         requires lawful { IsLawful self.old.memory.state (steps.Step.Call conn moment call.now) }
-        requires built { IsTrue (is_built call.now) }
         ensures state { self.new.memory.state ≡ self.old.memory.state }
         ensures ready { IfOk result (λ p. IsFor p self.new (asked_by conn moment call.now)) }
         ensures drop { OnErr result (IsFalse (is_drop call.now)) }

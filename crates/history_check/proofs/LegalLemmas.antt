@@ -52,7 +52,7 @@ step_counted s Step.Due kept lawful = due_counted s lawful
 step_counted s (Step.Call k t c) kept lawful = call_counted s k t c kept lawful
 
 -- the state behind lawful steps, with their count
-steps_counted : (s : State) (xs : List Step) → IsConsistent s → AreLawful s xs
+pub steps_counted : (s : State) (xs : List Step) → IsConsistent s → AreLawful s xs
     → IsConsistent (state_from s xs) × ((state_from s xs).step_count ≡ s.step_count + length xs)
 steps_counted s [] kept lawful = (kept, omega arith)
 steps_counted s (x ∷ xs) kept lawful =

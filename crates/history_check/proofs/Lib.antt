@@ -1,6 +1,9 @@
 mod RunLemmas
 mod CountLemmas
+mod TicketLemmas
 mod EntryLemmas
 mod LineEndLemmas
 mod VerdictLemmas
 mod LegalLemmas
+mod CompleteLemmas
+mod OneVerdictLemmas

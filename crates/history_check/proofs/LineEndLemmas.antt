@@ -140,7 +140,7 @@ joined [] c = refl
 joined (x ∷ f) c = ap (λ l. x ∷ l) (joined f c)
 
 -- two first lines of a text are the same
-same_line : (a b c d : List ℕ) → IsFirstLine a → IsFirstLine b → a ++ c ≡ b ++ d → a ≡ b
+pub same_line : (a b c d : List ℕ) → IsFirstLine a → IsFirstLine b → a ++ c ≡ b ++ d → a ≡ b
 same_line a b c d (f, h, is) (g, k, at) e =
     let whole : f ++ 10 ∷ c ≡ g ++ 10 ∷ d = sym (joined f c) ∙ ap (λ l. l ++ c) (sym is) ∙ e ∙ ap (λ l. l ++ d) at ∙ joined g d in
     let same = same_front f g c d (recursion_from_All (λ b. b ≢ 10) f h) (recursion_from_All (λ b. b ≢ 10) g k) whole in

@@ -1,9 +1,9 @@
 -- What is said of a line is said of each text that begins with it.
-use Rattle.std.proofs.Common.{◌≡◌, ◌<◌, ◌+◌, ◌==◌, ℕ, suc, true, false, List, [], ◌∷◌, ◌++◌, length, length-append, refl, sym, subst, ap, arith, Option, Some, None, Result, Ok, Err, IfErr, IsErrAnd}
-use Rattle.std.specs.Prelude.{◌≢◌, IsFalse, IfOk}
+use Rattle.std.proofs.Common.{◌≡◌, ◌<◌, ◌+◌, ◌==◌, ℕ, suc, true, false, List, [], ◌∷◌, ◌++◌, length, length-append, refl, sym, subst, ap, arith, Option, Some, None, Result}
+use Rattle.std.specs.Prelude.{◌≢◌, IfOk}
 use Rattle.std.proofs.lemmas.Bool.Decides.{nat_tests}
-use Rattle.call_bounds.specs.Built.{is_built}
 use Rattle.engine_text.specs.declared.entry.Entry.{Entry}
+use Rattle.engine_text.specs.declared.memory.NoMemory.{NoMemory}
 use Rattle.machine_model.specs.State.{State}
 use Rattle.machine_model.specs.JournalLines.{journal_line}
 use Rattle.history_replay.specs.Entry.{IsWrong}
@@ -14,35 +14,21 @@ use Rattle.history_replay.specs.declared.fault.LineFault.TheVariants as line_fau
 use Rattle.history_replay.specs.declared.verdict.Verdict.{Verdict}
 use Rattle.history_replay.specs.declared.verdict.Verdict.TheVariants.{Legal, Illegal, BadLine}
 use Rattle.history_check.specs.Cutting.{HasNoLineEnd, IsFirstLine}
-use Rattle.history_check.specs.Checking.{StopsFrom, AtUnbuilt, BehindRightLine, IsStopFrom, IsLineSaid}
-use Rattle.history_check.specs.declared.fault.CheckFault.{CheckFault}
-use Rattle.history_check.specs.declared.fault.CheckFault.TheVariants as fault
+use Rattle.history_check.specs.Checking.{IsLineSaid}
 use Rattle.history_check.proofs.LineEndLemmas.{no_first, no_end_no_line}
 
 -- ---- a line that is right
 
 pub said_on : (s after : State) (n : ℕ) (line rest : List ℕ) (v : Verdict) → IsLineSaid s n line after None
     → IsVerdictFrom after (n + 1) rest v → IsVerdictFrom s n (line ++ rest) v
-said_on s after n line rest v (e, has, is, built, right, at) h =
+said_on s after n line rest v (e, has, is, right, at) h =
     subst (λ l. IsVerdictFrom s n (l ++ rest) v) is
     (AfterRightLine s n e rest v has right (subst (λ y. IsVerdictFrom y (n + 1) rest v) at h))
 
-pub stops_on : (s after : State) (n : ℕ) (line rest : List ℕ) (why : CheckFault) → IsLineSaid s n line after None
-    → IsStopFrom after (n + 1) rest why → IsStopFrom s n (line ++ rest) why
-stops_on s after n line rest (fault.NotBuilt m) (e, has, is, built, right, at) h =
-    subst (λ l. StopsFrom s n (l ++ rest) m) is
-    (BehindRightLine s n e rest m has built right (subst (λ y. StopsFrom y (n + 1) rest m) at h))
-stops_on s after n line rest fault.NoMemory said h = tt
-
 -- what is said of an entry's line is said of the bytes that are it
-pub line_said : (s after : State) (n : ℕ) (line bytes : List ℕ) (r : Result (Option Verdict) CheckFault) → line ≡ bytes
+pub line_said : (s after : State) (n : ℕ) (line bytes : List ℕ) (r : Result (Option Verdict) NoMemory) → line ≡ bytes
     → IfOk r (λ said. IsLineSaid s n line after said) → IfOk r (λ said. IsLineSaid s n bytes after said)
 line_said s after n line bytes r is h = subst (λ l. IfOk r (λ said. IsLineSaid s n l after said)) is h
-
--- an error that is passed on
-pub passed_on : (r : Result Verdict CheckFault) (why : CheckFault) (P : CheckFault → Type 0) → IsErrAnd r (λ e. e ≡ why) → P why → IfErr r P
-passed_on (Ok x) why P is h = tt
-passed_on (Err e) why P is h = subst P (sym is) h
 
 -- ---- a text's end
 
@@ -63,7 +49,7 @@ at_end s n text steps e count =
 
 -- ---- a line that isn't
 
-some : (line rest : List ℕ) → 0 < length line → line ++ rest ≢ []
+pub some : (line rest : List ℕ) → 0 < length line → line ++ rest ≢ []
 some line rest long e =
     let none : length (line ++ rest) ≡ 0 = ap length e in
     omega (arith, none, long, length-append line rest)
@@ -90,7 +76,3 @@ pub wrong_line : (s : State) (n : ℕ) (e : Entry) (line rest kept found : List 
     → IsVerdictFrom s n (line ++ rest) (Illegal n kept found)
 wrong_line s n e line rest kept found has is wrong =
     subst (λ l. IsVerdictFrom s n (l ++ rest) (Illegal n kept found)) is (AtWrongLine s n e rest kept found has wrong)
-
-pub unbuilt_line : (s : State) (n : ℕ) (e : Entry) (line rest : List ℕ) → HasLine e → journal_line e ≡ line → IsFalse (is_built e.call)
-    → StopsFrom s n (line ++ rest) n
-unbuilt_line s n e line rest has is never = subst (λ l. StopsFrom s n (l ++ rest) n) is (AtUnbuilt s n e rest has never)

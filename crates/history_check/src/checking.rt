@@ -1,17 +1,16 @@
 // What is said of a journal (own: its lines are read from the first on, and its calls are made again).
-ghost use Rattle.std.specs.Prelude.{◌≡◌, ◌≤◌, ◌++◌, ℕ, List, IfOk, IfErr};
+ghost use Rattle.std.specs.Prelude.{◌≤◌, IfOk};
 ghost use Rattle.machine_model.specs.History.{greatest_moment};
 ghost use Rattle.machine_model.specs.JournalLines.{journal_line};
 ghost use Rattle.history_replay.specs.Line.{HasLine};
 ghost use Rattle.history_replay.specs.Verdict.{IsVerdict, IsVerdictFrom};
 ghost use Rattle.history_check.specs.Cutting.{IsFirstLine};
-ghost use Rattle.history_check.specs.Checking.{charter_of, IsLineSaid, IsStop, IsStopFrom};
+ghost use Rattle.history_check.specs.Checking.{charter_of, IsLineSaid};
 
 use super::cut::cut_line;
 use super::entry::{Said, check_entry};
-use super::fault::CheckFault;
 use container_machine::Machine;
-use engine_text::Entry;
+use engine_text::{Entry, NoMemory};
 use history_replay::{LineFault, Verdict, read_line};
 use std::alloc::Global;
 
@@ -21,15 +20,13 @@ fn say(
     alloc: Global,
     entry: &Entry,
     line: u64,
-) -> Result<Option<Verdict>, CheckFault>
+) -> Result<Option<Verdict>, NoMemory>
     requires { HasLine entry.now }
-    ensures said { IfOk result (λ said. IsLineSaid machine.old.memory.state line (journal_line entry.now) machine.new.memory.state said) }
-    ensures stopped { IfErr result (λ fault. (rest : List ℕ) → IsStopFrom machine.old.memory.state line (journal_line entry.now ++ rest) fault) }
+    ensures { IfOk result (λ said. IsLineSaid machine.old.memory.state line (journal_line entry.now) machine.new.memory.state said) }
 {
     match check_entry(machine, alloc, entry)? {
         Said::Right => Ok(None),
         Said::Wrong { kept, found } => Ok(Some(Verdict::Illegal { line, kept, found })),
-        Said::NotBuilt => Err(CheckFault::NotBuilt { line }),
     }
 }
 
@@ -39,10 +36,9 @@ fn say_once(
     alloc: Global,
     entry: Entry,
     line: u64,
-) -> Result<Option<Verdict>, CheckFault>
+) -> Result<Option<Verdict>, NoMemory>
     requires { HasLine entry }
-    ensures said { IfOk result (λ said. IsLineSaid machine.old.memory.state line (journal_line entry) machine.new.memory.state said) }
-    ensures stopped { IfErr result (λ fault. (rest : List ℕ) → IsStopFrom machine.old.memory.state line (journal_line entry ++ rest) fault) }
+    ensures { IfOk result (λ said. IsLineSaid machine.old.memory.state line (journal_line entry) machine.new.memory.state said) }
 {
     say(machine, alloc, &entry, line)
 }
@@ -53,22 +49,20 @@ fn check_line(
     alloc: Global,
     bytes: &[u8],
     line: u64,
-) -> Result<Option<Verdict>, CheckFault>
+) -> Result<Option<Verdict>, NoMemory>
     requires { IsFirstLine bytes.now }
-    ensures said { IfOk result (λ said. IsLineSaid machine.old.memory.state line bytes.now machine.new.memory.state said) }
-    ensures stopped { IfErr result (λ fault. (rest : List ℕ) → IsStopFrom machine.old.memory.state line (bytes.now ++ rest) fault) }
+    ensures { IfOk result (λ said. IsLineSaid machine.old.memory.state line bytes.now machine.new.memory.state said) }
 {
     match read_line(alloc, bytes) {
         Ok(entry) => say_once(machine, alloc, entry, line),
         Err(LineFault::BadLine) => Ok(Some(Verdict::BadLine { line })),
-        Err(LineFault::NoMemory) => Err(CheckFault::NoMemory),
+        Err(LineFault::NoMemory) => Err(NoMemory),
     }
 }
 
 // What is said of a text, by the machine at its beginning.
-fn check_lines(machine: &mut Machine, alloc: Global, text: &[u8]) -> Result<Verdict, CheckFault>
-    ensures said { IfOk result (λ v. IsVerdictFrom machine.old.memory.state 1 text.now v) }
-    ensures stopped { IfErr result (λ fault. IsStopFrom machine.old.memory.state 1 text.now fault) }
+fn check_lines(machine: &mut Machine, alloc: Global, text: &[u8]) -> Result<Verdict, NoMemory>
+    ensures { IfOk result (λ v. IsVerdictFrom machine.old.memory.state 1 text.now v) }
 {
     let mut rest = text;
     let mut line = 1;
@@ -88,15 +82,9 @@ fn check_lines(machine: &mut Machine, alloc: Global, text: &[u8]) -> Result<Verd
 
 /// Checks a journal's text, by its daemon's seed and the moment of its opening. Beside the machine
 /// it has one line in memory.
-pub fn check(
-    alloc: Global,
-    text: &[u8],
-    seed: [u8; 32],
-    opening: u64,
-) -> Result<Verdict, CheckFault>
+pub fn check(alloc: Global, text: &[u8], seed: [u8; 32], opening: u64) -> Result<Verdict, NoMemory>
     requires { opening ≤ greatest_moment }
-    ensures said { IfOk result (λ v. IsVerdict (charter_of seed opening) text.now v) }
-    ensures stopped { IfErr result (λ fault. IsStop (charter_of seed opening) text.now fault) }
+    ensures { IfOk result (λ v. IsVerdict (charter_of seed opening) text.now v) }
 {
     let mut machine = Machine::new(alloc, seed, opening)?;
     check_lines(&mut machine, alloc, text)

@@ -1,7 +1,6 @@
 // What is said of an entry: its call is made again, and its reply compared as a text.
-ghost use Rattle.std.specs.Prelude.{◌≡◌, IfOk, OnOk, IsTrue};
+ghost use Rattle.std.specs.Prelude.{◌≡◌, IfOk, OnOk};
 ghost use Rattle.serde_json.specs.Written.{compact_text};
-ghost use Rattle.call_bounds.specs.Built.{is_built};
 ghost use Rattle.engine_text.specs.declared.step.Step as steps;
 ghost use Rattle.machine_model.specs.History.{IsLawful, after_step, reply_of};
 ghost use Rattle.machine_model.specs.JournalLines.{reply_value};
@@ -13,18 +12,16 @@ ghost use Rattle.history_check.specs.declared.entry.Said.TheVariants as said;
 
 use super::dues::{Dues, run_dues, spelled};
 use super::making::ask;
-use call_bounds::is_built;
 use container_machine::Machine;
 use engine_text::{Call, Entry, NoMemory, Text};
 use history_replay::reply_text;
 use std::alloc::Global;
 
-/// It is right, it is wrong with what it keeps and what is found, or its call isn't built.
+/// It is right; or it is wrong, with what it keeps and what is found.
 #[derive(Drop)]
 pub enum Said {
     Right,
     Wrong { kept: Text, found: Text },
-    NotBuilt,
 }
 
 // Whether the ticket that a take or a drop names isn't the connection's.
@@ -38,13 +35,14 @@ fn lacks_ticket(machine: &Machine, conn: u32, call: &Call) -> bool
     }
 }
 
-// Whether a built call can be answered.
+// Whether a call can be answered.
 fn can_answer(machine: &Machine, call: &Call) -> bool
-    requires { IsTrue (is_built call.now) }
     ensures { result ≡ is_ready machine.now.memory.state call.now }
 {
     match call {
         Call::Take { ticket } => machine.is_ready(*ticket),
+        Call::Feed { owner, run, bytes } => machine.is_feed_ready(*owner, *run, bytes),
+        Call::FeedEnd { owner, run } => machine.is_feed_end_ready(*owner, *run),
         _ => true,
     }
 }
@@ -58,8 +56,7 @@ fn kept_reply(alloc: Global, entry: &Entry) -> Result<Text, NoMemory>
 
 // Makes an entry's call, and gives the text of the machine's reply.
 fn found_reply(machine: &mut Machine, alloc: Global, entry: &Entry) -> Result<Text, NoMemory>
-    requires lawful { IsLawful machine.old.memory.state (steps.Step.Call entry.now.conn entry.now.moment entry.now.call) }
-    requires built { IsTrue (is_built entry.now.call) }
+    requires { IsLawful machine.old.memory.state (steps.Step.Call entry.now.conn entry.now.moment entry.now.call) }
     ensures text { IfOk result (λ text. text ≡ compact_text
         (reply_value entry.now.call (reply_of machine.old.memory.state entry.now.conn entry.now.moment entry.now.call))) }
     ensures made { OnOk result (machine.new.memory.state
@@ -84,9 +81,6 @@ pub fn check_entry(machine: &mut Machine, alloc: Global, entry: &Entry) -> Resul
     requires { HasLine entry.now }
     ensures { IfOk result (λ s. IsSaid machine.old.memory.state entry.now machine.new.memory.state s) }
 {
-    if !is_built(&entry.call) {
-        return Ok(Said::NotBuilt);
-    }
     if lacks_ticket(machine, entry.conn, &entry.call) {
         return wrong(alloc, entry, "no ticket");
     }

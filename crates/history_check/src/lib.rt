@@ -5,11 +5,9 @@ mod checking;
 mod cut;
 mod dues;
 mod entry;
-mod fault;
 mod laws;
 mod making;
 mod moments;
 
 pub use checking::check;
-pub use fault::CheckFault;
-pub use laws::law_legal;
+pub use laws::{law_complete, law_legal, law_one_verdict};

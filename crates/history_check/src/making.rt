@@ -1,6 +1,5 @@
 // The machine's steps, made again.
-ghost use Rattle.std.specs.Prelude.{◌≡◌, ◌+◌, IfOk, OnOk, OnErr, IsTrue};
-ghost use Rattle.call_bounds.specs.Built.{is_built};
+ghost use Rattle.std.specs.Prelude.{◌≡◌, ◌+◌, IfOk, OnOk, OnErr};
 ghost use Rattle.engine_text.specs.declared.step.Step as steps;
 ghost use Rattle.machine_model.specs.History.{IsLawful, after_step, reply_of};
 
@@ -28,8 +27,7 @@ pub fn ask(
     moment: u64,
     call: &Call,
 ) -> Result<Reply, NoMemory>
-    requires lawful { IsLawful machine.old.memory.state (steps.Step.Call conn moment call.now) }
-    requires built { IsTrue (is_built call.now) }
+    requires { IsLawful machine.old.memory.state (steps.Step.Call conn moment call.now) }
     ensures reply { IfOk result (λ r. r ≡ reply_of machine.old.memory.state conn moment call.now) }
     ensures made { OnOk result (machine.new.memory.state ≡ after_step machine.old.memory.state (steps.Step.Call conn moment call.now)) }
     ensures stays { OnErr result (machine.new.memory.state ≡ machine.old.memory.state) }

@@ -140,7 +140,7 @@ has_line e sound told texts = record {
 
 -- ---- what is read of a line
 
-told_value : (c : Call) (r : Reply) → reply_value c (told_reply r) ≡ reply_value c r
+pub told_value : (c : Call) (r : Reply) → reply_value c (told_reply r) ≡ reply_value c r
 told_value c (Answer status body) = refl
 told_value c (Begun ticket) = refl
 told_value c (LogStream spec) = refl

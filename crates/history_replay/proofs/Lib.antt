@@ -9,5 +9,5 @@ mod ListLemmas
 mod PartLemmas
 mod CarriedLemmas
 mod CallLemmas
-mod EntryLemmas
+pub mod EntryLemmas
 mod JournalLemmas

@@ -80,8 +80,8 @@ impl Journal {
         }
     }
 
-    // Takes the memory for so many places beside those for ends.
-    fn make_places(&mut self, count: u64) -> Result<(), NoMemory>
+    /// Takes the memory for so many places beside those for ends.
+    pub fn make_places(&mut self, count: u64) -> Result<(), NoMemory>
         ensures entries { self.new.entries ≡ self.old.entries }
         ensures since { self.new.since ≡ self.old.since }
         ensures greatest { self.new.greatest ≡ self.old.greatest }

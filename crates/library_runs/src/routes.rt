@@ -4,7 +4,7 @@ use crate::short::Short;
 use crate::shown;
 use api_routes::{Class, DirectAnswer, DirectKind, Routes, Takeover};
 use engine_ports::MemSource;
-use engine_text::{Call, Filter, LogAsk, Signal, Text};
+use engine_text::{AttachAsk, Call, Filter, LogAsk, Signal, Text};
 use http_edge::{Next, RequestReader};
 use std::alloc::Global;
 
@@ -93,6 +93,19 @@ fn log(alloc: Global, target: &Text, ask: LogAsk, takeover: Takeover) -> Result<
     Ok(format!(in alloc; "log of {}: {takeover:?}, {ask:?}", target.as_str())?)
 }
 
+fn attach(
+    alloc: Global,
+    target: &Text,
+    ask: AttachAsk,
+    takeover: Takeover,
+) -> Result<String, Short> {
+    Ok(format!(in alloc; "attach to {}: {takeover:?}, {ask:?}", target.as_str())?)
+}
+
+fn exec_start(alloc: Global, id: &Text, detach: bool, takeover: Takeover) -> Result<String, Short> {
+    Ok(format!(in alloc; "start of exec {}: {takeover:?}, {detach}", id.as_str())?)
+}
+
 fn events(
     alloc: Global,
     since: Option<u64>,
@@ -104,6 +117,10 @@ fn events(
     Ok(format!(in alloc; "events: {takeover:?}, {since:?}, {until:?}, rows{rows}")?)
 }
 
+fn journal(alloc: Global, takeover: Takeover) -> Result<String, Short> {
+    Ok(format!(in alloc; "journal: {takeover:?}")?)
+}
+
 // A stream that was asked for.
 fn stream(alloc: Global, call: &Call, takeover: Takeover) -> Result<String, Short> {
     match call {
@@ -113,6 +130,9 @@ fn stream(alloc: Global, call: &Call, takeover: Takeover) -> Result<String, Shor
             until,
             filter,
         } => events(alloc, *since, *until, filter, takeover),
+        Call::JournalRead => journal(alloc, takeover),
+        Call::Attach { target, ask } => attach(alloc, target, *ask, takeover),
+        Call::ExecStart { id, detach } => exec_start(alloc, id, *detach, takeover),
         _ => owned(alloc, "another stream"),
     }
 }

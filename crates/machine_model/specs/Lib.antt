@@ -14,7 +14,6 @@ pub mod Call
 pub mod Due
 pub mod Step
 pub use Rattle.call_bounds.specs.Soundness
-pub use Rattle.call_bounds.specs.Built
 pub mod Ready
 pub mod History
 pub mod Summary

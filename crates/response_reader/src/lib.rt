@@ -12,4 +12,5 @@ mod reader;
 
 pub use framing::Left;
 pub use got::{Answered, BodyGot, Stage, Stopped};
+pub use numbers::leading_number;
 pub use reader::ResponseReader;

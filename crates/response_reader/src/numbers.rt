@@ -19,7 +19,7 @@ pub(crate) fn first_difference(one: &[u8], other: &[u8]) -> usize
 }
 
 /// The number whose digits the bytes begin with.
-pub(crate) fn leading_number(bytes: &[u8]) -> u64
+pub fn leading_number(bytes: &[u8]) -> u64
     ensures { (n : ℕ) → n < 2 ^ 64 → BeginsWithNumber bytes.now n → result ≡ n }
 {
     match str::from_utf8(&bytes[..digits_end(bytes)]) {

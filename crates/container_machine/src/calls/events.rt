@@ -28,3 +28,13 @@ pub fn prepare(
     };
     Ok(stream(alloc, moment, reply))
 }
+
+/// Makes the stream of the journal's entries so far ready.
+pub fn prepare_journal(tables: &Tables, alloc: Global, moment: u64) -> Result<Prepared, NoMemory>
+    ensures { IfOk result (λ p. Makes p moment tables.now.state spec.journal_outcome) }
+{
+    let reply = Reply::JournalStream {
+        count: tables.calls(),
+    };
+    Ok(stream(alloc, moment, reply))
+}

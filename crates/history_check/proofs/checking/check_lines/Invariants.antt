@@ -1,14 +1,11 @@
 use Rattle.std.proofs.Common.{◌≤◌, ◌+◌, length}
 use Rattle.history_replay.specs.Verdict.{IsVerdictFrom}
 use Rattle.history_replay.specs.declared.verdict.Verdict.{Verdict}
-use Rattle.history_check.specs.Checking.{IsStopFrom}
-use Rattle.history_check.specs.declared.fault.CheckFault.{CheckFault}
 use Rattle.history_check.proofs.checking.check_lines.Given as goal
 
 abbrev pub invariant-lines : goal.invariant-lines
 invariant-lines l = record {
   said : (v : Verdict) → IsVerdictFrom l.machine.memory.state l.line l.rest v → IsVerdictFrom l.fn.machine.memory.state 1 l.fn.text v;
-  stops : (why : CheckFault) → IsStopFrom l.machine.memory.state l.line l.rest why → IsStopFrom l.fn.machine.memory.state 1 l.fn.text why;
   counted : l.line + length l.rest ≤ length l.fn.text + 1;
 }
 

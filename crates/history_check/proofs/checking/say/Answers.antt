@@ -3,19 +3,12 @@ use Rattle.engine_text.specs.declared.entry.Entry.{Entry}
 use Rattle.machine_model.specs.State.{State}
 use Rattle.machine_model.specs.JournalLines.{journal_line}
 use Rattle.history_check.specs.Checking.{IsSaid}
-use Rattle.history_check.proofs.VerdictLemmas.{wrong_line, unbuilt_line}
+use Rattle.history_check.proofs.VerdictLemmas.{wrong_line}
 use Rattle.history_check.proofs.checking.say.Goals as goal
 
-pub returns-in-Wrong-clause-said : goal.returns-in-Wrong-clause-said
-returns-in-Wrong-clause-said c =
+pub returns-in-Wrong : goal.returns-in-Wrong
+returns-in-Wrong c =
     let s : State = c.args.machine.now.memory.state in
     let e : Entry = c.args.entry.now in
     let wrong = subst (IsSaid s e c.check_entry.new.machine.memory.state) c.in-Wrong.is c.in_ok-check_entry.ensures in
     λ rest. wrong_line s c.args.line e (journal_line e) rest c.in-Wrong.kept c.in-Wrong.found c.requires refl wrong
-
-pub returns-in-NotBuilt-clause-stopped : goal.returns-in-NotBuilt-clause-stopped
-returns-in-NotBuilt-clause-stopped c =
-    let s : State = c.args.machine.now.memory.state in
-    let e : Entry = c.args.entry.now in
-    let never = subst (IsSaid s e c.check_entry.new.machine.memory.state) c.in-NotBuilt.is c.in_ok-check_entry.ensures in
-    λ rest. unbuilt_line s c.args.line e (journal_line e) rest c.requires refl never

@@ -1,7 +1,6 @@
 use Rattle.std.proofs.Common.{◌≡◌, sym, ◌∙◌, true, false}
 use Rattle.std.proofs.lemmas.Bool.{false≢true}
 use Rattle.std.proofs.lemmas.Slice.Eq.{bytes_eq-Decides}
-use Rattle.call_bounds.specs.Built.{is_built}
 use Rattle.engine_text.specs.Texts.{same_bytes}
 use Rattle.engine_text.specs.declared.entry.Entry.{Entry}
 use Rattle.machine_model.specs.State.{State}
@@ -35,8 +34,8 @@ returns-then-not-can_answer c =
     said_wrong s e _ c.wrong-then-not-can_answer.result _ _ c.wrong-then-not-can_answer.ensures
     (not_ready s e now c.in_ok-run_dues.field-0 holds c.in_ok-run_dues.ensures c.in-Serves.is never)
 
-pub found_reply-requires-clause-lawful : goal.found_reply-requires-clause-lawful
-found_reply-requires-clause-lawful c =
+pub found_reply-requires : goal.found_reply-requires
+found_reply-requires c =
     let s : State = c.args.machine.now.memory.state in
     let e : Entry = c.args.entry.now in
     let now : State = c.run_dues.new.machine.memory.state in
@@ -52,11 +51,9 @@ returns-then-is c =
     let holds : lacks_ticket s e.conn e.call ≡ false = cc in
     let ready : is_ready now e.call ≡ true = cc in
     let tests : same_bytes c.in_ok-kept.kept c.in_ok-found.found ≡ true = cc in
-    let built : is_built e.call ≡ true = cc in
-    let (right, at) = right_entry s e now c.found_reply.new.machine.memory.state c.in_ok-run_dues.field-0 c.in_ok-kept.kept c.in_ok-found.found holds
+    right_entry s e now c.found_reply.new.machine.memory.state c.in_ok-run_dues.field-0 c.in_ok-kept.kept c.in_ok-found.found holds
     c.in_ok-run_dues.ensures c.in-Serves.is ready c.in_ok-kept.ensures c.in_ok-found.ensures.text
-    ((bytes_eq-Decides c.in_ok-kept.kept c.in_ok-found.found).0 tests) c.in_ok-found.ensures.made in
-    (built, right, at)
+    ((bytes_eq-Decides c.in_ok-kept.kept c.in_ok-found.found).0 tests) c.in_ok-found.ensures.made
 
 pub returns : goal.returns
 returns c =

@@ -1,6 +1,8 @@
-// Which calls are built.
+//! Which calls are built.
+#![tactic(auto)]
+
 ghost use Rattle.std.specs.Prelude.{◌≡◌};
-ghost use Rattle.call_bounds.specs.Built as spec;
+ghost use Rattle.built_calls.specs.Built as spec;
 
 use engine_text::Call;
 
@@ -9,11 +11,6 @@ pub fn is_built(call: &Call) -> bool
     ensures { result ≡ spec.is_built call.now }
 {
     match call {
-        Call::Attach { .. } => false,
-        Call::ExecStart { .. } => false,
-        Call::JournalRead => false,
-        Call::Feed { .. } => false,
-        Call::FeedEnd { .. } => false,
         _ => true,
     }
 }
