@@ -1,6 +1,6 @@
 -- What a daemon's turn does to its whole history.
 use Rattle.std.proofs.Common.{◌≡◌, ◌≤◌, ◌==◌, ℕ, List, [], ◌∷◌, ◌++◌, refl, subst, sym, ◌∙◌, ap, append-nil, append_assoc, true, false, Option, Some, None, arith, Result, Ok, Err, IfOk}
-use Rattle.std.specs.Prelude.{IsTrue, IsFalse, OnErr}
+use Rattle.std.specs.Prelude.{IsFalse, OnErr}
 use Rattle.std.proofs.lemmas.Bool.{false≢true}
 use Rattle.std.specs.List.{filter}
 use Rattle.std.proofs.lemmas.List.Elements.{filter-append}
@@ -12,20 +12,20 @@ use Rattle.engine_text.specs.declared.reply.Reply.TheVariants as reply
 use Rattle.engine_text.specs.declared.step.Step.{Step}
 use Rattle.machine_model.specs.State.{State}
 use Rattle.machine_model.specs.Room.{HasRoom, has_room}
-use Rattle.call_bounds.specs.Soundness.{IsSound}
 use Rattle.machine_model.specs.History.{Charter, IsLegal, IsLawful, AreLawful, state_after, state_from, moment_used, latest, greatest_moment, acts_by, calls_of, bears, DuesUntil, SomeDues, reply_of, is_drop}
 use Rattle.machine_model.proofs.Histories.{run_append, legal_append}
 use Rattle.session_model.specs.declared.turned.Turned.{Turned}
 use Rattle.session_model.specs.declared.turned.Turned.TheVariants as T
 use Rattle.session_model.specs.Turning.{Turn, TurnSays, Makes, MakesAt, GivesNoTicket, IsNotReady}
-use Rattle.call_bounds.specs.Built.{is_built}
+use Rattle.daemon_core.specs.Keeping.{history_of}
 use Rattle.daemon_core.specs.Passing.{charter}
 use Rattle.daemon_core.specs.Telling.{IsTold}
 use Rattle.daemon_core.specs.declared.stored.Stored.{Stored}
 use Rattle.daemon_core.specs.declared.daemon.Daemon.{Daemon}
-use Rattle.daemon_core.specs.Storing.{pass_of, is_call, Adds, AddsDues, IsClear, HoldsTicket, Ends, turned_by, drop_of, is_open, charter_for, moment_of}
-use Rattle.daemon_core.proofs.BuiltLemmas.{built_lawful, waits}
-use Rattle.daemon_core.proofs.RingLemmas.{ring_held}
+use Rattle.daemon_core.specs.Storing.{pass_of, is_call, Adds, AddsDues, HoldsTicket, Ends, turned_by, drop_of, is_open, charter_for, moment_of}
+use Rattle.daemon_core.proofs.CallLemmas.{waits}
+use Rattle.daemon_core.proofs.CountLemmas.{steps_counted}
+use Rattle.daemon_core.proofs.RingLemmas.{entries_held, ring_held}
 use Rattle.daemon_core.proofs.TicketLemmas.{none_dropped}
 use Rattle.daemon_core.proofs.DueLemmas.{all_made, dues_calls, dues_own}
 
@@ -39,11 +39,18 @@ pub record Stands (ch : Charter) (s : State) (h : List Step) : Type 0 where
 pub as_stored : (d : Stored) (x : State) → d.machine.memory.state ≡ x → d ≡ record d { machine = record d.machine { memory = record d.machine.memory { state = x } } }
 as_stored d x e = ap (λ y. record d { machine = record d.machine { memory = record d.machine.memory { state = y } } }) e
 
--- its ring goes with its history
+-- its ring and its journal go with its history
 pub told_of : (d : Daemon) → IsTold (charter d) d.stored
-told_of d = record { state = ap (λ (x : Stored). x.machine.memory.state) d.state; ring = ring_held (charter d) d.stored d.told }
+told_of d =
+    let is = ap (λ (x : Stored). x.machine.memory.state) d.state in
+    record {
+      state = is;
+      ring = ring_held (charter d) d.stored d.told;
+      entries = entries_held (charter d) d.stored d.told;
+      steps = steps_counted (charter d) (history_of d.stored.journal) d.legal ∙ sym (ap (λ (y : State). y.step_count) is);
+    }
 
-pub stands : (d : Daemon) → Stands (charter d) d.stored.machine.memory.state d.stored.steps.items
+pub stands : (d : Daemon) → Stands (charter d) d.stored.machine.memory.state (history_of d.stored.journal)
 stands d = record { is = ap (λ (x : Stored). x.machine.memory.state) d.state; legal = d.legal }
 
 stands_more : (ch : Charter) (s s' : State) (h h' more : List Step) → Stands ch s h → s' ≡ state_from s more → h' ≡ h ++ more
@@ -75,10 +82,6 @@ pub room_same : (ch : Charter) (s : State) (c : Call) → has_room (charter_for 
 room_same ch s (call.Take n) = refl
 room_same ch s (call.Drop n) = refl
 room_same ch s c = refl
-
-pub lawful_by : (ch : Charter) (s : State) (k t : ℕ) (c : Call) → IsTrue (is_built c) → IsSound c → IsFalse (is_drop c) → HoldsTicket s k c
-    → IsClear s t → HasRoom ch s c → IsTrue (is_open s t c) → IsLawful s (Step.Call k t c)
-lawful_by ch s k t c built sound kind holds turn room may = built_lawful c ch s k t built sound kind room holds may turn
 
 ends_by : (ch : Charter) (s : State) (h h' : List Step) (k t : ℕ) (c : Call) (r : Reply) → HasRoom ch s c
     → h' ≡ h ++ Step.Call k t c ∷ [] → r ≡ reply_of s k t c → Ends ch s k t c (turned_by r) h h'

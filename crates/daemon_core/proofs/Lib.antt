@@ -1,6 +1,8 @@
-pub mod BuiltLemmas
+pub mod CallLemmas
 pub mod TicketLemmas
 pub mod CountLemmas
+pub mod KeepLemmas
+pub mod EntryLemmas
 pub mod DueLemmas
 pub mod TellLemmas
 pub mod RingLemmas

@@ -1,21 +1,33 @@
 -- A ticket that a connection has begun and hasn't ended stands, and its end has a place.
 use Rattle.std.proofs.Common.{◌≡◌, ◌≤◌, ◌<◌, ◌+◌, ◌==◌, ◌&&◌, ℕ, List, [], ◌∷◌, ◌++◌, Bool, true, false, cond, refl, sym, ◌∙◌, ap, subst, length, arith, Option, Some, None}
-use Rattle.std.specs.Prelude.{IsFalse}
+use Rattle.std.specs.Prelude.{IsFalse, IsTrue, ◌^◌}
 use Rattle.std.specs.List.{filter}
 use Rattle.std.proofs.lemmas.Bool.{false≢true, eq-eqb}
 use Rattle.std.proofs.lemmas.Bool.Decides.{nat_tests}
 use Rattle.engine_text.specs.declared.call.Call.{Call}
 use Rattle.engine_text.specs.declared.call.Call.TheVariants as call
+use Rattle.engine_text.specs.declared.entry.Entry.{Entry}
+use Rattle.engine_text.specs.declared.reply.Reply.{Reply}
+use Rattle.engine_text.specs.declared.reply.Reply.TheVariants as reply
 use Rattle.engine_text.specs.declared.step.Step.{Step}
+use Rattle.engine_text.specs.declared.ticket.Ticket.{Ticket}
+use Rattle.history_replay.specs.Kept.{ends_behind, ends_of, tickets_begun}
 use Rattle.machine_model.specs.State.{State}
 use Rattle.machine_model.specs.Consistency.{IsConsistent}
-use Rattle.machine_model.specs.History.{Charter, IsLegal, IsLawful, AreLawful, after_step, state_after, state_from, opening_state, is_drop, SomeDues}
+use Rattle.machine_model.specs.History.{Charter, IsLegal, IsLawful, AreLawful, after_step, has_steps, reply_of, state_after, state_from, opening_state, is_drop, SomeDues}
+use Rattle.machine_model.specs.Statuses.{gives_ticket, is_reply_of}
+use Rattle.machine_model.specs.Step.{at_moment}
+use Rattle.machine_model.proofs.CallLemmas.{obeys}
 use Rattle.machine_model.proofs.Histories.{run_append, lawful_back, legal_front}
 use Rattle.machine_model.proofs.Laws.{consistency_law}
+use Rattle.machine_model.proofs.ObeyLemmas.{HaveReplies}
 use Rattle.machine_model.proofs.StandingLemmas.{Held, one_holder, held_due, held_call, held_begun, tickets_call, tickets_due, tickets_take, tickets_drop}
 use Rattle.session_model.specs.Turning.{ends_ticket, is_end_of, HasBegun, HasTicket}
-use Rattle.daemon_core.specs.Storing.{HoldsTicket, drop_of, spare_of}
-use Rattle.daemon_core.proofs.BuiltLemmas.{have_replies}
+use Rattle.daemon_core.specs.Storing.{HoldsTicket, drop_of}
+use Rattle.daemon_core.specs.Keeping.{history_of}
+use Rattle.daemon_core.specs.Telling.{HasEnds, HasPlaces, IsToldBySome}
+use Rattle.daemon_core.specs.declared.stored.Stored.{Stored}
+use Rattle.daemon_core.proofs.CallLemmas.{have_replies}
 
 -- ---- it stands
 
@@ -106,16 +118,82 @@ dropped (Some c) n h = let never : ⊥ = cc in absurd never
 
 -- ---- the places of ends
 
--- behind a call for which there was place, the ends of the tickets have theirs
-pub call_placed : (s : State) (k t : ℕ) (c : Call) (len cap : ℕ) → IsLawful s (Step.Call k t c) → IsConsistent s
-    → len + length s.tickets + spare_of c ≤ cap
-    → (len < cap) × (len + 1 + length (after_step s (Step.Call k t c)).tickets ≤ cap)
-call_placed s k t (call.Take n) len cap lawful kept room =
-    let less = tickets_take s k t n lawful.1.1 in (omega (arith, less, room), omega (arith, less, room))
-call_placed s k t (call.Drop n) len cap lawful kept room =
-    let less = tickets_drop s k t n lawful.1.1 in (omega (arith, less, room), omega (arith, less, room))
-call_placed s k t c len cap lawful kept room =
-    let more = tickets_call s k t c lawful kept in (omega (arith, room), omega (arith, more, room))
+-- a reply begins one ticket at most
+few_begun : (r : Reply) → tickets_begun r ≤ 1
+few_begun (reply.Begun n) = omega arith
+few_begun (reply.Answer status body) = omega arith
+few_begun (reply.LogStream spec) = omega arith
+few_begun (reply.EventStream first until filter) = omega arith
+few_begun (reply.JournalStream count) = omega arith
+few_begun (reply.Fed taken) = omega arith
+few_begun reply.Dropped = omega arith
 
-pub due_placed : (s : State) (len cap : ℕ) → len + length s.tickets + 1 ≤ cap → (len < cap) × (len + 1 + length (after_step s Step.Due).tickets ≤ cap)
-due_placed s len cap room = let more = tickets_due s in (omega (arith, room), omega (arith, more, room))
+-- and none to a call that gives none
+none_begun : (c : Call) (r : Reply) → gives_ticket c ≡ false → IsTrue (is_reply_of c r) → tickets_begun r ≡ 0
+none_begun c (reply.Begun n) none is = absurd (false≢true (sym none ∙ is))
+none_begun c (reply.Answer status body) none is = refl
+none_begun c (reply.LogStream spec) none is = refl
+none_begun c (reply.EventStream first until filter) none is = refl
+none_begun c (reply.JournalStream count) none is = refl
+none_begun c (reply.Fed taken) none is = refl
+none_begun c reply.Dropped none is = refl
+
+answers : (s : State) (k t : ℕ) (c : Call) (r : Reply) → HaveReplies s → r ≡ reply_of s k t c → IsTrue (is_reply_of c r)
+answers s k t c r have is = subst (λ x. IsTrue (is_reply_of c x)) (sym is) ((obeys c k (at_moment t s)).reply have)
+
+-- behind an entry the ends of the tickets have their places
+abbrev pub IsPlaced : Stored → Entry → List Ticket → Type 0
+IsPlaced d e tickets =
+    (length d.journal.entries + 1 + ends_behind (ends_of d.journal.entries) e ≤ d.journal.room)
+    × (length d.journal.entries + 1 + length tickets ≤ d.journal.room)
+
+abbrev entry_with : ℕ → ℕ → ℕ → Call → Reply → Entry
+entry_with dues k t c r = record { dues = dues; conn = k; moment = t; call = c; reply = r }
+
+-- where there was place for it
+pub call_placed : (s : State) (k t dues : ℕ) (c : Call) (r : Reply) (d : Stored) → HaveReplies s → IsLawful s (Step.Call k t c)
+    → IsConsistent s → r ≡ reply_of s k t c → d.machine.memory.state ≡ s
+    → length d.journal.entries + ends_of d.journal.entries ≤ d.journal.room → HasEnds d → HasPlaces d c
+    → IsPlaced d (entry_with dues k t c r) (after_step s (Step.Call k t c)).tickets
+call_placed s k t dues (call.Take n) r d have lawful kept is at places ends wide =
+    let less = tickets_take s k t n lawful.1.1 in
+    let none = none_begun (call.Take n) r refl (answers s k t (call.Take n) r have is) in
+    let same = ap (λ (y : State). length y.tickets) at in
+    (omega (arith, less, none, same, places, ends), omega (arith, less, same, ends))
+call_placed s k t dues (call.Drop n) r d have lawful kept is at places ends wide =
+    let less = tickets_drop s k t n lawful.1.1 in
+    let none = none_begun (call.Drop n) r refl (answers s k t (call.Drop n) r have is) in
+    let same = ap (λ (y : State). length y.tickets) at in
+    (omega (arith, less, none, same, places, ends), omega (arith, less, same, ends))
+call_placed s k t dues c r d have lawful kept is at places ends wide =
+    let more = tickets_call s k t c lawful kept in
+    let few = few_begun r in
+    let same = ap (λ (y : State). length y.tickets) at in
+    (omega (arith, few, same, wide), omega (arith, more, same, wide))
+
+-- a due step has no entry, and brings no ticket
+pub due_placed : (s : State) (len room : ℕ) → len + length s.tickets ≤ room → len + length (after_step s Step.Due).tickets ≤ room
+due_placed s len room ends = let more = tickets_due s in omega (arith, ends, more)
+
+-- ---- few steps stand before a lawful one
+
+few_steps : (s : State) → IsTrue (has_steps s) → s.step_count < 2 ^ 57
+few_steps s h = let few : s.step_count < 2 ^ 56 = grind (arith, nat_tests, h) in omega (arith, few)
+
+pub few_due : (s : State) → IsLawful s Step.Due → s.step_count < 2 ^ 57
+few_due s lawful = few_steps s lawful.0
+
+-- a take and a drop are of a ticket that stands beside them
+pub few_before : (s : State) (k t : ℕ) (c : Call) → IsLawful s (Step.Call k t c) → IsConsistent s → s.step_count < 2 ^ 57
+few_before s k t (call.Take n) lawful kept =
+    let less = tickets_take s k t n lawful.1.1 in
+    let most = kept.counts.steps in
+    omega (arith, less, most)
+few_before s k t (call.Drop n) lawful kept =
+    let less = tickets_drop s k t n lawful.1.1 in
+    let most = kept.counts.steps in
+    omega (arith, less, most)
+few_before s k t c lawful kept = few_steps s lawful.1.1
+
+pub told_replies : (d : Stored) → IsToldBySome d → HaveReplies d.machine.memory.state
+told_replies d (ch, told) = subst HaveReplies (sym told.state) (have_replies ch (history_of d.journal))

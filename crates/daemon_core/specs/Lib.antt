@@ -1,4 +1,5 @@
 pub mod Whole
+pub mod Keeping
 pub mod Storing
 pub mod Telling
 pub mod Passing
@@ -6,3 +7,5 @@ pub mod Framing
 pub mod PartTurns
 pub mod LogTurns
 pub mod EventTurns
+pub mod JournalTurns
+pub mod Pairing

@@ -77,16 +77,10 @@ abbrev pub drop_of : Option Call → Option ℕ
 drop_of (Some (Drop n)) = Some n
 drop_of c = None
 
--- whether a call can be made where nothing acts any more: a take wants its reply, and nothing due
+-- whether a call can be made where nothing acts any more: it is ready; for a take nothing is due, either
 abbrev pub is_open : State → ℕ → Call → Bool
 is_open s moment (Take n) = is_ready s (Take n) && not (is_due s moment)
-is_open s moment c = true
-
--- the places that a call wants beside those that the ends of open tickets have: the end of a ticket none
-abbrev pub spare_of : Call → ℕ
-spare_of (Take n) = 0
-spare_of (Drop n) = 0
-spare_of c = 2
+is_open s moment c = is_ready s c
 
 -- the call was made in that state and is the last of the steps, or it wasn't ready, or there was no room or no memory for it
 abbrev pub Ends : Charter → State → ℕ → ℕ → Call → Turned → List Step → List Step → Type 0

@@ -1,6 +1,7 @@
 // The owner of a daemon, who takes all turns.
 ghost use Rattle.std.specs.Prelude.{◌≡◌, refl};
 ghost use Rattle.session_model.proofs.PassLemmas.{none_joined};
+ghost use Rattle.daemon_core.specs.Keeping.{history_of};
 ghost use Rattle.daemon_core.specs.Passing.{whole_pass};
 
 use crate::{Daemon, Turns};
@@ -63,7 +64,11 @@ impl Turns for Alone {
             .events_from(alloc, conn, handed, number, out, filter, until)
     }
 
+    fn journal_from(&mut self, alloc: Global, _: u32, number: u64, out: &mut Vec<u8>) -> Part {
+        self.daemon.journal_from(alloc, number, out)
+    }
+
     ghost sound = { λ a. a.daemon.legal };
 
-    ghost counted = { λ a. record { own = refl; joined = none_joined a.daemon.stored.steps.items } };
+    ghost counted = { λ a. record { own = refl; joined = none_joined (history_of a.daemon.stored.journal) } };
 }

@@ -1,10 +1,11 @@
 // The one daemon value.
-ghost use Rattle.std.specs.Prelude.{◌≡◌, ◌+◌, ◌<◌, ◌≤◌, ◌^◌, length, vec_capacity, vec_len};
+ghost use Rattle.std.specs.Prelude.{◌≡◌, ◌≤◌};
 ghost use Rattle.std.specs.Coded.{Coded-set};
 ghost use Rattle.machine_model.specs.History.{IsLegal, state_after, greatest_moment};
 ghost use Rattle.machine_model.proofs.Histories.{IsLegal-prop};
+ghost use Rattle.daemon_core.specs.Keeping.{history_of, told_entries};
 ghost use Rattle.daemon_core.specs.Storing.{charter_of, turned_by};
-ghost use Rattle.daemon_core.specs.Telling.{last_events};
+ghost use Rattle.daemon_core.specs.Telling.{HasEnds, last_events};
 
 use crate::moment::moment_used;
 use crate::ready::{drop_of, is_open};
@@ -13,24 +14,25 @@ use crate::stored::Stored;
 use container_machine::Machine;
 use engine_text::{Call, NoMemory, Reply};
 use event_ring::Ring;
+use history_replay::Journal;
 use session_model::Turned;
 use std::alloc::Global;
 
-/// A machine, its history so far, and the last events of this, under what no step changes: the seed of ids, the moment of the
-/// opening in milliseconds, and the greatest number of calls.
+/// A machine, the journal of its history so far, and the last events of this, under what no step
+/// changes: the seed of ids, the moment of the opening in milliseconds, and the greatest number of
+/// entries.
 #[derive(Drop)]
 pub struct Daemon {
     pub(crate) stored: Stored,
     pub(crate) seed: [u8; 32],
     pub(crate) opening: u64,
     pub(crate) greatest: u64,
-    pub(crate) ghost state: { stored ≡ record stored { machine = record stored.machine { memory = record stored.machine.memory { state = state_after (charter_of seed opening greatest) stored.steps.items } } } } by { Coded-set stored-code stored _ },
-    // The ring holds the last events of the history.
-    pub(crate) ghost told: { stored ≡ record stored { ring = last_events (charter_of seed opening greatest) stored.steps.items } } by { Coded-set stored-code stored _ },
-    pub(crate) ghost legal: { IsLegal (charter_of seed opening greatest) stored.steps.items } by { IsLegal-prop (charter_of seed opening greatest) stored.steps.items },
-    pub(crate) ghost counted: { length stored.steps.items < 2 ^ 64 },
-    // The end of each ticket that stands has its place among the steps.
-    pub(crate) ghost ends: { vec_len stored.steps + length stored.machine.memory.state.tickets ≤ vec_capacity stored.steps },
+    pub(crate) ghost state: { stored ≡ record stored { machine = record stored.machine { memory = record stored.machine.memory { state = state_after (charter_of seed opening greatest) (history_of stored.journal) } } } } by { Coded-set stored-code stored _ },
+    // The ring holds the last events of the history, and the journal's entries are its calls with their replies.
+    pub(crate) ghost told: { stored ≡ record stored { ring = last_events (charter_of seed opening greatest) (history_of stored.journal); journal = record stored.journal { entries = told_entries (charter_of seed opening greatest) (history_of stored.journal) } } } by { Coded-set stored-code stored _ },
+    pub(crate) ghost legal: { IsLegal (charter_of seed opening greatest) (history_of stored.journal) } by { IsLegal-prop (charter_of seed opening greatest) (history_of stored.journal) },
+    // The end of each ticket that stands has its place behind the entries.
+    pub(crate) ghost ends: { HasEnds stored },
 }
 
 /// The answer of a turn by the reply to its call.
@@ -44,13 +46,13 @@ fn turned(reply: Reply) -> Turned
 }
 
 impl Daemon {
-    ghost use Rattle.std.specs.Prelude.{ℕ, [], None, Some, IfOk, IsFalse, IsTrue, length};
+    ghost use Rattle.std.specs.Prelude.{ℕ, [], None, Some, IfOk, IsFalse, length};
     ghost use Rattle.std.specs.Option.{option_map};
     ghost use Rattle.call_bounds.specs.Soundness.{IsSound};
     ghost use Rattle.engine_text.specs.declared.call.Call as calls;
     ghost use Rattle.machine_model.specs.History.{is_drop};
     ghost use Rattle.session_model.specs.Turning.{MayAsk, Turn};
-    ghost use Rattle.call_bounds.specs.Built.{is_built, AreBuilt};
+    ghost use Rattle.daemon_core.specs.Keeping.{history_of};
     ghost use Rattle.daemon_core.specs.Storing.{charter_of, pass_of, drop_of, IsStored, IsClear, HoldsTicket, Ends};
     ghost use Rattle.daemon_core.specs.Passing.{charter, whole_pass};
 
@@ -67,7 +69,7 @@ impl Daemon {
         Ok(Daemon {
             stored: Stored {
                 machine: Machine::new(alloc, seed, moment)?,
-                steps: Vec::new(alloc),
+                journal: Journal::new(alloc, greatest)?,
                 ring: Ring::new(alloc)?,
             },
             seed,
@@ -78,17 +80,16 @@ impl Daemon {
 
     /// How many steps its history has.
     pub fn steps(&self) -> u64
-        ensures count { result ≡ length self.now.stored.steps.items }
-        ensures stored { IsStored (charter self.now) self.now.stored.steps.items }
+        ensures count { result ≡ length (history_of self.now.stored.journal) }
+        ensures stored { IsStored (charter self.now) (history_of self.now.stored.journal) }
     {
-        self.stored.steps.len() as u64
+        self.stored.journal.steps()
     }
 
     /// Makes every step that is due at or before the moment that counts, and then the call. A drop is
     /// made at once, and takes no memory.
     pub fn turn(&mut self, alloc: Global, conn: u32, handed: u64, call: Option<&Call>) -> Turned
-        requires may { MayAsk (charter self.old) conn self.old.stored.steps.items (option_map (λ c. c.now) call) }
-        requires built { AreBuilt (option_map (λ c. c.now) call) }
+        requires { MayAsk (charter self.old) conn (history_of self.old.stored.journal) (option_map (λ c. c.now) call) }
         ensures { Turn conn handed (option_map (λ c. c.now) call.entry) result (whole_pass self.old) (whole_pass self.new) }
     {
         match drop_of(call) {
@@ -99,8 +100,7 @@ impl Daemon {
 
     // Ends a ticket at once.
     fn drop_ticket(&mut self, alloc: Global, conn: u32, ticket: u64) -> Turned
-        requires may { MayAsk (charter self.old) conn self.old.stored.steps.items (Some (calls.Call.Drop ticket)) }
-        requires built { IsTrue (is_built (calls.Call.Drop ticket)) }
+        requires { MayAsk (charter self.old) conn (history_of self.old.stored.journal) (Some (calls.Call.Drop ticket)) }
         ensures { (handed : ℕ) → Turn conn handed (Some (calls.Call.Drop ticket)) result (whole_pass self.old) (whole_pass self.new) }
     {
         let moment = self.stored.machine.now();
@@ -112,8 +112,7 @@ impl Daemon {
 
     // Makes what is due, and then the call, which is no drop.
     fn ask(&mut self, alloc: Global, conn: u32, handed: u64, call: Option<&Call>) -> Turned
-        requires may { MayAsk (charter self.old) conn self.old.stored.steps.items (option_map (λ c. c.now) call) }
-        requires built { AreBuilt (option_map (λ c. c.now) call) }
+        requires may { MayAsk (charter self.old) conn (history_of self.old.stored.journal) (option_map (λ c. c.now) call) }
         requires kind { drop_of (option_map (λ c. c.now) call) ≡ None }
         ensures { Turn conn handed (option_map (λ c. c.now) call.entry) result (whole_pass self.old) (whole_pass self.new) }
     {
@@ -130,12 +129,11 @@ impl Daemon {
     // Makes the call behind all that is due by its moment.
     fn make(&mut self, alloc: Global, conn: u32, moment: u64, call: &Call) -> Turned
         requires sound { IsSound call.now }
-        requires built { IsTrue (is_built call.now) }
         requires kind { IsFalse (is_drop call.now) }
         requires holds { HoldsTicket self.old.stored.machine.memory.state conn call.now }
         requires at { IsClear self.old.stored.machine.memory.state moment }
         ensures charter { charter self.new ≡ charter self.old }
-        ensures ends { Ends (charter self.old) self.old.stored.machine.memory.state conn moment call.now result self.old.stored.steps.items self.new.stored.steps.items }
+        ensures ends { Ends (charter self.old) self.old.stored.machine.memory.state conn moment call.now result (history_of self.old.stored.journal) (history_of self.new.stored.journal) }
     {
         if !has_room(&self.stored.machine, self.greatest, call) {
             return Turned::JournalFull;

@@ -1,8 +1,9 @@
 // The steps that are due.
-ghost use Rattle.std.specs.Prelude.{◌≡◌, ◌+◌, ◌≤◌, false, length, vec_capacity, vec_len, OnOk};
+ghost use Rattle.std.specs.Prelude.{◌≡◌, ◌≤◌, false, OnOk};
 ghost use Rattle.machine_model.specs.History.{acts_by, latest};
+ghost use Rattle.daemon_core.specs.Keeping.{history_of};
 ghost use Rattle.daemon_core.specs.Storing.{AddsDues};
-ghost use Rattle.daemon_core.specs.Telling.{IsToldBySome, KeepsTold};
+ghost use Rattle.daemon_core.specs.Telling.{HasEnds, IsToldBySome, KeepsTold};
 
 use crate::room::has_steps;
 use crate::stored::Stored;
@@ -22,9 +23,10 @@ impl Stored {
     pub fn run_due(&mut self, alloc: Global, moment: u64) -> Result<(), NoMemory>
         requires until { moment ≤ latest self.old.machine.memory.state }
         requires told { IsToldBySome self.old }
-        requires ends { vec_len self.old.steps + length self.old.machine.memory.state.tickets ≤ vec_capacity self.old.steps }
-        ensures made { AddsDues moment self.old.machine.memory.state self.new.machine.memory.state self.old.steps.items self.new.steps.items }
-        ensures ends { vec_len self.new.steps + length self.new.machine.memory.state.tickets ≤ vec_capacity self.new.steps }
+        requires ends { HasEnds self.old }
+        ensures made { AddsDues moment self.old.machine.memory.state self.new.machine.memory.state
+            (history_of self.old.journal) (history_of self.new.journal) }
+        ensures ends { HasEnds self.new }
         ensures told { KeepsTold self.old self.new }
         ensures all { OnOk result (acts_by self.new.machine.memory.state moment ≡ false) }
     {

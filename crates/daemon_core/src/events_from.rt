@@ -1,6 +1,7 @@
 // A part of a stream of events.
 ghost use Rattle.std.specs.Prelude.{◌≡◌, ◌+◌, ◌<◌, ◌≤◌, ◌^◌, ◌&&◌, length};
 ghost use Rattle.machine_model.specs.History.{events_of};
+ghost use Rattle.daemon_core.specs.Keeping.{history_of};
 ghost use Rattle.daemon_core.specs.EventTurns.{EventsSay, EventTurn, IsPartFrom, comes_to, is_past};
 ghost use Rattle.daemon_core.specs.Passing.{charter, whole_pass};
 
@@ -57,8 +58,8 @@ impl Daemon {
         until: Option<u64>,
         part: RingPart<'_>,
     ) -> Part
-        requires { IsPartFrom (charter self.now) self.now.stored.steps.items number part }
-        ensures { EventsSay (charter self.now) self.now.stored.steps.items handed filter.now until number result
+        requires { IsPartFrom (charter self.now) (history_of self.now.stored.journal) number part }
+        ensures { EventsSay (charter self.now) (history_of self.now.stored.journal) handed filter.now until number result
             out.old.items out.new.items }
     {
         let mut part = part;
@@ -85,8 +86,8 @@ impl Daemon {
         filter: &Filter,
         until: Option<u64>,
     ) -> Part
-        requires { number ≤ length (events_of (charter self.now) self.now.stored.steps.items) }
-        ensures { EventsSay (charter self.now) self.now.stored.steps.items handed filter.now until number result
+        requires { number ≤ length (events_of (charter self.now) (history_of self.now.stored.journal)) }
+        ensures { EventsSay (charter self.now) (history_of self.now.stored.journal) handed filter.now until number result
             out.old.items out.new.items }
     {
         match self.stored.ring.from(number) {
@@ -113,7 +114,7 @@ impl Daemon {
         filter: &Filter,
         until: Option<u64>,
     ) -> Part
-        requires { number ≤ length (events_of (charter self.old) self.old.stored.steps.items) }
+        requires { number ≤ length (events_of (charter self.old) (history_of self.old.stored.journal)) }
         ensures { EventTurn conn handed filter.now until number result out.old.items out.new.items
             (whole_pass self.old) (whole_pass self.new) }
     {

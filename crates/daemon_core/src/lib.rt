@@ -3,13 +3,16 @@
 
 mod alone;
 mod append;
+mod counts;
 mod daemon;
 mod due;
 mod events_from;
 mod frames;
+mod journal_from;
 mod lines;
 mod log_from;
 mod moment;
+mod pairing;
 mod ready;
 mod room;
 mod stored;
@@ -19,4 +22,5 @@ mod turning;
 pub use alone::Alone;
 pub use daemon::Daemon;
 pub use moment::GREATEST_MOMENT;
+pub use pairing::{Pairs, input_of};
 pub use turning::Turns;

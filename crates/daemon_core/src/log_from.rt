@@ -1,5 +1,6 @@
 // A part of a log's stream.
 ghost use Rattle.machine_model.specs.History.{state_after};
+ghost use Rattle.daemon_core.specs.Keeping.{history_of};
 ghost use Rattle.daemon_core.specs.LogTurns.{LogSays, LogTurn};
 ghost use Rattle.daemon_core.specs.Passing.{charter, whole_pass};
 
@@ -13,7 +14,7 @@ use std::alloc::Global;
 impl Daemon {
     // What the log tells now.
     fn read_log(&self, spec: &LogSpec, place: u64, out: &mut Vec<u8>) -> Part
-        ensures { LogSays (state_after (charter self.now) self.now.stored.steps.items) spec.now place result
+        ensures { LogSays (state_after (charter self.now) (history_of self.now.stored.journal)) spec.now place result
             out.old.items out.new.items }
     {
         match self.stored.machine.log_part(spec, place) {

@@ -17,12 +17,14 @@ pub fn drop_of(call: Option<&Call>) -> Option<u64>
 }
 
 /// Whether the call can be made at the moment, where no step acts any more: a take waits for its
-/// ticket, and for all that is due.
+/// ticket, and for all that is due; a feed waits for its run, and for room.
 pub fn is_open(machine: &Machine, moment: u64, call: &Call) -> bool
     ensures { result ≡ is_open machine.now.memory.state moment call.now }
 {
     match call {
         Call::Take { ticket } => machine.is_ready(*ticket) && !machine.is_due(moment),
+        Call::Feed { owner, run, bytes } => machine.is_feed_ready(*owner, *run, bytes),
+        Call::FeedEnd { owner, run } => machine.is_feed_end_ready(*owner, *run),
         _ => true,
     }
 }

@@ -4,8 +4,8 @@ ghost use Rattle.std.specs.Option.{option_map};
 ghost use Rattle.machine_model.specs.History.{IsLegal, events_of};
 ghost use Rattle.session_model.specs.Pass.{PassView, IsNumber, HasItsCalls};
 ghost use Rattle.session_model.specs.Turning.{MayAsk, Turn};
-ghost use Rattle.call_bounds.specs.Built.{AreBuilt};
 ghost use Rattle.daemon_core.specs.EventTurns.{EventTurn};
+ghost use Rattle.daemon_core.specs.JournalTurns.{JournalTurn};
 ghost use Rattle.daemon_core.specs.LogTurns.{LogTurn};
 
 use engine_text::{Call, Filter, LogSpec};
@@ -21,7 +21,6 @@ pub trait Turns: Sized {
     fn turn(&mut self, alloc: Global, conn: u32, handed: u64, call: Option<&Call>) -> Turned
         requires number { IsNumber (pass self.old).number conn }
         requires may { MayAsk (pass self.old).charter conn (pass self.old).seen (option_map (λ c. c.now) call) }
-        requires built { AreBuilt (option_map (λ c. c.now) call) }
         ensures { Turn conn handed (option_map (λ c. c.now) call.entry) result (pass self.old) (pass self.new) };
 
     /// A part of a log's stream from a place on, behind all that is due by the moment that counts of
@@ -54,6 +53,12 @@ pub trait Turns: Sized {
         requires number { IsNumber (pass self.old).number conn }
         requires counted { number ≤ length (events_of (pass self.old).charter (pass self.old).seen) }
         ensures { EventTurn conn handed filter.now until number result out.old.items out.new.items (pass self.old) (pass self.new) };
+
+    /// A part of the journal, as the history stands: the line of the entry of that number, counted from 0, is
+    /// appended. No step is made, and no moment counts. At every other answer `out` is as before.
+    fn journal_from(&mut self, alloc: Global, conn: u32, number: u64, out: &mut Vec<u8>) -> Part
+        requires number { IsNumber (pass self.old).number conn }
+        ensures { JournalTurn conn number result out.old.items out.new.items (pass self.old) (pass self.new) };
 
     /// What was seen is legal.
     ghost sound: { (t : Self) → IsLegal (pass t).charter (pass t).seen };

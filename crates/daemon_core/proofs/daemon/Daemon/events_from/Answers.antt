@@ -1,6 +1,7 @@
 use Rattle.std.proofs.Common.{◌≤◌, ◌++◌, ◌∙◌, append_assoc, length, refl, subst, sym}
 use Rattle.machine_model.specs.History.{events_of}
 use Rattle.session_model.specs.declared.turned.Part.TheVariants as P
+use Rattle.daemon_core.specs.Keeping.{history_of}
 use Rattle.daemon_core.specs.EventTurns.{EventsSay}
 use Rattle.daemon_core.specs.Passing.{charter, whole_pass}
 use Rattle.daemon_core.proofs.EventLemmas.{counted_on}
@@ -12,9 +13,9 @@ read_events-requires c =
     let d = c.args.self.now in
     let n = c.turn.new.self in
     let turns = c.in-Nothing.ensures.turns in
-    subst (λ ch. c.args.number ≤ length (events_of ch n.stored.steps.items)) (sym turns.stays.charter)
-    (counted_on (charter d) d.stored.steps.items n.stored.steps.items (turns.others ++ turns.own) c.args.number c.requires
-    (turns.seen ∙ append_assoc d.stored.steps.items turns.others turns.own))
+    subst (λ ch. c.args.number ≤ length (events_of ch (history_of n.stored.journal))) (sym turns.stays.charter)
+    (counted_on (charter d) (history_of d.stored.journal) (history_of n.stored.journal) (turns.others ++ turns.own) c.args.number c.requires
+    (turns.seen ∙ append_assoc (history_of d.stored.journal) turns.others turns.own))
 
 pub returns-in-Nothing : goal.returns-in-Nothing
 returns-in-Nothing c =

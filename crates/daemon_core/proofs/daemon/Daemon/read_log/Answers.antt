@@ -1,6 +1,7 @@
 use Rattle.std.proofs.Common.{◌+◌, subst}
 use Rattle.machine_model.specs.State.{State}
 use Rattle.session_model.specs.declared.turned.Part.TheVariants as P
+use Rattle.daemon_core.specs.Keeping.{history_of}
 use Rattle.daemon_core.specs.LogTurns.{LogSays}
 use Rattle.daemon_core.specs.Passing.{charter}
 use Rattle.daemon_core.proofs.DaemonLemmas.{stands}
@@ -10,7 +11,7 @@ use Rattle.daemon_core.proofs.daemon.Daemon.read_log.Goals as goal
 pub append_records-requires-clause-timed : goal.append_records-requires-clause-timed
 append_records-requires-clause-timed c =
     let d = c.args.self.now in
-    timed_left (charter d) d.stored.steps.items d.stored.machine.memory.state c.args.spec.now c.args.place c.in-More.records.now d.legal (stands d).is
+    timed_left (charter d) (history_of d.stored.journal) d.stored.machine.memory.state c.args.spec.now c.args.place c.in-More.records.now d.legal (stands d).is
     c.in-More.ensures.1
 
 pub returns-in-Ok : goal.returns-in-Ok

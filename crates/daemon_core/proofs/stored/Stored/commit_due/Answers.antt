@@ -37,8 +37,8 @@ returns c =
     let is : n.memory.state ≡ after_step s Step.Due =
     stepped (due_step m.memory.state) m n c.commit_due.ensures ∙ ap (λ (y : State). after_step y Step.Due) c.in_ok-prepared.ensures.state in
     record {
-      steps = refl;
-      made = played c.args.self.now (record { machine = n; steps = c.args.self.now.steps; ring = c.keep_all.new.ring }) Step.Due
+      journal = refl;
+      made = played c.args.self.now (record { machine = n; journal = c.args.self.now.journal; ring = c.keep_all.new.ring }) Step.Due
           c.in_ok-lines.lines.items is are c.keep_all.ensures;
       state = tt;
       ring = tt;

@@ -1,37 +1,31 @@
-use Rattle.std.proofs.Common.{◌≡◌, ◌∙◌, ◌+◌, ◌≤◌, ℕ, [], ◌∷◌, ◌++◌, refl, sym, ap, subst, length, arith}
-use Rattle.std.specs.Prelude.{vec_capacity, vec_len}
+use Rattle.std.proofs.Common.{◌≡◌, ◌∙◌, ◌+◌, [], ◌∷◌, ◌++◌, refl, ap, length, arith}
 use Rattle.engine_text.specs.declared.step.Step.{Step}
+use Rattle.history_replay.specs.Kept.{Kept}
 use Rattle.machine_model.specs.State.{State}
-use Rattle.container_machine.specs.Parts.{MachineParts}
 use Rattle.machine_model.specs.Due.{least_due}
-use Rattle.machine_model.specs.History.{IsLawful, after_step, latest}
+use Rattle.machine_model.specs.History.{after_step, latest}
+use Rattle.daemon_core.specs.Keeping.{history_of}
 use Rattle.daemon_core.specs.declared.stored.Stored.{Stored}
 use Rattle.daemon_core.proofs.CountLemmas.{due_counted}
 use Rattle.daemon_core.proofs.DueLemmas.{due_later}
-use Rattle.daemon_core.proofs.TellLemmas.{told_by, told_more, told_on, told_still}
-use Rattle.daemon_core.proofs.TicketLemmas.{due_placed}
+use Rattle.daemon_core.proofs.KeepLemmas.{entries_due_more, history_due}
+use Rattle.daemon_core.proofs.TellLemmas.{few_told, told_more}
+use Rattle.daemon_core.proofs.TicketLemmas.{due_placed, few_due}
 use Rattle.daemon_core.proofs.stored.Stored.step_due.Goals as goal
 
-pub commit_due-requires-clause-lawful : goal.commit_due-requires-clause-lawful
-commit_due-requires-clause-lawful c =
-    subst (λ (m : MachineParts). IsLawful m.memory.state Step.Due) (sym c.reserve.ensures.machine) c.requires.lawful
-
-pub commit_due-requires-clause-told : goal.commit_due-requires-clause-told
-commit_due-requires-clause-told c =
+pub due-requires : goal.due-requires
+due-requires c =
     let d = c.args.self.now in
-    let d1 = c.reserve.new.self in
-    told_by d d1 (told_still d d1 c.reserve.ensures.machine c.reserve.ensures.steps c.reserve.ensures.ring) c.requires.told
+    few_told d c.commit_due.new.self.journal c.requires.told c.commit_due.ensures.journal (few_due d.machine.memory.state c.requires.lawful)
 
 pub returns-clause-made : goal.returns-clause-made
 returns-clause-made c =
     let s : State = c.args.self.now.machine.memory.state in
     let n = c.commit_due.new.self in
-    let reserved : c.reserve.new.self.machine.memory.state ≡ s = ap (λ (m : MachineParts). m.memory.state) c.reserve.ensures.machine in
-    let is : n.machine.memory.state ≡ after_step s Step.Due =
-    c.in_ok-commit_due.ensures.made.state ∙ ap (λ (y : State). after_step y Step.Due) reserved in
+    let is : n.machine.memory.state ≡ after_step s Step.Due = c.in_ok-commit_due.ensures.made.state in
     record {
       state = is;
-      steps_are = cc;
+      steps_are = history_due n.journal c.due.new.self c.due.ensures.entries c.due.ensures.since ∙ ap (λ j. history_of j ++ Step.Due ∷ []) c.commit_due.ensures.journal;
       later = due_later s n.machine.memory.state c.kept.ensures.state c.requires.lawful is;
       count = ap (λ (y : State). y.step_count) is ∙ due_counted s (latest s) (least_due s) c.requires.lawful.1;
     }
@@ -39,27 +33,23 @@ returns-clause-made c =
 -- the ends of the tickets have their places
 pub returns-clause-ends : goal.returns-clause-ends
 returns-clause-ends c =
-    let s : State = c.args.self.now.machine.memory.state in
-    let n = c.commit_due.new.self in
-    let reserved : c.reserve.new.self.machine.memory.state ≡ s = ap (λ (m : MachineParts). m.memory.state) c.reserve.ensures.machine in
-    let is : n.machine.memory.state ≡ after_step s Step.Due =
-    c.in_ok-commit_due.ensures.made.state ∙ ap (λ (y : State). after_step y Step.Due) reserved in
-    let len : ℕ = vec_len c.reserve.new.self.steps in
-    let cap : ℕ = vec_capacity c.reserve.new.self.steps in
-    let placed = due_placed s len cap (subst (λ (y : State). len + length y.tickets + 1 ≤ cap) reserved c.in_ok-reserve.ensures.room) in
-    let tickets : length n.machine.memory.state.tickets ≡ length (after_step s Step.Due).tickets = ap (λ (y : State). length y.tickets) is in
-    let pushed = c.push_reserved.ensures in
-    let same = c.commit_due.ensures.steps in
-    let as_long = ap vec_len same in
-    let as_wide = ap vec_capacity same in
-    omega (arith, placed.1, tickets, pushed.len, pushed.capacity, as_long, as_wide)
+    let d = c.args.self.now in
+    let s : State = d.machine.memory.state in
+    let placed = due_placed s (length d.journal.entries) d.journal.room c.requires.ends in
+    let tickets = ap (λ (y : State). length y.tickets) c.in_ok-commit_due.ensures.made.state in
+    let entries = ap length (c.due.ensures.entries ∙ ap (λ (j : Kept). j.entries) c.commit_due.ensures.journal) in
+    let room = c.due.ensures.room ∙ ap (λ (j : Kept). j.room) c.commit_due.ensures.journal in
+    omega (arith, placed, tickets, entries, room)
 
 pub returns-clause-told : goal.returns-clause-told
 returns-clause-told c =
     let d = c.args.self.now in
-    let d1 = c.reserve.new.self in
-    let d2 = c.commit_due.new.self in
-    let last : Stored = record { machine = d2.machine; steps = c.push_reserved.new.self; ring = d2.ring } in
-    let steps : last.steps.items ≡ d1.steps.items ++ Step.Due ∷ [] = cc in
-    told_on d d1 last (told_still d d1 c.reserve.ensures.machine c.reserve.ensures.steps c.reserve.ensures.ring)
-    (told_more d1 d2 last Step.Due c.in_ok-commit_due.ensures.made refl refl steps)
+    let n = c.commit_due.new.self in
+    let s : State = d.machine.memory.state in
+    let j' = c.due.new.self in
+    let last : Stored = record { machine = n.machine; journal = j'; ring = n.ring } in
+    let entries = c.due.ensures.entries ∙ ap (λ (j : Kept). j.entries) c.commit_due.ensures.journal in
+    let since = c.due.ensures.since ∙ ap (λ (j : Kept). j.since + 1) c.commit_due.ensures.journal in
+    told_more d n last Step.Due c.in_ok-commit_due.ensures.made refl refl (history_due d.journal j' entries since)
+    (λ ch told. entries_due_more ch d.journal j' entries since told.entries)
+    (due_counted s (latest s) (least_due s) c.requires.lawful.1)
