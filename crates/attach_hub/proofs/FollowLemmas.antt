@@ -1,69 +1,73 @@
 -- Following a stream goes on, and ends.
-use Rattle.std.proofs.Common.{◌≡◌, ◌≤◌, max, ℕ, List, [], ◌∷◌, ◌++◌, refl, sym, ◌∙◌, ap, subst, append_assoc, arith, Bool, Option, Some, None, Err}
+use Rattle.std.proofs.Common.{◌≡◌, ◌≤◌, max, ℕ, List, [], ◌∷◌, ◌++◌, refl, sym, ◌∙◌, ap, subst, append_assoc, arith, Bool, true, false, Err}
 use Rattle.std.specs.Prelude.{IsTrue}
 use Rattle.engine_ports.specs.Rose.{Rose}
-use Rattle.engine_ports.specs.Sink.{SinkView, SinkTook, Took, WriteSays}
+use Rattle.engine_ports.specs.Sink.{SinkView, SinkTook, WriteSays}
 use Rattle.engine_ports.specs.Clock.{ClockView, ClockHanded, ClockStood}
 use Rattle.engine_ports.specs.declared.ports.Failed.{Failed}
-use Rattle.engine_ports.proofs.PortLemmas.{sink_none, sink_on, rose_since}
+use Rattle.engine_ports.proofs.PortLemmas.{clock_none, sink_none, sink_on, rose_since}
 use Rattle.engine_text.specs.declared.reply.Reply.{Reply}
+use Rattle.engine_text.specs.declared.reply.Reply.TheVariants as reply
 use Rattle.engine_text.specs.declared.step.Step.{Step}
 use Rattle.machine_model.specs.State.{State}
-use Rattle.machine_model.specs.History.{Charter, state_from, HasNone, IsLegal}
+use Rattle.machine_model.specs.History.{Charter, Extends, HasNone, IsLegal, opening_state, own_calls, state_after, state_from}
 use Rattle.session_model.specs.declared.followed.Followed.TheVariants as F
 use Rattle.session_model.specs.declared.turned.Part.{Part}
 use Rattle.session_model.specs.declared.turned.Part.TheVariants as P
 use Rattle.session_model.specs.Moments.{greatest_of}
 use Rattle.session_model.specs.Pass.{PassView, IsNumber}
-use Rattle.session_model.proofs.HistoryLemmas.{dues_none, some_none}
+use Rattle.session_model.specs.Turning.{Turns}
+use Rattle.session_model.proofs.HistoryLemmas.{dues_none, extends_on, extends_same, some_none}
 use Rattle.session_model.proofs.DueLemmas.{dues_clock, some_clock}
-use Rattle.session_model.proofs.MomentLemmas.{greatest_append}
-use Rattle.session_model.proofs.TurnLemmas.{moves_on, turn_quiet, turn_rests}
+use Rattle.session_model.proofs.MomentLemmas.{greatest_append, moments_quiet}
+use Rattle.session_model.proofs.TurnLemmas.{clock_alone, moves_on, turn_quiet, turn_rests}
+use Rattle.daemon_core.specs.JournalTurns.{JournalSays}
 use Rattle.daemon_core.specs.PartTurns.{PartDues, PartTurn}
-use Rattle.attach_hub.specs.Following.{CanFollow, Follows, IsSent, written_of}
-use Rattle.attach_hub.specs.Streams.{PartOf, PartSays, StandsIn, first_of}
-use Rattle.attach_hub.proofs.WaitLemmas.{Rests, rests_same, rests_on, rests_pause}
+use Rattle.attach_hub.specs.Following.{CanFollow, FollowsFrom, IsSent, IsTimed, written_of}
+use Rattle.attach_hub.specs.Streams.{JournalPart, PartOf, PartSays, StandsIn, first_of}
+use Rattle.attach_hub.proofs.StandLemmas.{Stands, look_stands, stands_on, stands_pause, stands_same, turn_stands}
 use Rattle.attach_hub.proofs.PieceLemmas.{sent_more, sent_none}
-use Rattle.attach_hub.proofs.TellLemmas.{Told, told_first, told_later, told_more, told_broken, told_gone, told_whole, told_reached, told_stands, ends_whole, ends_stopped, ends_failed, ends_short, reached_not}
+use Rattle.attach_hub.proofs.JournalTellLemmas.{JournalSaid}
+use Rattle.attach_hub.proofs.TellLemmas.{Said, SaidAt, Told, said_short, told_first, told_later, told_more, told_broken, told_either, told_gone, told_whole, told_reached, told_stands, told_timed, timed_same, ends_whole, ends_stopped, ends_failed, ends_short, reached_not}
 
 -- ---- where following stands
 
 -- the body so far was written, and is what was told of the stream to that place
-pub record Following (k : ℕ) (reply : Reply) (chunked : Bool) (p q : PassView) (u u' : SinkView) (v v' : ClockView) (place : ℕ) : Type 0 where
-  pub rests : Rests k p q v v'
+pub record Following (base : List Step) (k : ℕ) (reply : Reply) (chunked : Bool) (p q : PassView) (u u' : SinkView) (v v' : ClockView) (place : ℕ) : Type 0 where
+  pub from : Extends base p.seen
+  pub stands : Stands k p q v v'
+  pub timed : IsTimed reply v v'
   pub body : List ℕ
   pub sent : List ℕ
   pub pieces : IsSent chunked body sent
   pub sink : SinkTook u sent u'
-  pub told : Told reply p.charter p.seen q.seen body place
+  pub told : Told reply p.charter base q.seen body place
 
-pub following : (k : ℕ) (reply : Reply) (chunked : Bool) (p : PassView) (u : SinkView) (v : ClockView) (first : ℕ) → first ≡ first_of reply
-    → CanFollow p.charter p.seen reply → Following k reply chunked p p u u v v first
-following k reply chunked p u v first is may = record {
-  rests = rests_same k p v;
+pub following : (base : List Step) (k : ℕ) (reply : Reply) (chunked : Bool) (p : PassView) (u : SinkView) (v : ClockView) (first : ℕ) → first ≡ first_of reply
+    → Extends base p.seen → CanFollow p.charter base reply → Following base k reply chunked p p u u v v first
+following base k reply chunked p u v first is from may = record {
+  from = from;
+  stands = stands_same k p v;
+  timed = timed_same reply v;
   body = [];
   sent = [];
   pieces = sent_none chunked;
   sink = sink_none u;
-  told = subst (Told reply p.charter p.seen p.seen []) (sym is) (told_first reply p.charter p.seen may);
-}
-
-pub paused : (k : ℕ) (reply : Reply) (chunked : Bool) (p q : PassView) (u u' : SinkView) (v v1 v2 : ClockView) (place : ℕ)
-    → Following k reply chunked p q u u' v v1 place → ClockStood v1 v2 → Following k reply chunked p q u u' v v2 place
-paused k reply chunked p q u u' v v1 v2 place f stood = record {
-  rests = rests_pause k p q v v1 v2 f.rests stood;
-  body = f.body;
-  sent = f.sent;
-  pieces = f.pieces;
-  sink = f.sink;
-  told = f.told;
+  told = subst (Told reply p.charter base p.seen []) (sym is)
+      (told_later reply p.charter base base p.seen [] (first_of reply) from (told_first reply p.charter base may));
 }
 
 -- a part may be asked from there
-pub asks_from : (k : ℕ) (reply : Reply) (chunked : Bool) (p q : PassView) (u u' : SinkView) (v v' : ClockView) (place : ℕ)
-    → Following k reply chunked p q u u' v v' place → StandsIn q.charter q.seen reply place
-asks_from k reply chunked p q u u' v v' place f =
-    subst (λ ch. StandsIn ch q.seen reply place) (sym f.rests.moves.stays.charter) (told_stands reply p.charter p.seen q.seen f.body place f.told)
+pub asks_from : (k : ℕ) (r : Reply) (chunked : Bool) (p q : PassView) (u u' : SinkView) (v v' : ClockView) (place : ℕ)
+    → StandsIn p.charter p.seen r (first_of r)
+    → ((base : List Step) → Extends base p.seen → CanFollow p.charter base r → Following base k r chunked p q u u' v v' place)
+    → StandsIn q.charter q.seen r place
+asks_from k (reply.EventStream first until filter) chunked p q u u' v v' place stands f =
+    let g = f p.seen (extends_same p.seen) stands in
+    subst (λ ch. StandsIn ch q.seen (reply.EventStream first until filter) place) (sym g.stands.moves.stays.charter) g.told.counted
+asks_from k (reply.LogStream spec) chunked p q u u' v v' place stands f = tt
+asks_from k (reply.JournalStream count) chunked p q u u' v v' place stands f = tt
+asks_from k r chunked p q u u' v v' place stands f = tt
 
 -- ---- a part is asked for
 
@@ -76,201 +80,270 @@ part_none k s u P.UpToDate own h = (dues_none k s u own h, dues_clock s u own h)
 part_none k s u P.Whole own h = (dues_none k s u own h, dues_clock s u own h)
 part_none k s u (P.Gone next first) own h = (dues_none k s u own h, dues_clock s u own h)
 
-unfoldable part_rests : (k handed : ℕ) (part : Part) (told : Charter → List Step → Type 0) (p q : PassView) (v w : ClockView)
-    → IsTrue p.pair → ClockHanded v (handed ∷ []) w → PartTurn k handed part told p q → Rests k p q v w
-part_rests k handed part told p q v w pair clock turn =
-    let none = part_none k _ _ part turn.turns.own turn.dues in
-    record {
-      moves = turn_rests k handed p q turn.turns v w pair none.0 none.1 clock;
-      quiet = turn_quiet k p q turn.turns pair none.0;
-    }
+unfoldable part_stands : (k handed : ℕ) (part : Part) (told : Charter → List Step → Type 0) (p q : PassView) (v w : ClockView)
+    → ClockHanded v (handed ∷ []) w → PartTurn k handed part told p q → Stands k p q v w
+part_stands k handed part told p q v w clock turn =
+    let none = part_none k _ _ part turn.turns.own turn.dues in turn_stands k handed p q turn.turns v w none.0 none.1 clock
 
 -- what a part of the stream finds, under the first pass's charter
-record Asked (k handed : ℕ) (reply : Reply) (chunked : Bool) (part : Part) (old new : List ℕ) (p q : PassView) (u u' : SinkView) (v v' : ClockView) (place : ℕ) : Type 0 where
-  now : Following k reply chunked p q u u' v v' place
-  legal : IsLegal p.charter q.seen
-  says : PartSays reply handed place part old new p.charter q.seen
-  late : handed ≤ greatest_of now.rests.moves.handed
+record Asked (base : List Step) (k : ℕ) (reply : Reply) (chunked : Bool) (part : Part) (old new : List ℕ) (p q : PassView) (u u' : SinkView) (v v' : ClockView) (place : ℕ) : Type 0 where
+  now : Following base k reply chunked p q u u' v v' place
+  said : Said reply place part old new now.stands.moves.handed p.charter q.seen
 
 -- the moment is the last that the clock handed
 late_on : (ms : List ℕ) (handed : ℕ) → handed ≤ greatest_of (ms ++ handed ∷ [])
 late_on ms handed = let e = greatest_append ms (handed ∷ []) in omega (arith, e)
 
-asked : (k handed : ℕ) (reply : Reply) (chunked : Bool) (part : Part) (old new : List ℕ) (p q q2 : PassView) (u u' : SinkView)
-    (v v1 v2 : ClockView) (place : ℕ) → IsTrue p.pair → Following k reply chunked p q u u' v v1 place
-    → ClockHanded v1 (handed ∷ []) v2 → PartOf k handed reply place part old new q q2
-    → Asked k handed reply chunked part old new p q2 u u' v v2 place
-unfolding part_rests rests_on moves_on turn_rests
-asked k handed reply chunked part old new p q q2 u u' v v1 v2 place pair f clock turn =
-    let stays = f.rests.moves.stays in
-    let rests = part_rests k handed part (PartSays reply handed place part old new) q q2 v1 v2 (stays.pair ∙ pair) clock turn in
+-- following goes on where the connection rests
+goes_on : (base : List Step) (k : ℕ) (reply : Reply) (chunked : Bool) (p q q2 : PassView) (u u' : SinkView) (v v1 v2 : ClockView) (place : ℕ)
+    → Following base k reply chunked p q u u' v v1 place → Stands k q q2 v1 v2 → IsTimed reply v v2
+    → Following base k reply chunked p q2 u u' v v2 place
+goes_on base k reply chunked p q q2 u u' v v1 v2 place f stands timed = record {
+  from = f.from;
+  stands = stands_on k p q q2 v v1 v2 f.stands stands;
+  timed = timed;
+  body = f.body;
+  sent = f.sent;
+  pieces = f.pieces;
+  sink = f.sink;
+  told = told_later reply p.charter base q.seen q2.seen f.body place stands.moves.extends f.told;
+}
+
+-- of a log and of events, at a moment of the clock
+asked_at : (base : List Step) (k handed : ℕ) (reply : Reply) (chunked : Bool) (part : Part) (old new : List ℕ) (p q q2 : PassView) (u u' : SinkView)
+    (v v1 v2 : ClockView) (place : ℕ) → Following base k reply chunked p q u u' v v1 place
+    → ClockHanded v1 (handed ∷ []) v2 → PartTurn k handed part (PartSays reply handed place part old new) q q2 → IsTimed reply v v2
+    → (now : Following base k reply chunked p q2 u u' v v2 place) × SaidAt reply place part old new now.stands.moves.handed p.charter q2.seen
+unfolding goes_on part_stands stands_on turn_stands moves_on
+asked_at base k handed reply chunked part old new p q q2 u u' v v1 v2 place f clock turn timed =
+    let stays = f.stands.moves.stays in
+    let stands = part_stands k handed part (PartSays reply handed place part old new) q q2 v1 v2 clock turn in (
+      goes_on base k reply chunked p q q2 u u' v v1 v2 place f stands timed,
+      record {
+        handed = handed;
+        says = subst (λ ch. PartSays reply handed place part old new ch q2.seen) stays.charter turn.says;
+        late = late_on f.stands.moves.handed handed;
+        legal = subst (λ ch. IsLegal ch q2.seen) (turn.turns.stays.charter ∙ stays.charter) turn.turns.legal;
+      },
+    )
+
+-- of the journal: behind its last line without a look
+asked_line : (base : List Step) (k count : ℕ) (chunked : Bool) (part : Part) (old new : List ℕ) (p q q2 : PassView) (u u' : SinkView)
+    (v v1 v2 : ClockView) (place : ℕ) → Following base k (reply.JournalStream count) chunked p q u u' v v1 place
+    → JournalPart k count place part old new q q2 → v2 ≡ v1
+    → Following base k (reply.JournalStream count) chunked p q2 u u' v v2 place × JournalSaid p.charter count q2.seen place part old new
+asked_line base k count chunked P.Whole old new p q q2 u u' v v1 v2 place f j still = (
+  subst (λ x. Following base k (reply.JournalStream count) chunked p x u u' v v2 place) (sym j.2)
+      (subst (λ w. Following base k (reply.JournalStream count) chunked p q u u' v w place) (sym still) f),
+  j.0,
+)
+asked_line base k count chunked part old new p q q2 u u' v v1 v2 place f j still =
+    let stays = f.stands.moves.stays in (
+      goes_on base k (reply.JournalStream count) chunked p q q2 u u' v v1 v2 place f
+          (look_stands k q q2 j.1.turns v1 v2 j.1.still still) (still ∙ f.timed),
+      (j.0, subst (λ ch. JournalSays ch q2.seen place part old new) stays.charter j.1.says),
+    )
+
+asked : (base : List Step) (k : ℕ) (reply : Reply) (chunked : Bool) (part : Part) (old new : List ℕ) (p q q2 : PassView) (u u' : SinkView)
+    (v v1 v2 : ClockView) (place : ℕ) → Following base k reply chunked p q u u' v v1 place
+    → PartOf k reply place part old new q q2 v1 v2 → Asked base k reply chunked part old new p q2 u u' v v2 place
+asked base k (reply.JournalStream count) chunked part old new p q q2 u u' v v1 v2 place f (turn, still) =
+    let a = asked_line base k count chunked part old new p q q2 u u' v v1 v2 place f turn still in
+    record { now = a.0; said = a.1 }
+asked base k (reply.LogStream spec) chunked part old new p q q2 u u' v v1 v2 place f (handed, clock, turn) =
+    let a = asked_at base k handed (reply.LogStream spec) chunked part old new p q q2 u u' v v1 v2 place f clock turn tt in
+    record { now = a.0; said = a.1 }
+asked base k (reply.EventStream first until filter) chunked part old new p q q2 u u' v v1 v2 place f (handed, clock, turn) =
+    let a = asked_at base k handed (reply.EventStream first until filter) chunked part old new p q q2 u u' v v1 v2 place f clock turn tt in
+    record { now = a.0; said = a.1 }
+asked base k r chunked part old new p q q2 u u' v v1 v2 place f turn = absurd f.told
+
+-- the number is the pass's
+line_number : (k count place : ℕ) (part : Part) (old new : List ℕ) (p q : PassView) → IsNumber p.number k → JournalPart k count place part old new p q
+    → IsNumber q.number k
+line_number k count place P.Whole old new p q is j = subst (λ (x : PassView). IsNumber x.number k) (sym j.2) is
+line_number k count place (P.More next) old new p q is j = subst (λ n. IsNumber n k) (sym j.1.turns.stays.number) is
+line_number k count place P.UpToDate old new p q is j = subst (λ n. IsNumber n k) (sym j.1.turns.stays.number) is
+line_number k count place (P.Gone next first) old new p q is j = subst (λ n. IsNumber n k) (sym j.1.turns.stays.number) is
+line_number k count place P.NoMemory old new p q is j = subst (λ n. IsNumber n k) (sym j.1.turns.stays.number) is
+
+pub part_number : (k : ℕ) (r : Reply) (place : ℕ) (part : Part) (old new : List ℕ) (p q : PassView) (v v' : ClockView) → IsNumber p.number k
+    → PartOf k r place part old new p q v v' → IsNumber q.number k
+part_number k (reply.JournalStream count) place part old new p q v v' is (turn, still) = line_number k count place part old new p q is turn
+part_number k (reply.LogStream spec) place part old new p q v v' is (handed, clock, turn) = subst (λ n. IsNumber n k) (sym turn.turns.stays.number) is
+part_number k (reply.EventStream first until filter) place part old new p q v v' is (handed, clock, turn) = subst (λ n. IsNumber n k) (sym turn.turns.stays.number) is
+part_number k (reply.Answer status body) place part old new p q v v' is (handed, clock, turn) = subst (λ n. IsNumber n k) (sym turn.turns.stays.number) is
+part_number k (reply.Begun ticket) place part old new p q v v' is (handed, clock, turn) = subst (λ n. IsNumber n k) (sym turn.turns.stays.number) is
+part_number k (reply.Fed taken) place part old new p q v v' is (handed, clock, turn) = subst (λ n. IsNumber n k) (sym turn.turns.stays.number) is
+part_number k reply.Dropped place part old new p q v v' is (handed, clock, turn) = subst (λ n. IsNumber n k) (sym turn.turns.stays.number) is
+
+-- up to date, it pauses
+pub paused : (base : List Step) (k : ℕ) (reply : Reply) (chunked : Bool) (old new : List ℕ) (p q q2 : PassView) (u u' : SinkView) (v v0 v1 v2 : ClockView) (place : ℕ)
+    → Following base k reply chunked p q u u' v v0 place → PartOf k reply place P.UpToDate old new q q2 v0 v1
+    → ClockStood v1 v2 → Following base k reply chunked p q2 u u' v v2 place
+paused base k reply chunked old new p q q2 u u' v v0 v1 v2 place f turn stood =
+    let a = asked base k reply chunked P.UpToDate old new p q q2 u u' v v0 v1 place f turn in
     record {
-      now = record {
-        rests = rests_on k p q q2 v v1 v2 f.rests rests;
-        body = f.body;
-        sent = f.sent;
-        pieces = f.pieces;
-        sink = f.sink;
-        told = told_later reply p.charter p.seen q.seen q2.seen f.body place rests.moves.extends f.told;
-      };
-      legal = subst (λ ch. IsLegal ch q2.seen) (turn.turns.stays.charter ∙ stays.charter) turn.turns.legal;
-      says = subst (λ ch. PartSays reply handed place part old new ch q2.seen) stays.charter turn.says;
-      late = late_on f.rests.moves.handed handed;
+      from = a.now.from;
+      stands = stands_pause k p q2 v v1 v2 a.now.stands stood;
+      timed = told_timed reply p.charter base q2.seen a.now.body old new a.now.stands.moves.handed place v v2 a.now.told a.said;
+      body = a.now.body;
+      sent = a.now.sent;
+      pieces = a.now.pieces;
+      sink = a.now.sink;
+      told = a.now.told;
     }
-
--- the follower is up to date, or memory was refused
-pub asked_on : (k handed : ℕ) (reply : Reply) (chunked : Bool) (part : Part) (old new : List ℕ) (p q q2 : PassView)
-    (u u' : SinkView) (v v1 v2 : ClockView) (place : ℕ) → IsTrue p.pair
-    → Following k reply chunked p q u u' v v1 place → ClockHanded v1 (handed ∷ []) v2 → PartOf k handed reply place part old new q q2
-    → Following k reply chunked p q2 u u' v v2 place
-asked_on k handed reply chunked part old new p q q2 u u' v v1 v2 place pair f clock turn =
-    (asked k handed reply chunked part old new p q q2 u u' v v1 v2 place pair f clock turn).now
-
--- of which the number is the pass's
-pub asked_number : (k handed : ℕ) (reply : Reply) (place : ℕ) (part : Part) (old new : List ℕ) (p q : PassView) → IsNumber p.number k
-    → PartOf k handed reply place part old new p q → IsNumber q.number k
-asked_number k handed reply place part old new p q is turn = subst (λ n. IsNumber n k) (sym turn.turns.stays.number) is
 
 -- ---- more was told
 
-pub more : (k handed next : ℕ) (reply : Reply) (chunked : Bool) (old new : List ℕ) (p q q2 : PassView) (u u1 u2 : SinkView)
-    (v v1 v2 : ClockView) (place : ℕ) → IsTrue p.pair → Following k reply chunked p q u u1 v v1 place
-    → ClockHanded v1 (handed ∷ []) v2 → PartOf k handed reply place (P.More next) old new q q2 → old ≡ []
-    → SinkTook u1 (written_of chunked new) u2 → Following k reply chunked p q2 u u2 v v2 next
-unfolding asked
-more k handed next reply chunked old new p q q2 u u1 u2 v v1 v2 place pair f clock turn empty took =
-    let a = asked k handed reply chunked (P.More next) old new p q q2 u u1 v v1 v2 place pair f clock turn in
+pub more : (base : List Step) (k next : ℕ) (reply : Reply) (chunked : Bool) (old new : List ℕ) (p q q2 : PassView) (u u1 u2 : SinkView)
+    (v v1 v2 : ClockView) (place : ℕ) → Following base k reply chunked p q u u1 v v1 place
+    → PartOf k reply place (P.More next) old new q q2 v1 v2 → old ≡ []
+    → SinkTook u1 (written_of chunked new) u2 → Following base k reply chunked p q2 u u2 v v2 next
+more base k next reply chunked old new p q q2 u u1 u2 v v1 v2 place f turn empty took =
+    let a = asked base k reply chunked (P.More next) old new p q q2 u u1 v v1 v2 place f turn in
     record {
-      rests = a.now.rests;
-      body = f.body ++ new;
-      sent = f.sent ++ written_of chunked new;
-      pieces = sent_more chunked f.body f.sent new f.pieces;
-      sink = sink_on u u1 u2 f.sent (written_of chunked new) f.sink took;
-      told = told_more reply p.charter p.seen q2.seen handed f.body old new place next a.now.rests.moves.extends a.legal a.now.told a.says empty;
+      from = a.now.from;
+      stands = a.now.stands;
+      timed = a.now.timed;
+      body = a.now.body ++ new;
+      sent = a.now.sent ++ written_of chunked new;
+      pieces = sent_more chunked a.now.body a.now.sent new a.now.pieces;
+      sink = sink_on u u1 u2 a.now.sent (written_of chunked new) a.now.sink took;
+      told = told_more reply p.charter base q2.seen a.now.body old new a.now.stands.moves.handed place next (extends_on base p.seen q2.seen a.now.from a.now.stands.moves.extends) a.now.told a.said empty;
     }
 
 -- ---- a stream that isn't whole
 
-pub stopped : (k : ℕ) (reply : Reply) (chunked : Bool) (p q : PassView) (u u' : SinkView) (v v1 v2 : ClockView) (place : ℕ)
-    → Following k reply chunked p q u u' v v1 place → ClockStood v1 v2 → Rose v1.stops v2.stops
-    → Follows k reply chunked F.Stopped p q u u' v v2
-stopped k reply chunked p q u u' v v1 v2 place f stood rose =
-    let rests = rests_pause k p q v v1 v2 f.rests stood in
+pub stopped : (base : List Step) (k : ℕ) (reply : Reply) (chunked : Bool) (old new : List ℕ) (p q q2 : PassView) (u u' : SinkView) (v v0 v1 v2 : ClockView) (place : ℕ)
+    → Following base k reply chunked p q u u' v v0 place → PartOf k reply place P.UpToDate old new q q2 v0 v1
+    → ClockStood v1 v2 → Rose v1.stops v2.stops → FollowsFrom base k reply chunked F.Stopped p q2 u u' v v2
+stopped base k reply chunked old new p q q2 u u' v v0 v1 v2 place f turn stood rose =
+    let a = asked base k reply chunked P.UpToDate old new p q q2 u u' v v0 v1 place f turn in
+    let stands = stands_pause k p q2 v v1 v2 a.now.stands stood in
     record {
-      moves = rests.moves;
-      quiet = f.rests.quiet;
-      reached = reached_not reply rests.moves.handed;
-      body = f.body;
-      sent = f.sent;
-      part = f.sent;
-      tells = told_broken reply p.charter p.seen q.seen f.body place f.told;
-      ends = ends_stopped reply p.charter f.body p.seen q.seen;
-      pieces = f.pieces;
+      moves = stands.moves;
+      still = a.now.stands.still;
+      quiet = a.now.stands.quiet;
+      timed = told_timed reply p.charter base q2.seen a.now.body old new a.now.stands.moves.handed place v v2 a.now.told a.said;
+      reached = reached_not reply stands.moves.handed;
+      whole = false;
+      by_end = refl;
+      body = a.now.body;
+      sent = a.now.sent;
+      part = a.now.sent;
+      tells = told_broken reply p.charter base q2.seen a.now.body place
+          (said_short reply p.charter q2.seen P.UpToDate old new a.now.stands.moves.handed place tt a.said) a.now.told;
+      ends = ends_stopped reply p.charter a.now.body base q2.seen;
+      pieces = a.now.pieces;
       taken = refl;
-      sink = f.sink;
-      cause = rose_since v.stops v1.stops v2.stops f.rests.moves.clock.stops rose;
+      sink = a.now.sink;
+      cause = rose_since v.stops v1.stops v2.stops a.now.stands.moves.clock.stops rose;
     }
 
-pub short : (k : ℕ) (reply : Reply) (chunked : Bool) (p q : PassView) (u u' : SinkView) (v v' : ClockView) (place : ℕ)
-    → Following k reply chunked p q u u' v v' place → Follows k reply chunked F.NoMemory p q u u' v v'
-short k reply chunked p q u u' v v' place f = record {
-  moves = f.rests.moves;
-  quiet = f.rests.quiet;
-  reached = reached_not reply f.rests.moves.handed;
-  body = f.body;
-  sent = f.sent;
-  part = f.sent;
-  tells = told_broken reply p.charter p.seen q.seen f.body place f.told;
-  ends = ends_short reply p.charter f.body p.seen q.seen;
-  pieces = f.pieces;
-  taken = refl;
-  sink = f.sink;
-  cause = tt;
-}
+pub short : (base : List Step) (k : ℕ) (reply : Reply) (chunked : Bool) (old new : List ℕ) (p q q2 : PassView) (u u' : SinkView) (v v1 v2 : ClockView) (place : ℕ)
+    → Following base k reply chunked p q u u' v v1 place → PartOf k reply place P.NoMemory old new q q2 v1 v2
+    → FollowsFrom base k reply chunked F.NoMemory p q2 u u' v v2
+short base k reply chunked old new p q q2 u u' v v1 v2 place f turn =
+    let a = asked base k reply chunked P.NoMemory old new p q q2 u u' v v1 v2 place f turn in
+    record {
+      moves = a.now.stands.moves;
+      still = a.now.stands.still;
+      quiet = a.now.stands.quiet;
+      timed = a.now.timed;
+      reached = reached_not reply a.now.stands.moves.handed;
+      whole = false;
+      by_end = refl;
+      body = a.now.body;
+      sent = a.now.sent;
+      part = a.now.sent;
+      tells = told_broken reply p.charter base q2.seen a.now.body place
+          (said_short reply p.charter q2.seen P.NoMemory old new a.now.stands.moves.handed place tt a.said) a.now.told;
+      ends = ends_short reply p.charter a.now.body base q2.seen;
+      pieces = a.now.pieces;
+      taken = refl;
+      sink = a.now.sink;
+      cause = tt;
+    }
 
 -- what comes next is no longer kept
-pub gone : (k handed next first : ℕ) (reply : Reply) (chunked : Bool) (old new : List ℕ) (p q q2 : PassView) (u u' : SinkView)
-    (v v1 v2 : ClockView) (place : ℕ) → IsTrue p.pair → Following k reply chunked p q u u' v v1 place
-    → ClockHanded v1 (handed ∷ []) v2 → PartOf k handed reply place (P.Gone next first) old new q q2
-    → Follows k reply chunked (F.Lagged next first) p q2 u u' v v2
-unfolding asked
-gone k handed next first reply chunked old new p q q2 u u' v v1 v2 place pair f clock turn =
-    let a = asked k handed reply chunked (P.Gone next first) old new p q q2 u u' v v1 v2 place pair f clock turn in
+pub gone : (base : List Step) (k next first : ℕ) (reply : Reply) (chunked : Bool) (old new : List ℕ) (p q q2 : PassView) (u u' : SinkView)
+    (v v1 v2 : ClockView) (place : ℕ) → Following base k reply chunked p q u u' v v1 place
+    → PartOf k reply place (P.Gone next first) old new q q2 v1 v2 → FollowsFrom base k reply chunked (F.Lagged next first) p q2 u u' v v2
+gone base k next first reply chunked old new p q q2 u u' v v1 v2 place f turn =
+    let a = asked base k reply chunked (P.Gone next first) old new p q q2 u u' v v1 v2 place f turn in
     record {
-      moves = a.now.rests.moves;
-      quiet = a.now.rests.quiet;
-      reached = reached_not reply a.now.rests.moves.handed;
-      body = f.body;
-      sent = f.sent;
-      part = f.sent;
-      tells = told_broken reply p.charter p.seen q2.seen f.body place a.now.told;
-      ends = told_gone reply p.charter p.seen q2.seen handed f.body old new place next first a.now.rests.moves.extends a.now.told a.says;
-      pieces = f.pieces;
+      moves = a.now.stands.moves;
+      still = a.now.stands.still;
+      quiet = a.now.stands.quiet;
+      timed = a.now.timed;
+      reached = reached_not reply a.now.stands.moves.handed;
+      whole = false;
+      by_end = refl;
+      body = a.now.body;
+      sent = a.now.sent;
+      part = a.now.sent;
+      tells = told_broken reply p.charter base q2.seen a.now.body place
+          (said_short reply p.charter q2.seen (P.Gone next first) old new a.now.stands.moves.handed place tt a.said) a.now.told;
+      ends = told_gone reply p.charter base q2.seen a.now.body old new a.now.stands.moves.handed place next first (extends_on base p.seen q2.seen a.now.from a.now.stands.moves.extends) a.now.told a.said;
+      pieces = a.now.pieces;
       taken = refl;
-      sink = f.sink;
+      sink = a.now.sink;
       cause = tt;
     }
 
 -- ---- a write failed
 
--- a sink that takes it all
-abbrev told_on_sink : Option (List ℕ) → List ℕ → Option (List ℕ)
-told_on_sink None bytes = None
-told_on_sink (Some before) bytes = Some (before ++ bytes)
-
-took_more : (o : Option (List ℕ)) (bytes : List ℕ) → Took o bytes (told_on_sink o bytes)
-took_more None bytes = tt
-took_more (Some before) bytes = refl
-
-abbrev all_taken : SinkView → List ℕ → SinkView
-all_taken u bytes = record { wrote = told_on_sink u.wrote bytes; faults = u.faults }
-
-took_all : (u : SinkView) (bytes : List ℕ) → SinkTook u bytes (all_taken u bytes)
-took_all u bytes = record { took = took_more u.wrote bytes; faults = omega arith }
-
-pub failed : (k handed next : ℕ) (reply : Reply) (chunked : Bool) (old new : List ℕ) (x : Failed) (p q q2 : PassView) (u u1 u2 : SinkView)
-    (v v1 v2 : ClockView) (place : ℕ) → IsTrue p.pair → Following k reply chunked p q u u1 v v1 place
-    → ClockHanded v1 (handed ∷ []) v2 → PartOf k handed reply place (P.More next) old new q q2 → old ≡ []
-    → WriteSays (Err x) (written_of chunked new) u1 u2 → Follows k reply chunked F.WriteFault p q2 u u2 v v2
-unfolding more asked
-failed k handed next reply chunked old new x p q q2 u u1 u2 v v1 v2 place pair f clock turn empty (part, (cut, front), took, rose) =
+pub failed : (base : List Step) (k next : ℕ) (reply : Reply) (chunked : Bool) (old new : List ℕ) (x : Failed) (p q q2 : PassView) (u u1 u2 : SinkView)
+    (v v1 v2 : ClockView) (place : ℕ) → Following base k reply chunked p q u u1 v v1 place
+    → PartOf k reply place (P.More next) old new q q2 v1 v2 → old ≡ []
+    → WriteSays (Err x) (written_of chunked new) u1 u2 → FollowsFrom base k reply chunked F.WriteFault p q2 u u2 v v2
+failed base k next reply chunked old new x p q q2 u u1 u2 v v1 v2 place f turn empty (part, (cut, front), took, rose) =
     let bytes : List ℕ = written_of chunked new in
-    let all = more k handed next reply chunked old new p q q2 u u1 (all_taken u1 bytes) v v1 v2 place pair f clock turn empty (took_all u1 bytes) in
+    let a = asked base k reply chunked (P.More next) old new p q q2 u u1 v v1 v2 place f turn in
+    let told = told_more reply p.charter base q2.seen a.now.body old new a.now.stands.moves.handed place next (extends_on base p.seen q2.seen a.now.from a.now.stands.moves.extends) a.now.told a.said empty in
+    let either = told_either reply p.charter base q2.seen (a.now.body ++ new) next told in
     record {
-      moves = all.rests.moves;
-      quiet = all.rests.quiet;
-      reached = reached_not reply all.rests.moves.handed;
-      body = all.body;
-      sent = all.sent;
-      part = f.sent ++ part;
-      tells = told_broken reply p.charter p.seen q2.seen all.body next all.told;
-      ends = ends_failed reply p.charter all.body p.seen q2.seen;
-      pieces = all.pieces;
-      taken = (cut, append_assoc f.sent part cut ∙ ap (λ y. f.sent ++ y) front);
-      sink = sink_on u u1 u2 f.sent part f.sink took;
-      cause = rose_since u.faults u1.faults u2.faults f.sink.faults rose;
+      moves = a.now.stands.moves;
+      still = a.now.stands.still;
+      quiet = a.now.stands.quiet;
+      timed = a.now.timed;
+      whole = either.whole;
+      by_end = tt;
+      reached = either.reached a.now.stands.moves.handed;
+      body = a.now.body ++ new;
+      sent = a.now.sent ++ bytes;
+      part = a.now.sent ++ part;
+      tells = either.tells;
+      ends = ends_failed reply p.charter (a.now.body ++ new) base q2.seen;
+      pieces = sent_more chunked a.now.body a.now.sent new a.now.pieces;
+      taken = (cut, append_assoc a.now.sent part cut ∙ ap (λ y. a.now.sent ++ y) front);
+      sink = sink_on u u1 u2 a.now.sent part a.now.sink took;
+      cause = rose_since u.faults u1.faults u2.faults a.now.sink.faults rose;
     }
 
 -- ---- a stream that is whole
 
-pub whole : (k handed : ℕ) (reply : Reply) (chunked : Bool) (old new : List ℕ) (p q q2 : PassView) (u u' : SinkView)
-    (v v1 v2 : ClockView) (place : ℕ) → IsTrue p.pair → CanFollow p.charter p.seen reply → Following k reply chunked p q u u' v v1 place
-    → ClockHanded v1 (handed ∷ []) v2 → PartOf k handed reply place P.Whole old new q q2
-    → Follows k reply chunked F.Whole p q2 u u' v v2
-unfolding asked
-whole k handed reply chunked old new p q q2 u u' v v1 v2 place pair may f clock turn =
-    let a = asked k handed reply chunked P.Whole old new p q q2 u u' v v1 v2 place pair f clock turn in
+pub whole : (base : List Step) (k : ℕ) (reply : Reply) (chunked : Bool) (old new : List ℕ) (p q q2 : PassView) (u u' : SinkView)
+    (v v1 v2 : ClockView) (place : ℕ) → CanFollow p.charter base reply → Following base k reply chunked p q u u' v v1 place
+    → PartOf k reply place P.Whole old new q q2 v1 v2 → FollowsFrom base k reply chunked F.Whole p q2 u u' v v2
+whole base k reply chunked old new p q q2 u u' v v1 v2 place may f turn =
+    let a = asked base k reply chunked P.Whole old new p q q2 u u' v v1 v2 place f turn in
     record {
-      moves = a.now.rests.moves;
-      quiet = a.now.rests.quiet;
-      reached = told_reached reply p.charter q2.seen handed old new a.now.rests.moves.handed place a.says a.late;
-      body = f.body;
-      sent = f.sent;
-      part = f.sent;
-      tells = told_whole reply p.charter p.seen q2.seen handed f.body old new place may a.now.rests.moves.extends a.legal a.now.told a.says;
-      ends = ends_whole reply p.charter f.body p.seen q2.seen;
-      pieces = f.pieces;
+      moves = a.now.stands.moves;
+      still = a.now.stands.still;
+      quiet = a.now.stands.quiet;
+      timed = a.now.timed;
+      reached = told_reached reply p.charter q2.seen old new a.now.stands.moves.handed place a.said;
+      whole = true;
+      by_end = refl;
+      body = a.now.body;
+      sent = a.now.sent;
+      part = a.now.sent;
+      tells = told_whole reply p.charter base q2.seen a.now.body old new a.now.stands.moves.handed place may (extends_on base p.seen q2.seen a.now.from a.now.stands.moves.extends) a.now.told a.said;
+      ends = ends_whole reply p.charter a.now.body base q2.seen;
+      pieces = a.now.pieces;
       taken = refl;
-      sink = f.sink;
+      sink = a.now.sink;
       cause = tt;
     }

@@ -1,9 +1,17 @@
 pub mod WaitLemmas
 pub mod StatusLemmas
+pub mod RunLemmas
 pub mod LogLemmas
 pub mod LogTellLemmas
 pub mod EventTellLemmas
+pub mod JournalTellLemmas
 pub mod TellLemmas
 pub mod PieceLemmas
+pub mod StillLemmas
+pub mod StandLemmas
 pub mod FollowLemmas
 pub mod OpenLemmas
+pub mod AttachLemmas
+pub mod HearLemmas
+pub mod PumpLemmas
+pub mod SideLemmas

@@ -11,10 +11,10 @@ use Rattle.engine_text.specs.declared.reply.LogSpec.{LogSpec}
 use Rattle.engine_text.specs.declared.reply.StopRule.{StopRule}
 use Rattle.engine_text.specs.declared.reply.StopRule.TheVariants as Stop
 use Rattle.machine_model.specs.State.{State}
-use Rattle.machine_model.specs.LogStream.{log_of, is_kept, standing_log, kept_log, log_bytes, some_if, at_rest, standing_end, kept_end, fixed_end, log_end, log_reach}
+use Rattle.machine_model.specs.LogStream.{log_of, is_kept, standing_log, kept_log, log_bytes, some_if, at_rest, length_at_end, standing_end, kept_end, fixed_end, log_end, log_reach}
 use Rattle.daemon_core.specs.Framing.{asked_bytes}
 use Rattle.daemon_core.proofs.WrittenLemmas.{asked_append}
-use Rattle.attach_hub.specs.Following.{HasNoRun}
+use Rattle.attach_hub.proofs.RunLemmas.{HasRuns, run_longer, run_stands}
 
 -- ---- a list between two places
 
@@ -54,49 +54,60 @@ bytes_on s s' spec a b rest grew in_log =
 -- how far a stream of a log that is kept goes
 abbrev pub reach_by : StopRule → List LogRecord → ℕ
 reach_by (Stop.At n) log = n
-reach_by (Stop.RunEnd run) log = 0
+reach_by (Stop.RunEnd run) log = length_at_end run log
 reach_by Stop.NotRunning log = length log
+
+-- what its end needs of the state: that of a run needs that the log has no record of a later one
+abbrev pub Fits : StopRule → State → Type 0
+Fits (Stop.At n) s = Unit {0}
+Fits (Stop.RunEnd run) s = HasRuns s
+Fits Stop.NotRunning s = Unit {0}
+
+pub fits : (stop : StopRule) (s : State) → HasRuns s → Fits stop s
+fits (Stop.At n) s runs = tt
+fits (Stop.RunEnd run) s runs = runs
+fits Stop.NotRunning s runs = tt
 
 some_reach : (b : Bool) (n : ℕ) → unwrap_or (some_if b n) n ≡ n
 some_reach true n = refl
 some_reach false n = refl
 
-standing_reach : (stop : StopRule) (owner : Owner) (log : List LogRecord) (s : State) → HasNoRun stop
+standing_reach : (stop : StopRule) (owner : Owner) (log : List LogRecord) (s : State) → Fits stop s → standing_log owner s ≡ Some log
     → unwrap_or (standing_end stop owner log s) (length log) ≡ reach_by stop log
-standing_reach (Stop.At n) owner log s runless = refl
-standing_reach (Stop.RunEnd run) owner log s runless = absurd runless
-standing_reach Stop.NotRunning owner log s runless = some_reach (at_rest owner s) (length log)
+standing_reach (Stop.At n) owner log s fit is = refl
+standing_reach (Stop.RunEnd run) owner log s fit is = run_stands owner run log s fit is
+standing_reach Stop.NotRunning owner log s fit is = some_reach (at_rest owner s) (length log)
 
-kept_reach : (kept : Option (List LogRecord)) (stop : StopRule) → IsTrue (is_some kept) → HasNoRun stop
+kept_reach : (kept : Option (List LogRecord)) (stop : StopRule) → IsTrue (is_some kept)
     → unwrap_or (option_map_or (λ (log : List LogRecord). Some (kept_end stop log)) kept (fixed_end stop)) (length (unwrap_or kept [])) ≡ reach_by stop (unwrap_or kept [])
-kept_reach None stop is runless = absurd (false≢true is)
-kept_reach (Some log) (Stop.At n) is runless = refl
-kept_reach (Some log) (Stop.RunEnd run) is runless = absurd runless
-kept_reach (Some log) Stop.NotRunning is runless = refl
+kept_reach None stop is = absurd (false≢true is)
+kept_reach (Some log) (Stop.At n) is = refl
+kept_reach (Some log) (Stop.RunEnd run) is = refl
+kept_reach (Some log) Stop.NotRunning is = refl
 
-found_reach : (standing : Option (List LogRecord)) (spec : LogSpec) (s : State) → IsTrue (is_some (option_or standing (kept_log spec.owner s)))
-    → HasNoRun spec.stop
+found_reach : (standing : Option (List LogRecord)) (spec : LogSpec) (s : State) → standing_log spec.owner s ≡ standing
+    → IsTrue (is_some (option_or standing (kept_log spec.owner s))) → Fits spec.stop s
     → unwrap_or (option_map_or (λ (log : List LogRecord). standing_end spec.stop spec.owner log s) standing (option_map_or (λ (log : List LogRecord). Some (kept_end spec.stop log)) (kept_log spec.owner s) (fixed_end spec.stop))) (length (unwrap_or (option_or standing (kept_log spec.owner s)) []))
     ≡ reach_by spec.stop (unwrap_or (option_or standing (kept_log spec.owner s)) [])
-found_reach (Some log) spec s is runless = standing_reach spec.stop spec.owner log s runless
-found_reach None spec s is runless = kept_reach (kept_log spec.owner s) spec.stop is runless
+found_reach (Some log) spec s stands is fit = standing_reach spec.stop spec.owner log s fit stands
+found_reach None spec s stands is fit = kept_reach (kept_log spec.owner s) spec.stop is
 
-pub reach_is : (s : State) (spec : LogSpec) → IsTrue (is_kept s spec.owner) → HasNoRun spec.stop
+pub reach_is : (s : State) (spec : LogSpec) → IsTrue (is_kept s spec.owner) → Fits spec.stop s
     → log_reach s spec ≡ reach_by spec.stop (log_of s spec.owner)
-reach_is s spec kept runless = found_reach (standing_log spec.owner s) spec s kept runless
+reach_is s spec kept fit = found_reach (standing_log spec.owner s) spec s refl kept fit
 
 reach_longer : (stop : StopRule) (log rest : List LogRecord) → reach_by stop log ≤ reach_by stop (log ++ rest)
 reach_longer (Stop.At n) log rest = omega arith
-reach_longer (Stop.RunEnd run) log rest = omega arith
+reach_longer (Stop.RunEnd run) log rest = run_longer run log rest
 reach_longer Stop.NotRunning log rest = let e = length-append log rest in omega (arith, e)
 
 -- a stream goes no less far while its log is kept
-pub reach_on : (s s' : State) (spec : LogSpec) (place : ℕ) (rest : List LogRecord) → HasNoRun spec.stop → IsTrue (is_kept s spec.owner)
+pub reach_on : (s s' : State) (spec : LogSpec) (place : ℕ) (rest : List LogRecord) → HasRuns s → HasRuns s' → IsTrue (is_kept s spec.owner)
     → IsTrue (is_kept s' spec.owner) → log_of s' spec.owner ≡ log_of s spec.owner ++ rest → place ≤ log_reach s spec
     → place ≤ log_reach s' spec
-reach_on s s' spec place rest runless kept kept' grew le =
-    let e = reach_is s spec kept runless in
-    let f = reach_is s' spec kept' runless ∙ ap (reach_by spec.stop) grew in
+reach_on s s' spec place rest runs runs' kept kept' grew le =
+    let e = reach_is s spec kept (fits spec.stop s runs) in
+    let f = reach_is s' spec kept' (fits spec.stop s' runs') ∙ ap (reach_by spec.stop) grew in
     let more = reach_longer spec.stop (log_of s spec.owner) rest in omega (arith, e, f, more, le)
 
 pub reach_known : (s : State) (spec : LogSpec) (n : ℕ) → log_end s spec ≡ Some n → log_reach s spec ≡ n

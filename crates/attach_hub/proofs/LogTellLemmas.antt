@@ -16,8 +16,9 @@ use Rattle.session_model.specs.declared.turned.Part.TheVariants as P
 use Rattle.session_model.specs.Exchange.{EndsSo, IsBody}
 use Rattle.session_model.proofs.HistoryLemmas.{extends_same, extends_on}
 use Rattle.daemon_core.specs.LogTurns.{LogSays, ends_by}
-use Rattle.attach_hub.specs.Following.{HasNoRun, MayFollow}
+use Rattle.attach_hub.specs.Following.{MayFollow}
 use Rattle.attach_hub.proofs.LogLemmas.{bytes_join, bytes_none, bytes_on, reach_on, reach_known, known_before}
+use Rattle.attach_hub.proofs.RunLemmas.{earlier_runs, legal_runs}
 
 -- between two histories a body is what the log had to that place, when it was last kept
 pub record TellsLog (ch : Charter) (spec : LogSpec) (a b : List Step) (body : List ℕ) (place : ℕ) : Type 0 where
@@ -128,13 +129,13 @@ known_by None place h = absurd (false≢true h)
 known_by (Some n) place h = (n, refl, grind (arith, nat_tests, h))
 
 -- what was told is the stream to its end, where it was last kept
-whole_body : (ch : Charter) (spec : LogSpec) (a b : List Step) (body : List ℕ) (place : ℕ) (kept : Bool) → HasNoRun spec.stop → Extends a b
+whole_body : (ch : Charter) (spec : LogSpec) (a b : List Step) (body : List ℕ) (place : ℕ) (kept : Bool) → Extends a b
     → IsLegal ch b → TellsLog ch spec a b body place → is_kept (state_after ch b) spec.owner ≡ kept
     → Known (log_end (state_after ch b) spec) place → IsBody ch (LogStream spec) true a b body
-whole_body ch spec a b body place true runless extends legal t kept (n, is, le) =
+whole_body ch spec a b body place true extends legal t kept (n, is, le) =
     let s : State = state_after ch b in
     let grew = grown ch spec a b body place t legal kept in
-    let reached = reach_on (state_after ch t.at) s spec place grew.0 runless t.kept kept grew.1 t.reached in
+    let reached = reach_on (state_after ch t.at) s spec place grew.0 (earlier_runs ch t.at b t.to legal) (legal_runs ch b legal) t.kept kept grew.1 t.reached in
     let e = reach_known s spec n is in
     let same : place ≡ n = omega (arith, e, reached, le) in (
       b,
@@ -142,7 +143,7 @@ whole_body ch spec a b body place true runless extends legal t kept (n, is, le) 
       extends_same b,
       (kept, (n, is, still_tells ch spec a b body place t legal kept ∙ ap (log_bytes s spec spec.first) same)),
     )
-whole_body ch spec a b body place false runless extends legal t lost (n, is, le) =
+whole_body ch spec a b body place false extends legal t lost (n, is, le) =
     let s : State = state_after ch t.at in
     let was = known_before s (state_after ch b) spec n lost is in
     let e = reach_known s spec n was in
@@ -150,9 +151,9 @@ whole_body ch spec a b body place false runless extends legal t lost (n, is, le)
     let same : place ≡ n = omega (arith, e, reached, le) in
     (t.at, t.from, t.to, (t.kept, (n, was, t.tells ∙ ap (log_bytes s spec spec.first) same)))
 
-pub log_whole : (ch : Charter) (spec : LogSpec) (a b : List Step) (body old new : List ℕ) (place : ℕ) → HasNoRun spec.stop → Extends a b
+pub log_whole : (ch : Charter) (spec : LogSpec) (a b : List Step) (body old new : List ℕ) (place : ℕ) → Extends a b
     → IsLegal ch b → TellsLog ch spec a b body place → LogSays (state_after ch b) spec place P.Whole old new
     → IsBody ch (LogStream spec) true a b body
-log_whole ch spec a b body old new place runless extends legal t says =
+log_whole ch spec a b body old new place extends legal t says =
     let s : State = state_after ch b in
-    whole_body ch spec a b body place (is_kept s spec.owner) runless extends legal t refl (known_by (log_end s spec) place says.0)
+    whole_body ch spec a b body place (is_kept s spec.owner) extends legal t refl (known_by (log_end s spec) place says.0)

@@ -23,8 +23,8 @@ use Rattle.machine_model.specs.Calls.Logs.{places, first_by_tail, first_place, s
 use Rattle.machine_model.specs.LogStream.{is_kept, kept_log, log_of, log_reach}
 use Rattle.machine_model.specs.History.{after_step, reply_of}
 use Rattle.machine_model.proofs.Fold.RowLemmas.{found_number}
-use Rattle.attach_hub.specs.Following.{MayFollow, HasNoRun}
-use Rattle.attach_hub.proofs.LogLemmas.{reach_by, reach_is}
+use Rattle.attach_hub.specs.Following.{MayFollow}
+use Rattle.attach_hub.proofs.LogLemmas.{Fits, reach_by, reach_is}
 use Rattle.machine_model.specs.Refusals.{no_such_container}
 
 -- ---- the first place lies within the log
@@ -62,9 +62,9 @@ first_least ask log =
 
 -- ---- the stream of a container that stands
 
-no_run : (follow : Bool) (size : ℕ) → HasNoRun (stop_rule follow size)
-no_run true size = tt
-no_run false size = tt
+no_run : (follow : Bool) (size : ℕ) (s : State) → Fits (stop_rule follow size) s
+no_run true size s = tt
+no_run false size s = tt
 
 asked_reach : (follow : Bool) (log : List LogRecord) → reach_by (stop_rule follow (length log)) log ≡ length log
 asked_reach true log = refl
@@ -80,11 +80,11 @@ open_at ask c t found =
     let least = first_least ask c.life.log in
     let stop : StopRule = stop_rule ask.follow (length c.life.log) in
     let reach : log_reach t (log_spec ask c) ≡ reach_by stop (log_of t (OfContainer c.number)) =
-    reach_is t (log_spec ask c) kept (no_run ask.follow (length c.life.log)) in
+    reach_is t (log_spec ask c) kept (no_run ask.follow (length c.life.log) t) in
     let far : log_reach t (log_spec ask c) ≡ length c.life.log = reach ∙ ap (reach_by stop) log ∙ asked_reach ask.follow c.life.log in
     let logged : first_place ask c.life.log ≤ length (log_of t (OfContainer c.number)) = omega (arith, least, size) in
     let reached : first_place ask c.life.log ≤ log_reach t (log_spec ask c) = omega (arith, least, far) in
-    record { kept = kept; logged = logged; reached = reached; runless = no_run ask.follow (length c.life.log) }
+    record { kept = kept; logged = logged; reached = reached }
 
 -- of a reply that gives a stream
 abbrev pub Opens : Reply → State → Type 0

@@ -1,86 +1,156 @@
 -- What was told of a stream, by the reply that gives it.
-use Rattle.std.proofs.Common.{◌≡◌, ◌≤◌, ℕ, List, [], ◌++◌, true, false, Some, None}
+use Rattle.std.proofs.Common.{◌≡◌, ◌≤◌, ◌<◌, ℕ, Bool, List, [], ◌++◌, true, false, Some, None, arith, refl}
+use Rattle.engine_ports.specs.Clock.{ClockView}
 use Rattle.engine_text.specs.declared.reply.Reply.{Reply}
 use Rattle.engine_text.specs.declared.reply.Reply.TheVariants as reply
 use Rattle.engine_text.specs.declared.step.Step.{Step}
 use Rattle.machine_model.specs.History.{Charter, Extends, IsLegal}
 use Rattle.session_model.specs.declared.followed.Followed.TheVariants as F
+use Rattle.session_model.specs.declared.turned.Part.{Part}
 use Rattle.session_model.specs.declared.turned.Part.TheVariants as P
 use Rattle.session_model.specs.Exchange.{EndsSo, IsBody}
 use Rattle.session_model.specs.Moments.{greatest_of}
-use Rattle.attach_hub.specs.Following.{CanFollow, HasReached}
+use Rattle.attach_hub.specs.Following.{CanFollow, HasReached, IsTimed}
 use Rattle.attach_hub.specs.Streams.{PartSays, StandsIn, first_of}
 use Rattle.attach_hub.proofs.LogTellLemmas.{TellsLog, log_first, log_later, log_more, log_broken, log_gone, log_whole}
 use Rattle.attach_hub.proofs.EventTellLemmas.{TellsEvents, events_first, events_later, events_more, events_broken, events_gone, events_whole, events_reached}
+use Rattle.attach_hub.proofs.JournalTellLemmas.{JournalSaid, TellsJournal, journal_broken, journal_either, journal_first, journal_later, journal_more, journal_whole}
 
 -- between two histories a body is what the stream had to that place
 abbrev pub Told : Reply → Charter → List Step → List Step → List ℕ → ℕ → Type 0
 Told (reply.LogStream spec) ch a b body place = TellsLog ch spec a b body place
 Told (reply.EventStream first until filters) ch a b body place = TellsEvents ch first until filters b body place
+Told (reply.JournalStream count) ch a b body place = TellsJournal ch count b body place
 Told r ch a b body place = ⊥
+
+-- what a part of a log or of events says, at the last of these moments
+pub record SaidAt (r : Reply) (place : ℕ) (part : Part) (old new ms : List ℕ) (ch : Charter) (b : List Step) : Type 0 where
+  pub handed : ℕ
+  pub says : PartSays r handed place part old new ch b
+  pub late : handed ≤ greatest_of ms
+  pub legal : IsLegal ch b
+
+-- what a part says
+abbrev pub Said : Reply → ℕ → Part → List ℕ → List ℕ → List ℕ → Charter → List Step → Type 0
+Said (reply.JournalStream count) place part old new ms ch b = JournalSaid ch count b place part old new
+Said r place part old new ms ch b = SaidAt r place part old new ms ch b
 
 -- ---- it goes on
 
 pub told_first : (r : Reply) (ch : Charter) (a : List Step) → CanFollow ch a r → Told r ch a a [] (first_of r)
 told_first (reply.LogStream spec) ch a may = log_first ch spec a may
 told_first (reply.EventStream first until filters) ch a may = events_first ch first until filters a may
+told_first (reply.JournalStream count) ch a may = journal_first ch count a may
 told_first r ch a may = absurd may
 
 pub told_later : (r : Reply) (ch : Charter) (a b c : List Step) (body : List ℕ) (place : ℕ) → Extends b c → Told r ch a b body place
     → Told r ch a c body place
 told_later (reply.LogStream spec) ch a b c body place on t = log_later ch spec a b c body place on t
 told_later (reply.EventStream first until filters) ch a b c body place on t = events_later ch first until filters b c body place on t
+told_later (reply.JournalStream count) ch a b c body place on t = journal_later ch count b c body place on t
 told_later r ch a b c body place on t = absurd t
 
-pub told_more : (r : Reply) (ch : Charter) (a b : List Step) (handed : ℕ) (body old new : List ℕ) (place next : ℕ) → Extends a b → IsLegal ch b
-    → Told r ch a b body place → PartSays r handed place (P.More next) old new ch b → old ≡ [] → Told r ch a b (body ++ new) next
-told_more (reply.LogStream spec) ch a b handed body old new place next on legal t says empty =
-    log_more ch spec a b body old new place next on legal t says empty
-told_more (reply.EventStream first until filters) ch a b handed body old new place next on legal t says empty =
-    events_more ch first until filters b handed body old new place next t says empty
-told_more r ch a b handed body old new place next on legal t says empty = absurd t
+pub told_more : (r : Reply) (ch : Charter) (a b : List Step) (body old new ms : List ℕ) (place next : ℕ) → Extends a b
+    → Told r ch a b body place → Said r place (P.More next) old new ms ch b → old ≡ [] → Told r ch a b (body ++ new) next
+told_more (reply.LogStream spec) ch a b body old new ms place next on t said empty =
+    log_more ch spec a b body old new place next on said.legal t said.says empty
+told_more (reply.EventStream first until filters) ch a b body old new ms place next on t said empty =
+    events_more ch first until filters b said.handed body old new place next t said.says empty
+told_more (reply.JournalStream count) ch a b body old new ms place next on t said empty =
+    journal_more ch count b body old new place next t said empty
+told_more r ch a b body old new ms place next on t said empty = absurd t
 
 -- a part may be asked from there
 pub told_stands : (r : Reply) (ch : Charter) (a b : List Step) (body : List ℕ) (place : ℕ) → Told r ch a b body place → StandsIn ch b r place
 told_stands (reply.EventStream first until filters) ch a b body place t = t.counted
 told_stands (reply.LogStream spec) ch a b body place t = tt
+told_stands (reply.JournalStream count) ch a b body place t = tt
 told_stands r ch a b body place t = absurd t
+
+-- of the journal there always is more
+pub told_timed : (r : Reply) (ch : Charter) (a b : List Step) (body old new ms : List ℕ) (place : ℕ) (v v' : ClockView) → Told r ch a b body place
+    → Said r place P.UpToDate old new ms ch b → IsTimed r v v'
+told_timed (reply.JournalStream count) ch a b body old new ms place v v' t (below, (none, same)) =
+    let counted = t.counted in absurd (omega (arith, below, none, counted))
+told_timed r ch a b body old new ms place v v' t said = tt
+
+pub timed_same : (r : Reply) (v : ClockView) → IsTimed r v v
+timed_same (reply.JournalStream count) v = refl
+timed_same r v = tt
 
 -- ---- it ends
 
-pub told_broken : (r : Reply) (ch : Charter) (a b : List Step) (body : List ℕ) (place : ℕ) → Told r ch a b body place → IsBody ch r false a b body
-told_broken (reply.LogStream spec) ch a b body place t = log_broken ch spec a b body place t
-told_broken (reply.EventStream first until filters) ch a b body place t = events_broken ch first until filters a b body place t
-told_broken r ch a b body place t = absurd t
+-- a journal that isn't whole lacks a line
+abbrev pub IsShort : Reply → ℕ → Type 0
+IsShort (reply.JournalStream count) place = place < count
+IsShort r place = Unit {0}
 
-pub told_gone : (r : Reply) (ch : Charter) (a b : List Step) (handed : ℕ) (body old new : List ℕ) (place next oldest : ℕ) → Extends a b
-    → Told r ch a b body place → PartSays r handed place (P.Gone next oldest) old new ch b → EndsSo ch r (F.Lagged next oldest) body a b
-told_gone (reply.LogStream spec) ch a b handed body old new place next oldest on t says =
-    log_gone ch spec a b body old new place next oldest on says
-told_gone (reply.EventStream first until filters) ch a b handed body old new place next oldest on t says =
-    events_gone ch first until filters a b handed body old new place next oldest on t says
-told_gone r ch a b handed body old new place next oldest on t says = absurd t
+abbrev NotWhole : Part → Type 0
+NotWhole P.Whole = ⊥
+NotWhole part = Unit {0}
 
-pub told_whole : (r : Reply) (ch : Charter) (a b : List Step) (handed : ℕ) (body old new : List ℕ) (place : ℕ) → CanFollow ch a r → Extends a b
-    → IsLegal ch b → Told r ch a b body place → PartSays r handed place P.Whole old new ch b → IsBody ch r true a b body
-told_whole (reply.LogStream spec) ch a b handed body old new place may on legal t says =
-    log_whole ch spec a b body old new place may.runless on legal t says
-told_whole (reply.EventStream first until filters) ch a b handed body old new place may on legal t says =
-    events_whole ch first until filters a b handed body old new place t says
-told_whole r ch a b handed body old new place may on legal t says = absurd t
+pub said_short : (r : Reply) (ch : Charter) (b : List Step) (part : Part) (old new ms : List ℕ) (place : ℕ) → NotWhole part
+    → Said r place part old new ms ch b → IsShort r place
+said_short (reply.JournalStream count) ch b P.Whole old new ms place other said = absurd other
+said_short (reply.JournalStream count) ch b part old new ms place other said = said.0
+said_short r ch b part old new ms place other said = tt
+
+pub told_broken : (r : Reply) (ch : Charter) (a b : List Step) (body : List ℕ) (place : ℕ) → IsShort r place → Told r ch a b body place
+    → IsBody ch r false a b body
+told_broken (reply.LogStream spec) ch a b body place lacks t = log_broken ch spec a b body place t
+told_broken (reply.EventStream first until filters) ch a b body place lacks t = events_broken ch first until filters a b body place t
+told_broken (reply.JournalStream count) ch a b body place lacks t = journal_broken ch count a b body place lacks t
+told_broken r ch a b body place lacks t = absurd t
+
+pub told_gone : (r : Reply) (ch : Charter) (a b : List Step) (body old new ms : List ℕ) (place next oldest : ℕ) → Extends a b
+    → Told r ch a b body place → Said r place (P.Gone next oldest) old new ms ch b → EndsSo ch r (F.Lagged next oldest) body a b
+told_gone (reply.LogStream spec) ch a b body old new ms place next oldest on t said =
+    log_gone ch spec a b body old new place next oldest on said.says
+told_gone (reply.EventStream first until filters) ch a b body old new ms place next oldest on t said =
+    events_gone ch first until filters a b said.handed body old new place next oldest on t said.says
+told_gone (reply.JournalStream count) ch a b body old new ms place next oldest on t said = absurd said.1
+told_gone r ch a b body old new ms place next oldest on t said = absurd t
+
+pub told_whole : (r : Reply) (ch : Charter) (a b : List Step) (body old new ms : List ℕ) (place : ℕ) → CanFollow ch a r → Extends a b
+    → Told r ch a b body place → Said r place P.Whole old new ms ch b → IsBody ch r true a b body
+told_whole (reply.LogStream spec) ch a b body old new ms place may on t said =
+    log_whole ch spec a b body old new place on said.legal t said.says
+told_whole (reply.EventStream first until filters) ch a b body old new ms place may on t said =
+    events_whole ch first until filters a b said.handed body old new place t said.says
+told_whole (reply.JournalStream count) ch a b body old new ms place may on t le = journal_whole ch count a b body place le t
+told_whole r ch a b body old new ms place may on t said = absurd t
 
 -- the clock had come to the end
-pub told_reached : (r : Reply) (ch : Charter) (b : List Step) (handed : ℕ) (old new ms : List ℕ) (place : ℕ)
-    → PartSays r handed place P.Whole old new ch b → handed ≤ greatest_of ms → HasReached r true ms
-told_reached (reply.EventStream first until filters) ch b handed old new ms place says late =
-    events_reached ch first until filters b handed old new ms place says late
-told_reached r ch b handed old new ms place says late = tt
+pub told_reached : (r : Reply) (ch : Charter) (b : List Step) (old new ms : List ℕ) (place : ℕ) → Said r place P.Whole old new ms ch b
+    → HasReached r true ms
+told_reached (reply.EventStream first until filters) ch b old new ms place said =
+    events_reached ch first until filters b said.handed old new ms place said.says said.late
+told_reached r ch b old new ms place said = tt
 
 -- which nothing asks of a stream that isn't whole
 pub reached_not : (r : Reply) (ms : List ℕ) → HasReached r false ms
 reached_not (reply.EventStream first None filters) ms = tt
 reached_not (reply.EventStream first (Some u) filters) ms = tt
 reached_not r ms = tt
+
+-- behind a write that failed it may be told whole
+pub record Either (r : Reply) (ch : Charter) (a b : List Step) (body : List ℕ) : Type 0 where
+  pub whole : Bool
+  pub tells : IsBody ch r whole a b body
+  pub reached : (ms : List ℕ) → HasReached r whole ms
+
+pub told_either : (r : Reply) (ch : Charter) (a b : List Step) (body : List ℕ) (place : ℕ) → Told r ch a b body place → Either r ch a b body
+told_either (reply.LogStream spec) ch a b body place t =
+    record { whole = false; tells = log_broken ch spec a b body place t; reached = λ ms. reached_not (reply.LogStream spec) ms }
+told_either (reply.EventStream first until filters) ch a b body place t = record {
+  whole = false;
+  tells = events_broken ch first until filters a b body place t;
+  reached = λ ms. reached_not (reply.EventStream first until filters) ms;
+}
+told_either (reply.JournalStream count) ch a b body place t =
+    let e = journal_either ch count a b body place t in
+    record { whole = e.0; tells = e.1; reached = λ ms. tt }
+told_either r ch a b body place t = absurd t
 
 -- who didn't fall behind lacks nothing
 pub ends_whole : (r : Reply) (ch : Charter) (body : List ℕ) (a b : List Step) → EndsSo ch r F.Whole body a b

@@ -28,7 +28,7 @@ use Rattle.session_model.proofs.HistoryLemmas.{run_append, quiet_same, quiet_on,
 use Rattle.session_model.proofs.DueLemmas.{dues_clock, some_clock}
 use Rattle.session_model.proofs.TurnLemmas.{moves_same, moves_on, makes_call, seen_made, turn_made, turn_opens, turn_quiet, turn_rests, state_made, clock_alone}
 use Rattle.daemon_core.specs.Whole.{IsAnswer}
-use Rattle.daemon_core.proofs.BuiltLemmas.{call_at, have_replies, take_answers}
+use Rattle.daemon_core.proofs.CallLemmas.{call_at, have_replies, take_answers}
 use Rattle.attach_hub.specs.Waiting.{Awaits, Drops, IsDropped}
 
 -- ---- a ticket that was begun

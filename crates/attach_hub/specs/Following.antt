@@ -4,14 +4,13 @@ use Rattle.engine_ports.specs.Rose.{Rose}
 use Rattle.engine_ports.specs.Sink.{SinkView, SinkTook, IsFront}
 use Rattle.engine_ports.specs.Clock.{ClockView}
 use Rattle.engine_text.specs.declared.reply.Reply.{Reply}
-use Rattle.engine_text.specs.declared.reply.Reply.TheVariants.{EventStream, LogStream}
+use Rattle.engine_text.specs.declared.reply.Reply.TheVariants.{EventStream, JournalStream, LogStream}
 use Rattle.engine_text.specs.declared.reply.LogSpec.{LogSpec}
-use Rattle.engine_text.specs.declared.reply.StopRule.{StopRule}
-use Rattle.engine_text.specs.declared.reply.StopRule.TheVariants as Stop
 use Rattle.engine_text.specs.declared.step.Step.{Step}
 use Rattle.machine_model.specs.State.{State}
 use Rattle.machine_model.specs.LogStream.{is_kept, log_of, log_reach}
-use Rattle.machine_model.specs.History.{Charter, events_of, state_after}
+use Rattle.machine_model.specs.History.{Charter, Extends, calls_of, events_of, state_after}
+use Rattle.machine_model.specs.JournalLines.{entries_of}
 use Rattle.http_edge.specs.Chunks.{IsChunked, chunk_text}
 use Rattle.session_model.specs.declared.followed.Followed.{Followed}
 use Rattle.session_model.specs.declared.followed.Followed.TheVariants as F
@@ -40,23 +39,17 @@ IsTaken followed part bytes = part ≡ bytes
 
 -- ---- a stream that is followed
 
--- it ends where a place says so, or where its owner rests; none of a run
-abbrev pub HasNoRun : StopRule → Type 0
-HasNoRun (Stop.At n) = Unit {0}
-HasNoRun (Stop.RunEnd run) = ⊥
-HasNoRun Stop.NotRunning = Unit {0}
-
 -- in this state its log is kept, and it begins within its log and before its end
 pub record MayFollow (s : State) (spec : LogSpec) : Type 0 where
   pub kept : IsTrue (is_kept s spec.owner)
   pub logged : spec.first ≤ length (log_of s spec.owner)
   pub reached : spec.first ≤ log_reach s spec
-  pub runless : HasNoRun spec.stop
 
 -- the stream of a reply can be followed from this history on
 abbrev pub CanFollow : Charter → List Step → Reply → Type 0
 CanFollow ch h (LogStream spec) = MayFollow (state_after ch h) spec
 CanFollow ch h (EventStream first until filter) = first ≤ length (events_of ch h)
+CanFollow ch h (JournalStream count) = count ≤ length (entries_of ch h)
 CanFollow ch h reply = ⊥
 
 -- where events up to a moment are whole, the clock has come to it
@@ -64,24 +57,51 @@ abbrev pub HasReached : Reply → Bool → List ℕ → Type 0
 HasReached (EventStream first (Some u) filter) true ms = u ≤ greatest_of ms
 HasReached reply whole ms = Unit {0}
 
+-- whether its body is whole, by how it ended; a write that fails may be that of the last piece
+abbrev pub IsWholeBy : Followed → Bool → Type 0
+IsWholeBy F.WriteFault whole = Unit {0}
+IsWholeBy followed whole = whole ≡ is_whole followed
+
+-- of the journal the clock isn't asked
+abbrev pub IsTimed : Reply → ClockView → ClockView → Type 0
+IsTimed (JournalStream count) v v' = v' ≡ v
+IsTimed reply v v' = Unit {0}
+
 -- what rose outside
 abbrev pub HasCause : Followed → SinkView → SinkView → ClockView → ClockView → Type 0
 HasCause F.Stopped u u' v v' = Rose v.stops v'.stops
 HasCause F.WriteFault u u' v v' = Rose u.faults u'.faults
 HasCause followed u u' v v' = Unit {0}
 
--- the stream of a reply was followed and ended so: connection k made no call, and of the body that it
--- has between the two histories the sink took these pieces
-pub record Follows (k : ℕ) (reply : Reply) (chunked : Bool) (result : Followed) (p q : PassView) (u u' : SinkView) (v v' : ClockView) : Type 0 where
+-- the number makes no call from one history to the other
+abbrev pub IsStill : ℕ → List Step → List Step → Type 0
+IsStill k a b = calls_of k b ≡ calls_of k a
+
+-- the stream of a reply was followed and ended so: connection k made no call, nor was any made for its standard
+-- input while that number was its own; and of the body that the stream has between an earlier history and the last one
+-- the sink took these pieces
+pub record FollowsFrom (base : List Step) (k : ℕ) (reply : Reply) (chunked : Bool) (result : Followed) (p q : PassView) (u u' : SinkView) (v v' : ClockView) : Type 0 where
   pub moves : Moves k true p q v v'
-  pub quiet : IsQuiet k p.seen q.seen
-  pub reached : HasReached reply (is_whole result) moves.handed
+  pub still : IsStill k p.seen q.seen
+  pub quiet : IsTrue p.pair → IsQuiet k p.seen q.seen
+  pub timed : IsTimed reply v v'
+  pub whole : Bool
+  pub by_end : IsWholeBy result whole
+  pub reached : HasReached reply whole moves.handed
   pub body : List ℕ
   pub sent : List ℕ
   pub part : List ℕ
-  pub tells : IsBody p.charter reply (is_whole result) p.seen q.seen body
-  pub ends : EndsSo p.charter reply result body p.seen q.seen
+  pub tells : IsBody p.charter reply whole base q.seen body
+  pub ends : EndsSo p.charter reply result body base q.seen
   pub pieces : IsSent chunked body sent
   pub taken : IsTaken result part sent
   pub sink : SinkTook u part u'
   pub cause : HasCause result u u' v v'
+
+-- it was so between the two histories of the pass
+abbrev pub Follows : ℕ → Reply → Bool → Followed → PassView → PassView → SinkView → SinkView → ClockView → ClockView → Type 0
+Follows k reply chunked result p q = FollowsFrom p.seen k reply chunked result p q
+
+-- it was so, from whichever earlier history on it could be followed
+pub record FollowsSince (k : ℕ) (reply : Reply) (chunked : Bool) (result : Followed) (p q : PassView) (u u' : SinkView) (v v' : ClockView) : Type 0 where
+  pub since : (base : List Step) → Extends base p.seen → CanFollow p.charter base reply → FollowsFrom base k reply chunked result p q u u' v v'

@@ -1,3 +1,5 @@
 pub mod Waiting
 pub mod Streams
 pub mod Following
+pub mod Pumping
+pub mod Sides

@@ -1,11 +1,12 @@
-// Following a stream: a log, or events.
-ghost use Rattle.std.specs.Prelude.{◌≡◌, ◌≤◌, IsTrue, length};
-ghost use Rattle.engine_text.specs.declared.reply.Reply.TheVariants.{EventStream, LogStream};
+// Following a stream: a log, events, or the journal.
+ghost use Rattle.std.specs.Prelude.{ℕ, ◌≡◌, ◌≤◌, length};
+ghost use Rattle.engine_text.specs.declared.reply.Reply.TheVariants.{EventStream, JournalStream, LogStream};
 ghost use Rattle.engine_ports.specs.Sink.{WriteSays};
 ghost use Rattle.machine_model.specs.History.{events_of, state_after};
+ghost use Rattle.machine_model.specs.JournalLines.{entries_of};
 ghost use Rattle.session_model.specs.Pass.{IsNumber};
-ghost use Rattle.attach_hub.specs.Following.{CanFollow, Follows, MayFollow, written_of};
-ghost use Rattle.attach_hub.specs.Streams.{PartOf, StandsIn, first_of, reply_of};
+ghost use Rattle.attach_hub.specs.Following.{Follows, FollowsSince, MayFollow, written_of};
+ghost use Rattle.attach_hub.specs.Streams.{JournalPart, PartOf, StandsIn, first_of, reply_of};
 
 use crate::tickets::POLL;
 use daemon_core::Turns;
@@ -25,6 +26,9 @@ pub enum Stream<'a> {
         until: Option<u64>,
         filter: &'a Filter,
     },
+    Journal {
+        count: u64,
+    },
 }
 
 /// Where the stream begins.
@@ -34,28 +38,87 @@ fn first_of(stream: &Stream<'_>) -> u64
     match stream {
         Stream::Log(spec) => spec.first,
         Stream::Events { first, .. } => *first,
+        Stream::Journal { .. } => 0,
     }
 }
 
-/// A part of the stream from a place on.
-fn part_of<T: Turns>(
+/// The line of the journal's next entry, of so many; whole behind the last.
+fn line_from<T: Turns>(
     turns: &mut T,
     alloc: Global,
     conn: u32,
-    handed: u64,
-    stream: &Stream<'_>,
+    count: u64,
     place: u64,
     out: &mut Vec<u8>,
 ) -> Part
+    requires { IsNumber (T.pass turns.old).number conn }
+    ensures { JournalPart conn count place result out.old.items out.new.items (T.pass turns.old) (T.pass turns.new) }
+{
+    if count <= place {
+        return Part::Whole;
+    }
+    turns.journal_from(alloc, conn, place, out)
+}
+
+/// A part of a log from a place on, at a moment of the clock.
+fn log_part<T: Turns, C: Clock>(
+    turns: &mut T,
+    alloc: Global,
+    conn: u32,
+    spec: &LogSpec,
+    place: u64,
+    out: &mut Vec<u8>,
+    clock: &mut C,
+) -> Part
+    requires { IsNumber (T.pass turns.old).number conn }
+    ensures { PartOf conn (LogStream spec.now) place result out.old.items out.new.items
+        (T.pass turns.old) (T.pass turns.new) (C.times clock.old) (C.times clock.new) }
+{
+    let handed = clock.now();
+    turns.log_from(alloc, conn, handed, spec, place, out)
+}
+
+/// A part of a stream of events from a number on, at a moment of the clock.
+fn event_part<T: Turns, C: Clock>(
+    turns: &mut T,
+    alloc: Global,
+    conn: u32,
+    until: Option<u64>,
+    filter: &Filter,
+    place: u64,
+    out: &mut Vec<u8>,
+    clock: &mut C,
+) -> Part
+    requires number { IsNumber (T.pass turns.old).number conn }
+    requires counted { place ≤ length (events_of (T.pass turns.old).charter (T.pass turns.old).seen) }
+    ensures { (first : ℕ) → PartOf conn (EventStream first until filter.now) place result out.old.items out.new.items
+        (T.pass turns.old) (T.pass turns.new) (C.times clock.old) (C.times clock.new) }
+{
+    let handed = clock.now();
+    turns.events_from(alloc, conn, handed, place, out, filter, until)
+}
+
+/// A part of the stream from a place on. The clock isn't asked for the journal.
+fn part_of<T: Turns, C: Clock>(
+    turns: &mut T,
+    alloc: Global,
+    conn: u32,
+    stream: &Stream<'_>,
+    place: u64,
+    out: &mut Vec<u8>,
+    clock: &mut C,
+) -> Part
     requires number { IsNumber (T.pass turns.old).number conn }
     requires stands { StandsIn (T.pass turns.old).charter (T.pass turns.old).seen (reply_of stream.now) place }
-    ensures { PartOf conn handed (reply_of stream.now) place result out.old.items out.new.items (T.pass turns.old) (T.pass turns.new) }
+    ensures { PartOf conn (reply_of stream.now) place result out.old.items out.new.items
+        (T.pass turns.old) (T.pass turns.new) (C.times clock.old) (C.times clock.new) }
 {
     match stream {
-        Stream::Log(spec) => turns.log_from(alloc, conn, handed, *spec, place, out),
+        Stream::Log(spec) => log_part(turns, alloc, conn, *spec, place, out, clock),
         Stream::Events { until, filter, .. } => {
-            turns.events_from(alloc, conn, handed, place, out, *filter, *until)
+            event_part(turns, alloc, conn, *until, *filter, place, out, clock)
         }
+        Stream::Journal { count } => line_from(turns, alloc, conn, *count, place, out),
     }
 }
 
@@ -74,8 +137,8 @@ fn write_piece<K: Sink>(sink: &mut K, chunked: bool, piece: &[u8]) -> Result<(),
 }
 
 // Writes the stream as it comes, until it is whole: a part, and where it is up to date the next one
-// 50 ms later.
-fn follow<W: Wait, T: Turns, K: Sink, C: Clock>(
+// 50 ms later. It may begin where it could once be followed.
+pub(crate) fn follow<W: Wait, T: Turns, K: Sink, C: Clock>(
     rt: &W,
     turns: &mut T,
     alloc: Global,
@@ -86,16 +149,15 @@ fn follow<W: Wait, T: Turns, K: Sink, C: Clock>(
     clock: &mut C,
 ) -> Followed
     requires number { IsNumber (T.pass turns.old).number conn }
-    requires pair { IsTrue (T.pass turns.old).pair }
-    requires may { CanFollow (T.pass turns.old).charter (T.pass turns.old).seen (reply_of stream.now) }
-    ensures { Follows conn (reply_of stream.now) chunked result
+    requires stands { StandsIn (T.pass turns.old).charter (T.pass turns.old).seen
+        (reply_of stream.now) (first_of (reply_of stream.now)) }
+    ensures { FollowsSince conn (reply_of stream.now) chunked result
         (T.pass turns.old) (T.pass turns.new) (K.takes sink.old) (K.takes sink.new) (C.times clock.old) (C.times clock.new) }
 {
     let mut place = first_of(stream);
     for _ in rt.forever() {
         let mut out = Vec::new(alloc);
-        let handed = clock.now();
-        match part_of(turns, alloc, conn, handed, stream, place, &mut out) {
+        match part_of(turns, alloc, conn, stream, place, &mut out, clock) {
             Part::More { next } => {
                 match write_piece(sink, chunked, out.as_slice()) {
                     Ok(()) => {}
@@ -127,7 +189,6 @@ pub fn follow_log<W: Wait, T: Turns, K: Sink, C: Clock>(
     clock: &mut C,
 ) -> Followed
     requires number { IsNumber (T.pass turns.old).number conn }
-    requires pair { IsTrue (T.pass turns.old).pair }
     requires may { MayFollow (state_after (T.pass turns.old).charter (T.pass turns.old).seen) spec.now }
     ensures { Follows conn (LogStream spec.now) chunked result
         (T.pass turns.old) (T.pass turns.new) (K.takes sink.old) (K.takes sink.new) (C.times clock.old) (C.times clock.new) }
@@ -152,7 +213,6 @@ pub fn follow_events<W: Wait, T: Turns, K: Sink, C: Clock>(
     clock: &mut C,
 ) -> Followed
     requires number { IsNumber (T.pass turns.old).number conn }
-    requires pair { IsTrue (T.pass turns.old).pair }
     requires counted { first ≤ length (events_of (T.pass turns.old).charter (T.pass turns.old).seen) }
     ensures { Follows conn (EventStream first until filter.now) chunked result
         (T.pass turns.old) (T.pass turns.new) (K.takes sink.old) (K.takes sink.new) (C.times clock.old) (C.times clock.new) }
@@ -162,5 +222,25 @@ pub fn follow_events<W: Wait, T: Turns, K: Sink, C: Clock>(
         until,
         filter,
     };
+    follow(rt, turns, alloc, conn, &stream, chunked, sink, clock)
+}
+
+/// Writes the lines of the journal's first entries, so many of them. The clock isn't asked for them.
+pub fn follow_journal<W: Wait, T: Turns, K: Sink, C: Clock>(
+    rt: &W,
+    turns: &mut T,
+    alloc: Global,
+    conn: u32,
+    count: u64,
+    chunked: bool,
+    sink: &mut K,
+    clock: &mut C,
+) -> Followed
+    requires number { IsNumber (T.pass turns.old).number conn }
+    requires counted { count ≤ length (entries_of (T.pass turns.old).charter (T.pass turns.old).seen) }
+    ensures { Follows conn (JournalStream count) chunked result
+        (T.pass turns.old) (T.pass turns.new) (K.takes sink.old) (K.takes sink.new) (C.times clock.old) (C.times clock.new) }
+{
+    let stream = Stream::Journal { count };
     follow(rt, turns, alloc, conn, &stream, chunked, sink, clock)
 }
