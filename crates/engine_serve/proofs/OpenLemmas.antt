@@ -1,4 +1,4 @@
--- The stream that a call for a log or for events gives can be followed from the history that the call leaves.
+-- The stream that a call for a log, for events or for the journal gives can be followed from the history that the call leaves.
 use Rattle.std.proofs.Common.{◌≡◌, ◌≤◌, ◌-◌, ℕ, List, [], ◌∷◌, ◌++◌, ◌∙◌, ap, arith, Option, Some, None, length, length-append, length-drop, map}
 use Rattle.std.specs.Prelude.{IsTrue, nat_le, not}
 use Rattle.std.specs.List.{position_or_len}
@@ -16,11 +16,14 @@ use Rattle.machine_model.specs.State.{State}
 use Rattle.machine_model.specs.Calls.Events.{first_event}
 use Rattle.machine_model.specs.Step.{at_moment}
 use Rattle.machine_model.specs.History.{Charter, events_of, opening_state, reply_of, state_after}
+use Rattle.machine_model.specs.JournalLines.{entries_of}
 use Rattle.machine_model.specs.Statuses.{is_reply_of}
 use Rattle.machine_model.proofs.Histories.{events_append}
 use Rattle.machine_model.proofs.Kept.PastLemmas.{events_counted}
 use Rattle.http_edge.specs.declared.head.Form.{Form}
 use Rattle.session_model.specs.Responses.{chunked_form}
+use Rattle.daemon_core.proofs.CountLemmas.{counted_entries}
+use Rattle.daemon_core.proofs.KeepLemmas.{entries_append}
 use Rattle.attach_hub.specs.Following.{CanFollow}
 use Rattle.attach_hub.proofs.OpenLemmas.{Opens}
 
@@ -36,7 +39,7 @@ log_follows ch h target ask (reply.Answer status body) form some is opens = none
 log_follows ch h target ask (reply.Begun ticket) form some is opens = none_not form some
 log_follows ch h target ask (reply.LogStream spec) form some is opens = opens
 log_follows ch h target ask (reply.EventStream first until filter) form some is opens = absurd (false≢true is)
-log_follows ch h target ask (reply.JournalStream count) form some is opens = false≢true is
+log_follows ch h target ask (reply.JournalStream count) form some is opens = absurd (false≢true is)
 log_follows ch h target ask (reply.Fed taken) form some is opens = none_not form some
 log_follows ch h target ask reply.Dropped form some is opens = none_not form some
 
@@ -73,3 +76,15 @@ events_follow ch h k t since until filter =
     let count : s.event_count ≡ length (events_of ch h) = (events_counted ch h).1 in
     let sum = ap length (events_append (opening_state ch) h (x ∷ [])) ∙ length-append (events_of ch h) _ in
     omega (arith, first, count, sum)
+
+-- ---- of the journal
+
+-- that of the entries before a call has all of them
+pub journal_follows : (ch : Charter) (h : List Step) (k t : ℕ)
+    → CanFollow ch (h ++ Step.Call k t call.JournalRead ∷ []) (reply_of (state_after ch h) k t call.JournalRead)
+journal_follows ch h k t =
+    let x : Step = Step.Call k t call.JournalRead in
+    let count : (state_after ch h).call_count ≡ length (entries_of ch h) = counted_entries ch h in
+    let more = entries_append ch h (x ∷ []) in
+    let sum = ap length more.1 ∙ length-append (entries_of ch h) more.0 in
+    omega (arith, count, sum)

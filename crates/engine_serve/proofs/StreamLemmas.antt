@@ -1,4 +1,4 @@
--- What answers a request for a log or for events: the stream that its call gives, by chunks, or its refusal.
+-- What answers a request for a log, for events or for the journal: the stream that its call gives, by chunks, or its refusal.
 use Rattle.std.proofs.Common.{◌≡◌, ◌≤◌, inl, inr, ℕ, List, [], ◌∷◌, ◌++◌, append-nil, append_assoc, refl, sym, ◌∙◌, ap, subst, arith, Bool, true, false, if◌then◌else◌, Some, None, Err}
 use Rattle.std.specs.Prelude.{IsSome, IsTrue, unwrap_or}
 use Rattle.std.proofs.lemmas.Bool.{false≢true}
@@ -16,7 +16,6 @@ use Rattle.engine_text.specs.declared.step.Step.{Step}
 use Rattle.machine_model.specs.State.{State}
 use Rattle.machine_model.specs.Statuses.{is_reply_of}
 use Rattle.machine_model.specs.History.{Charter, HasNone, after_step, moment_used, reply_of, state_from}
-use Rattle.call_bounds.specs.Built.{is_built}
 use Rattle.http_edge.specs.Chunks.{last_chunk}
 use Rattle.http_edge.specs.Message.{Request}
 use Rattle.http_edge.specs.Response.{head_text}
@@ -29,7 +28,7 @@ use Rattle.session_model.specs.declared.followed.Followed.{Followed}
 use Rattle.session_model.specs.declared.followed.Followed.TheVariants as F
 use Rattle.session_model.specs.declared.terms.Terms.{Terms}
 use Rattle.session_model.specs.declared.turned.Turned.TheVariants as T
-use Rattle.session_model.specs.Exchange.{Flow, Leaves, flow_of, is_whole, IsMade, IsQuiet, Chunked, HeadIsLost}
+use Rattle.session_model.specs.Exchange.{Flow, Leaves, flow_of, is_whole, IsBody, IsMade, IsQuiet, Chunked, HeadIsLost}
 use Rattle.session_model.specs.Moments.{ComesTo, StaysWithin, TakesMoments, greatest_of, is_whole_flow}
 use Rattle.session_model.specs.Pass.{PassView}
 use Rattle.session_model.specs.Progress.{Moves}
@@ -40,14 +39,15 @@ use Rattle.session_model.proofs.CauseLemmas.{IsLater, cause_since}
 use Rattle.session_model.proofs.HistoryLemmas.{quiet_same, dues_none, extends_on, untimed, uncalled}
 use Rattle.session_model.proofs.MomentLemmas.{moments_weak, within_on}
 use Rattle.session_model.proofs.TurnLemmas.{moves_same, makes_call, turn_made, turn_opens, seen_made, stays_on}
-use Rattle.daemon_core.proofs.BuiltLemmas.{call_at}
+use Rattle.daemon_core.proofs.CallLemmas.{call_at}
 use Rattle.attach_hub.specs.Following.{Follows, HasReached}
+use Rattle.attach_hub.proofs.TellLemmas.{ends_whole}
 use Rattle.engine_serve.specs.declared.went.Went.{Went}
 use Rattle.engine_serve.specs.Serving.{Sends, Answers, Tries}
 use Rattle.engine_serve.specs.Answering.{SendsReply}
 use Rattle.engine_serve.specs.Streaming.{IsStreamed, EndsStream, IsSentAs, SendsStream, flow_behind}
 use Rattle.engine_serve.proofs.EarlyLemmas.{sends_behind}
-use Rattle.engine_serve.proofs.ReplyLemmas.{asks_stream, made_reply, streams_end_none}
+use Rattle.engine_serve.proofs.ReplyLemmas.{asks_stream, feeds_none, made_reply, streams_end_none}
 use Rattle.engine_serve.proofs.AnswerLemmas.{MovesBy, asks, if_cause, if_pumped, if_whole, no_drop, replied, full, no_memory}
 
 -- ---- what was sent of the stream
@@ -93,12 +93,12 @@ stream_lost k terms x form f p u u' t is says =
 
 -- the stream broke off behind its head: nothing more is written
 broke_off : (k : ℕ) (terms : Terms) (g : Reply) (f : Followed) (e : Ending) (result : Went) (p q : PassView)
-    (u v w x : SinkView) (t t' : ClockView) → is_whole f ≡ false → SinkTook u (head_of terms g) v
-    → (sent : Follows k g true f p q v w t t') → result ≡ Went.Ends e → x ≡ w
+    (u v w x : SinkView) (t t' : ClockView) → IsTrue p.pair → is_whole f ≡ false → SinkTook u (head_of terms g) v
+    → (sent : Follows k g true f p q v w t t') → IsBody p.charter g (is_whole f) p.seen q.seen sent.body → result ≡ Went.Ends e → x ≡ w
     → IsWritten e (Leaves f None) (head_of terms g ++ sent.sent) (head_of terms g ++ sent.part) u w
     → ((s s' : SourceView) → FollowCause f (outside s u t) (outside s' w t'))
     → SendsStream k terms g result p q u x t t'
-broke_off k terms g f e result p q u v w x t t' broken head sent is same written cause =
+broke_off k terms g f e result p q u v w x t t' pair broken head sent tells is same written cause =
     let last : (if is_whole f then last_chunk else []) ≡ [] = ap (λ b. if b then last_chunk else []) broken in
     let flow : flow_behind terms f ≡ Leaves f None = ap (λ b. if b then flow_of terms else Leaves f None) broken in
     let whole : List ℕ = head_of terms g ++ sent.sent in
@@ -108,22 +108,71 @@ broke_off k terms g f e result p q u v w x t t' broken head sent is same written
       flow = Leaves f None;
       whole = whole;
       part = head_of terms g ++ sent.part;
-      told = inr (f, sent.body, sent.sent, sent.tells, sent.ends, sent.pieces, sym flow, all);
+      told = inr (f, sent.body, sent.sent, tells, sent.ends, sent.pieces, sym flow, all);
       goes = written;
       sink = sink_on u v w (head_of terms g) sent.part head sent.sink;
       cause = λ s s'. (cause s s', tt);
-      quiet = sent.quiet;
+      quiet = sent.quiet pair;
       moves = sent.moves;
       reached = unreached g sent.moves.handed;
       pumped = refl;
     }))
 
+-- what was told, as the stream was followed
+told_by : (k : ℕ) (g : Reply) (f : Followed) (p q : PassView) (v w : SinkView) (t t' : ClockView) (sent : Follows k g true f p q v w t t')
+    → sent.whole ≡ is_whole f → IsBody p.charter g (is_whole f) p.seen q.seen sent.body
+told_by k g f p q v w t t' sent is = subst (λ b. IsBody p.charter g b p.seen q.seen sent.body) is sent.tells
+
+-- a write failed in it: of a whole stream, or of one that isn't
+failed_so : (k : ℕ) (terms : Terms) (g : Reply) (result : Went) (p q : PassView)
+    (u v w x : SinkView) (t t' : ClockView) → IsTrue p.pair → SinkTook u (head_of terms g) v
+    → (sent : Follows k g true F.WriteFault p q v w t t') → result ≡ Went.Ends Ending.WriteFault → x ≡ w
+    → (whole : Bool) → sent.whole ≡ whole → SendsStream k terms g result p q u x t t'
+failed_so k terms g result p q u v w x t t' pair head sent is same false told =
+    let rose = rose_since u.faults v.faults w.faults head.faults sent.cause in
+    let front : IsFront (head_of terms g ++ sent.part) (head_of terms g ++ sent.sent) =
+    (sent.taken.0, append_assoc (head_of terms g) sent.part sent.taken.0 ∙ ap (λ y. head_of terms g ++ y) sent.taken.1) in
+    broke_off k terms g F.WriteFault Ending.WriteFault result p q u v w x t t' pair refl head sent (told_by k g F.WriteFault p q v w t t' sent told) is same
+    (inr (refl, front, rose)) (λ s s'. rose)
+failed_so k terms g result p q u v w x t t' pair head sent is same true told =
+    let rose = rose_since u.faults v.faults w.faults head.faults sent.cause in
+    let part : List ℕ = head_of terms g ++ sent.part in
+    let whole : List ℕ = head_of terms g ++ sent.sent ++ last_chunk in
+    let front : IsFront part whole = (
+      sent.taken.0 ++ last_chunk,
+      sym (append_assoc part sent.taken.0 last_chunk)
+          ∙ ap (λ y. y ++ last_chunk) (append_assoc (head_of terms g) sent.part sent.taken.0 ∙ ap (λ y. head_of terms g ++ y) sent.taken.1),
+    ) in
+    subst (λ y. SendsStream k terms g y p q u x t t') (sym is)
+    (subst (λ y. SendsStream k terms g (Went.Ends Ending.WriteFault) p q u y t t') (sym same) (record {
+      flow = flow_of terms;
+      whole = whole;
+      part = part;
+      told = inr (
+        F.Whole,
+        sent.body,
+        sent.sent,
+        subst (λ b. IsBody p.charter g b p.seen q.seen sent.body) told sent.tells,
+        ends_whole g p.charter sent.body p.seen q.seen,
+        sent.pieces,
+        refl,
+        refl,
+      );
+      goes = inr (refl, front, rose);
+      sink = sink_on u v w (head_of terms g) sent.part head sent.sink;
+      cause = λ s s'. if_cause terms.close (outside s u t) (outside s' w t');
+      quiet = sent.quiet pair;
+      moves = sent.moves;
+      reached = subst (λ b. HasReached g b sent.moves.handed) (told ∙ sym (if_whole terms.close)) sent.reached;
+      pumped = if_pumped terms.close;
+    }))
+
 -- behind its head it was followed, and ended by the last chunk exactly where it is whole
 sent_so : (k : ℕ) (terms : Terms) (g : Reply) (f : Followed) (result : Went) (p q : PassView)
-    (u v w x : SinkView) (t t' : ClockView) → SinkTook u (head_of terms g) v
+    (u v w x : SinkView) (t t' : ClockView) → IsTrue p.pair → SinkTook u (head_of terms g) v
     → Follows k g true f p q v w t t' → EndsStream terms f result w x
     → SendsStream k terms g result p q u x t t'
-sent_so k terms g F.Whole result p q u v w x t t' head sent ends =
+sent_so k terms g F.Whole result p q u v w x t t' pair head sent ends =
     let took : SinkTook u (head_of terms g ++ sent.sent) w =
     subst (λ y. SinkTook u (head_of terms g ++ y) w) sent.taken (sink_on u v w (head_of terms g) sent.part head sent.sink) in
     let all : Sends (flow_of terms) result (head_of terms g ++ sent.sent ++ last_chunk) u x =
@@ -131,36 +180,31 @@ sent_so k terms g F.Whole result p q u v w x t t' head sent ends =
       flow = flow_of terms;
       whole = head_of terms g ++ sent.sent ++ last_chunk;
       part = all.0;
-      told = inr (F.Whole, sent.body, sent.sent, sent.tells, sent.ends, sent.pieces, refl, refl);
+      told = inr (F.Whole, sent.body, sent.sent, told_by k g F.Whole p q v w t t' sent sent.by_end, sent.ends, sent.pieces, refl, refl);
       goes = all.2;
       sink = all.1;
       cause = λ s s'. if_cause terms.close (outside s u t) (outside s' x t');
-      quiet = sent.quiet;
+      quiet = sent.quiet pair;
       moves = sent.moves;
-      reached = subst (λ b. HasReached g b sent.moves.handed) (sym (if_whole terms.close)) sent.reached;
+      reached = subst (λ b. HasReached g b sent.moves.handed) (sent.by_end ∙ sym (if_whole terms.close)) sent.reached;
       pumped = if_pumped terms.close;
     }
-sent_so k terms g F.Stopped result p q u v w x t t' head sent ends =
-    broke_off k terms g F.Stopped Ending.Stopped result p q u v w x t t' refl head sent ends.0 ends.1
+sent_so k terms g F.Stopped result p q u v w x t t' pair head sent ends =
+    broke_off k terms g F.Stopped Ending.Stopped result p q u v w x t t' pair refl head sent (told_by k g F.Stopped p q v w t t' sent sent.by_end) ends.0 ends.1
     (inl (refl, ap (λ y. head_of terms g ++ y) sent.taken)) (λ s s'. sent.cause)
-sent_so k terms g (F.Lagged next first) result p q u v w x t t' head sent ends =
-    broke_off k terms g (F.Lagged next first) (Ending.Lagged next first) result p q u v w x t t' refl head sent ends.0 ends.1
+sent_so k terms g (F.Lagged next first) result p q u v w x t t' pair head sent ends =
+    broke_off k terms g (F.Lagged next first) (Ending.Lagged next first) result p q u v w x t t' pair refl head sent (told_by k g (F.Lagged next first) p q v w t t' sent sent.by_end) ends.0 ends.1
     (inl (refl, ap (λ y. head_of terms g ++ y) sent.taken)) (λ s s'. tt)
-sent_so k terms g F.NoMemory result p q u v w x t t' head sent ends =
-    broke_off k terms g F.NoMemory Ending.NoMemory result p q u v w x t t' refl head sent ends.0 ends.1
+sent_so k terms g F.NoMemory result p q u v w x t t' pair head sent ends =
+    broke_off k terms g F.NoMemory Ending.NoMemory result p q u v w x t t' pair refl head sent (told_by k g F.NoMemory p q v w t t' sent sent.by_end) ends.0 ends.1
     (inl (refl, ap (λ y. head_of terms g ++ y) sent.taken)) (λ s s'. tt)
-sent_so k terms g F.WriteFault result p q u v w x t t' head sent ends =
-    let rose = rose_since u.faults v.faults w.faults head.faults sent.cause in
-    let front : IsFront (head_of terms g ++ sent.part) (head_of terms g ++ sent.sent) =
-    (sent.taken.0, append_assoc (head_of terms g) sent.part sent.taken.0 ∙ ap (λ y. head_of terms g ++ y) sent.taken.1) in
-    broke_off k terms g F.WriteFault Ending.WriteFault result p q u v w x t t' refl head sent ends.0 ends.1
-    (inr (refl, front, rose)) (λ s s'. rose)
+sent_so k terms g F.WriteFault result p q u v w x t t' pair head sent ends = failed_so k terms g result p q u v w x t t' pair head sent ends.0 ends.1 sent.whole refl
 
 pub stream_sent : (k : ℕ) (terms : Terms) (g : Reply) (form : Form) (f : Followed) (result : Went) (p q : PassView)
-    (u v w x : SinkView) (t t' : ClockView) → chunked_form g ≡ Some form → SinkTook u (head_by terms form) v
+    (u v w x : SinkView) (t t' : ClockView) → IsTrue p.pair → chunked_form g ≡ Some form → SinkTook u (head_by terms form) v
     → Follows k g true f p q v w t t' → EndsStream terms f result w x → SendsStream k terms g result p q u x t t'
-stream_sent k terms g form f result p q u v w x t t' is head sent ends =
-    sent_so k terms g f result p q u v w x t t' (subst (λ y. SinkTook u y v) (head_is terms g form is) head) sent ends
+stream_sent k terms g form f result p q u v w x t t' pair is head sent ends =
+    sent_so k terms g f result p q u v w x t t' pair (subst (λ y. SinkTook u y v) (head_is terms g form is) head) sent ends
 
 -- ---- the moments that it took
 
@@ -171,6 +215,7 @@ comes_by (call.Events since (Some until) filter) x true z k t handed ms streams 
     let late : until ≤ greatest_of ms = subst (λ y. HasReached y true ms) is reached in omega (arith, late)
 comes_by (call.Events since None filter) x true z k t handed ms streams is reached = tt
 comes_by (call.Logs target ask) x true z k t handed ms streams is reached = tt
+comes_by call.JournalRead x true z k t handed ms streams is reached = tt
 comes_by c x true z k t handed ms streams is reached = absurd streams
 comes_by c x false z k t handed ms streams is reached = tt
 
@@ -269,6 +314,7 @@ stream_streamed k handed r terms c x form result p q s u u' v w y is pair class 
 refused_comes : (c : Call) (x : Reply) (status : ℕ) (body : List ℕ) (ms : List ℕ) → IsStreamed c → IsTrue (is_reply_of c x)
     → x ≡ reply.Answer status body → ComesTo true c ms
 refused_comes (call.Logs target ask) x status body ms streams is answers = tt
+refused_comes call.JournalRead x status body ms streams is answers = tt
 refused_comes (call.Events since until filter) x status body ms streams is answers =
     let other : IsTrue (is_reply_of (call.Events since until filter) (reply.Answer status body)) =
     subst (λ y. IsTrue (is_reply_of (call.Events since until filter) y)) answers is in absurd (false≢true other)
@@ -276,11 +322,11 @@ refused_comes c x status body ms streams is answers = absurd streams
 
 pub stream_refused : (k handed : ℕ) (r : Request) (terms : Terms) (c : Call) (x : Reply) (result : Went) (p q : PassView)
     (u u' : SinkView) (t t' : ClockView) → terms ≡ terms_of r → IsTrue p.pair → class_of r ≡ Stream c Takeover.None
-    → IsTrue (is_built c) → IsStreamed c → ClockHanded t (handed ∷ []) t' → Turn k handed (Some c) (T.Replied x) p q
+    → IsStreamed c → ClockHanded t (handed ∷ []) t' → Turn k handed (Some c) (T.Replied x) p q
     → SendsReply terms x result u u' → Tries k r result p q u u' t t'
-stream_refused k handed r terms c x result p q u u' t t' is pair class built streams clock turn sends =
+stream_refused k handed r terms c x result p q u u' t t' is pair class streams clock turn sends =
     let comes : ComesTo true c (handed ∷ []) =
-    refused_comes c x sends.0 sends.1 (handed ∷ []) streams (made_reply k handed c x _ p q built streams turn turn.says.1).1 sends.2 in
+    refused_comes c x sends.0 sends.1 (handed ∷ []) streams (made_reply k handed c x _ p q (streams_end_none c streams) (feeds_none c streams) turn turn.says.1).1 sends.2 in
     replied k handed r c x result p q u u' t t' pair (asks_stream r c class) comes (streams_end_none c streams) clock turn
     (subst (λ y. SendsReply y x result u u') is sends)
 

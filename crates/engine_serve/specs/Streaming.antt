@@ -24,10 +24,11 @@ use Rattle.attach_hub.specs.Following.{HasReached}
 use Rattle.engine_serve.specs.declared.went.Went.{Went}
 use Rattle.engine_serve.specs.Serving.{GoesSo, Sends}
 
--- the calls whose streams are sent in chunks: for a log, and for events
+-- the calls whose streams are sent in chunks: for a log, for events, and for the journal
 abbrev pub IsStreamed : Call → Type 0
 IsStreamed (call.Logs target ask) = Unit {0}
 IsStreamed (call.Events since until filter) = Unit {0}
+IsStreamed call.JournalRead = Unit {0}
 IsStreamed c = ⊥
 
 -- ---- behind a stream in chunks

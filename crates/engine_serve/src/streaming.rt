@@ -1,6 +1,5 @@
 // A request for a stream, answered.
 ghost use Rattle.std.specs.Prelude.{◌≡◌, true, IsTrue, Some};
-ghost use Rattle.call_bounds.specs.Built.{is_built};
 ghost use Rattle.call_bounds.specs.Soundness.{IsSound};
 ghost use Rattle.http_edge.specs.Reader.{request_of};
 ghost use Rattle.api_routes.specs.Class.{class_of};
@@ -8,19 +7,19 @@ ghost use Rattle.api_routes.specs.declared.class.Class.TheVariants.{Stream};
 ghost use Rattle.api_routes.specs.declared.class.Takeover.TheVariants as takes;
 ghost use Rattle.session_model.specs.Pass.{IsNumber};
 ghost use Rattle.session_model.specs.Responses.{chunked_form};
-ghost use Rattle.session_model.specs.Session.{ending_of_ends};
+ghost use Rattle.session_model.specs.Session.{ending_by_pump, ending_of_ends};
 ghost use Rattle.attach_hub.specs.Following.{CanFollow, Follows};
 ghost use Rattle.engine_serve.specs.Serving.{Tries};
 ghost use Rattle.engine_serve.specs.Streaming.{IsStreamed, EndsStream, SendsStream};
 
 use crate::answer::{behind, send_journal_full, send_out_of_memory, send_reply};
 use crate::went::Went;
-use attach_hub::{follow_events, follow_log};
+use attach_hub::{follow_events, follow_journal, follow_log};
 use daemon_core::Turns;
 use engine_ports::{Clock, Failed, Sink};
 use engine_text::{Call, Reply};
 use http_edge::{Form, Head, RequestView, write_head, write_last};
-use session_model::{Ending, Followed, Terms, Turned};
+use session_model::{Ending, Followed, PumpEnd, Terms, Turned};
 use std::alloc::Global;
 use std::sync::Wait;
 
@@ -38,12 +37,25 @@ fn form_of(reply: &Reply) -> Option<Form>
     }
 }
 
-/// The ending of a session whose last stream was followed so.
-fn ending_of(followed: Followed) -> Ending
-    ensures { result ≡ ending_of_ends followed None }
+/// The ending of a session whose last stream is whole, by how its input was pumped, if it was.
+fn ending_by_pump(pumped: Option<PumpEnd>) -> Ending
+    ensures { result ≡ ending_by_pump pumped }
+{
+    match pumped {
+        Some(PumpEnd::Stopped) => Ending::Stopped,
+        Some(PumpEnd::JournalFull) => Ending::JournalFull,
+        Some(PumpEnd::ReadFault) => Ending::ReadFault,
+        Some(PumpEnd::NoMemory) => Ending::NoMemory,
+        Some(PumpEnd::Ended) | Some(PumpEnd::Gone) | None => Ending::Closed,
+    }
+}
+
+/// The ending of a session whose last stream was followed so, and its input pumped so, if it was.
+pub(crate) fn ending_of(followed: Followed, pumped: Option<PumpEnd>) -> Ending
+    ensures { result ≡ ending_of_ends followed pumped }
 {
     match followed {
-        Followed::Whole => Ending::Closed,
+        Followed::Whole => ending_by_pump(pumped),
         Followed::Stopped => Ending::Stopped,
         Followed::Lagged { next, first } => Ending::Lagged { next, first },
         Followed::WriteFault => Ending::WriteFault,
@@ -60,7 +72,7 @@ fn end_stream<K: Sink>(sink: &mut K, terms: Terms, followed: Followed) -> Went
             let written = write_last(sink);
             behind(terms, written)
         }
-        broken => Went::Ends(ending_of(broken)),
+        broken => Went::Ends(ending_of(broken, None)),
     }
 }
 
@@ -89,6 +101,9 @@ fn follow<W: Wait, T: Turns, K: Sink, C: Clock>(
         } => follow_events(
             rt, turns, alloc, conn, *first, *until, filter, true, sink, clock,
         ),
+        Reply::JournalStream { count } => {
+            follow_journal(rt, turns, alloc, conn, *count, true, sink, clock)
+        }
         _ => unreachable!(),
     }
 }
@@ -126,8 +141,8 @@ fn send_stream<W: Wait, T: Turns, K: Sink, C: Clock>(
     }
 }
 
-/// Answers a request for a log or for events by its call: with the stream that it gives, or with its
-/// refusal.
+/// Answers a request for a log, for events or for the journal by its call: with the stream that it gives, or
+/// with its refusal.
 pub(crate) fn stream<W: Wait, T: Turns, K: Sink, C: Clock>(
     rt: &W,
     turns: &mut T,
@@ -142,7 +157,6 @@ pub(crate) fn stream<W: Wait, T: Turns, K: Sink, C: Clock>(
     requires pair { IsTrue (T.pass turns.old).pair }
     requires class { class_of (request_of request.now) ≡ Stream call.now takes.None }
     requires sound { IsSound call.now }
-    requires built { IsTrue (is_built call.now) }
     requires streamed { IsStreamed call.now }
     ensures { Tries conn (request_of request.now) result (T.pass turns.old) (T.pass turns.new) (K.takes sink.old) (K.takes sink.new) (C.times clock.old) (C.times clock.new) }
 {

@@ -1,0 +1,132 @@
+-- A log's stream that takes its connection over, alone or beside the pump of its input.
+use Rattle.std.proofs.Common.{◌≡◌, inl, ℕ, List, [], ◌++◌, append-nil, refl, sym, ◌∙◌, ap, subst, Bool, true, false, length, Option, Some, None}
+use Rattle.std.specs.Prelude.{IsTrue, unwrap_or}
+use Rattle.std.proofs.lemmas.Bool.{false≢true}
+use Rattle.engine_ports.specs.Clock.{ClockView}
+use Rattle.engine_ports.specs.Door.{outside}
+use Rattle.engine_ports.specs.Sink.{SinkView}
+use Rattle.engine_ports.specs.Source.{SourceView}
+use Rattle.engine_ports.proofs.PortLemmas.{source_none}
+use Rattle.engine_text.specs.declared.reply.LogSpec.{LogSpec}
+use Rattle.engine_text.specs.declared.reply.Reply.TheVariants.{LogStream}
+use Rattle.engine_text.specs.declared.step.Step.{Step}
+use Rattle.machine_model.specs.History.{Charter, state_after}
+use Rattle.machine_model.specs.LogStream.{IsLogStream, log_bytes, log_of, log_reach}
+use Rattle.machine_model.specs.State.{State}
+use Rattle.session_model.specs.declared.followed.Followed.{Followed}
+use Rattle.session_model.specs.declared.followed.Followed.TheVariants as F
+use Rattle.session_model.specs.declared.followed.PumpEnd.{PumpEnd}
+use Rattle.session_model.specs.declared.followed.PumpEnd.TheVariants as P
+use Rattle.session_model.specs.Exchange.{IsBody, Pumps, is_whole}
+use Rattle.session_model.specs.Pass.{PassView}
+use Rattle.session_model.specs.Progress.{Moves}
+use Rattle.session_model.specs.Session.{FollowCause, PumpCause}
+use Rattle.session_model.proofs.HistoryLemmas.{extends_same}
+use Rattle.session_model.proofs.MomentLemmas.{moments_weak}
+use Rattle.session_model.proofs.TurnLemmas.{same_pass}
+use Rattle.attach_hub.specs.Following.{Follows, FollowsSince, HasCause, IsTaken, IsWholeBy, MayFollow}
+use Rattle.attach_hub.specs.Sides.{Paired}
+use Rattle.attach_hub.proofs.StillLemmas.{moments_still}
+use Rattle.engine_serve.specs.Overtaking.{GoesOver, RunsOver}
+
+-- ---- its body
+
+-- all of a log's stream is a beginning of it
+unfinished : (s : State) (spec : LogSpec) (body : List ℕ) → IsLogStream s spec true body → IsLogStream s spec false body
+unfinished s spec body (kept, (end, known, is)) =
+    let reach : log_reach s spec ≡ end = ap (λ o. unwrap_or o (length (log_of s spec.owner))) known in
+    (kept, ([], append-nil body ∙ is ∙ ap (log_bytes s spec spec.first) (sym reach)))
+
+begins_so : (whole : Bool) (ch : Charter) (spec : LogSpec) (a b : List Step) (body : List ℕ) → IsBody ch (LogStream spec) whole a b body
+    → IsBody ch (LogStream spec) false a b body
+begins_so true ch spec a b body (at, first, last, is) = (at, first, last, unfinished (state_after ch at) spec body is)
+begins_so false ch spec a b body tells = tells
+
+-- it is whole where the stream was
+told_so : (f : Followed) (whole : Bool) (ch : Charter) (spec : LogSpec) (a b : List Step) (body : List ℕ) → IsWholeBy f whole
+    → IsBody ch (LogStream spec) whole a b body → IsBody ch (LogStream spec) (is_whole f) a b body
+told_so F.Whole whole ch spec a b body is tells = subst (λ x. IsBody ch (LogStream spec) x a b body) is tells
+told_so F.Stopped whole ch spec a b body is tells = subst (λ x. IsBody ch (LogStream spec) x a b body) is tells
+told_so (F.Lagged next first) whole ch spec a b body is tells = subst (λ x. IsBody ch (LogStream spec) x a b body) is tells
+told_so F.NoMemory whole ch spec a b body is tells = subst (λ x. IsBody ch (LogStream spec) x a b body) is tells
+told_so F.WriteFault whole ch spec a b body is tells = begins_so whole ch spec a b body tells
+
+-- what rose outside
+follow_cause : (f : Followed) (s s' : SourceView) (u u' : SinkView) (v v' : ClockView) → HasCause f u u' v v'
+    → FollowCause f (outside s u v) (outside s' u' v')
+follow_cause F.Whole s s' u u' v v' cause = tt
+follow_cause F.Stopped s s' u u' v v' cause = cause
+follow_cause (F.Lagged next first) s s' u u' v v' cause = tt
+follow_cause F.WriteFault s s' u u' v v' cause = cause
+follow_cause F.NoMemory s s' u u' v v' cause = tt
+
+-- ---- where nothing is pumped
+
+goes_alone : (k : ℕ) (pumped : Bool) (p q : PassView) (v v' : ClockView) → IsTrue p.pair → Moves k true p q v v' → GoesOver k pumped p q v v'
+goes_alone k pumped p q v v' pair moves = record {
+  handed = moves.handed;
+  clock = moves.clock;
+  extends = moves.extends;
+  moments = moments_weak p.charter k p.seen q.seen moves.handed moves.moments;
+  same = same_pass p q moves.stays;
+  stays = λ b. moves.stays;
+  input = λ b. inl (moves.stays.pair ∙ pair);
+  within = λ h b. moves.within h;
+}
+
+runs_alone : (k : ℕ) (spec : LogSpec) (f : Followed) (end : Option PumpEnd) (p q : PassView) (ahead : List ℕ) (s : SourceView) (u u' : SinkView)
+    (v v' : ClockView) → IsTrue p.pair → PumpCause end (outside s u v) (outside s u' v') → Pumps p.charter k spec (ahead ++ []) end p.seen q.seen
+    → Follows k (LogStream spec) false f p q u u' v v' → RunsOver k spec f end p q ahead (outside s u v) (outside s u' v')
+runs_alone k spec f end p q ahead s u u' v v' pair cause pumps sent = record {
+  body = sent.body;
+  part = sent.part;
+  pumps = record { read = []; gave = source_none s; holds = pumps };
+  tells = told_so f sent.whole p.charter spec p.seen q.seen sent.body sent.by_end sent.tells;
+  ends = sent.ends;
+  taken = subst (IsTaken f sent.part) sent.pieces sent.taken;
+  sink = sent.sink;
+  cause = (follow_cause f s s u u' v v' sent.cause, cause);
+  goes = goes_alone k _ p q v v' pair sent.moves;
+}
+
+-- its run takes no input
+pub runs_unfed : (k : ℕ) (spec : LogSpec) (f : Followed) (p q : PassView) (ahead : List ℕ) (s : SourceView) (u u' : SinkView)
+    (v v' : ClockView) → IsTrue p.pair → MayFollow (state_after p.charter p.seen) spec → spec.feed ≡ None
+    → FollowsSince k (LogStream spec) false f p q u u' v v' → RunsOver k spec f None p q ahead (outside s u v) (outside s u' v')
+runs_unfed k spec f p q ahead s u u' v v' pair may none since =
+    let sent = since.since p.seen (extends_same p.seen) may in
+    runs_alone k spec f None p q ahead s u u' v v' pair tt (none, sent.quiet pair) sent
+
+-- nothing is fed to it
+pub runs_unpumped : (k n : ℕ) (spec : LogSpec) (f : Followed) (p q : PassView) (ahead : List ℕ) (s : SourceView) (u u' : SinkView)
+    (v v' : ClockView) → IsTrue p.pair → MayFollow (state_after p.charter p.seen) spec → spec.feed ≡ Some n
+    → FollowsSince k (LogStream spec) false f p q u u' v v' → RunsOver k spec f (Some P.NoMemory) p q ahead (outside s u v) (outside s u' v')
+runs_unpumped k n spec f p q ahead s u u' v v' pair may some since =
+    let sent = since.since p.seen (extends_same p.seen) may in
+    runs_alone k spec f (Some P.NoMemory) p q ahead s u u' v v' pair tt (n, some, ([], ahead ++ [], p.seen, refl, refl, sent.quiet pair)) sent
+
+-- ---- where its input is pumped
+
+pub runs_both : (k : ℕ) (spec : LogSpec) (end : PumpEnd) (f : Followed) (p q : PassView) (ahead : List ℕ) (s s' : SourceView)
+    (u u' : SinkView) (v v' : ClockView) → Paired k spec end f p q ahead s s' u u' v v'
+    → RunsOver k spec f (Some end) p q ahead (outside s u v) (outside s' u' v')
+runs_both k spec end f p q ahead s s' u u' v v' both = record {
+  body = both.body;
+  part = both.part;
+  pumps = record { read = both.read; gave = both.source; holds = both.pumps };
+  tells = told_so f both.whole p.charter spec p.seen q.seen both.body both.by_end both.tells;
+  ends = both.ends;
+  taken = both.taken;
+  sink = both.sink;
+  cause = (follow_cause f s s' u u' v v' both.follow_cause, both.pump_cause);
+  goes = record {
+    handed = both.handed;
+    clock = both.clock;
+    extends = both.extends;
+    moments = moments_still p.charter k false p.seen q.seen both.handed both.extends both.still;
+    same = both.same;
+    stays = λ b. absurd (false≢true (sym b));
+    input = both.input;
+    within = λ h b. absurd (false≢true (sym b));
+  };
+}

@@ -1,0 +1,230 @@
+-- A session that ends by a takeover.
+use Rattle.std.proofs.Common.{◌≡◌, inl, inr, ℕ, List, [], ◌∷◌, ◌++◌, append_assoc, refl, sym, ◌∙◌, ap, subst, arith, Bool, true, false, Option, Some, None, Result, Err}
+use Rattle.std.specs.Prelude.{IsTrue}
+use Rattle.engine_ports.specs.Clock.{ClockView}
+use Rattle.engine_ports.specs.Door.{Outside, outside}
+use Rattle.engine_ports.specs.Sink.{SinkView, SinkTook, IsFront, WriteSays}
+use Rattle.engine_ports.specs.Source.{SourceView}
+use Rattle.engine_ports.specs.declared.ports.Failed.{Failed}
+use Rattle.engine_ports.proofs.PortLemmas.{clock_none, clock_on, rose_since, sink_on, source_none}
+use Rattle.engine_text.specs.declared.call.Call.{Call}
+use Rattle.engine_text.specs.declared.reply.LogSpec.{LogSpec}
+use Rattle.engine_text.specs.declared.reply.Reply.{Reply}
+use Rattle.engine_text.specs.declared.reply.Reply.TheVariants.{LogStream}
+use Rattle.engine_text.specs.declared.step.Step.{Step}
+use Rattle.machine_model.specs.History.{Charter, IsLegal}
+use Rattle.http_edge.specs.Held.{Reading}
+use Rattle.http_edge.specs.Message.{Request}
+use Rattle.http_edge.specs.Reader.{NextSays, request_of}
+use Rattle.http_edge.specs.Reading.{Reached}
+use Rattle.http_edge.specs.Spelling.{Begins}
+use Rattle.http_edge.specs.declared.reader.Next.TheVariants as next
+use Rattle.http_edge.specs.declared.view.RequestView.{RequestView}
+use Rattle.api_routes.specs.Class.{class_of}
+use Rattle.api_routes.specs.RouteClass.{takeover}
+use Rattle.api_routes.specs.declared.class.Class.TheVariants.{Stream}
+use Rattle.api_routes.specs.declared.class.Takeover.TheVariants as takes
+use Rattle.session_model.specs.declared.ending.Ending.{Ending}
+use Rattle.session_model.specs.declared.ending.Ending.TheVariants as E
+use Rattle.session_model.specs.declared.followed.Followed.{Followed}
+use Rattle.session_model.specs.declared.followed.Followed.TheVariants as F
+use Rattle.session_model.specs.declared.followed.PumpEnd.{PumpEnd}
+use Rattle.session_model.specs.declared.terms.Terms.{Terms}
+use Rattle.session_model.specs.Exchange.{Flow, Leaves, call_of, IsMade, HeadIsLost, TakenOver}
+use Rattle.session_model.specs.Guarantee.{Serves}
+use Rattle.session_model.specs.Moments.{TakesMoments, StaysWithin, is_whole_flow}
+use Rattle.session_model.specs.Pass.{PassView, Stays}
+use Rattle.session_model.specs.Responses.{takeover_head, head_of_stream, terms_of}
+use Rattle.session_model.specs.Session.{Cause, Exchange, FollowCause, IsWritten, ending_of_ends, is_pumped}
+use Rattle.session_model.proofs.CauseLemmas.{IsLater, cause_since, written_since}
+use Rattle.session_model.proofs.HistoryLemmas.{extends_same, extends_on}
+use Rattle.session_model.proofs.MomentLemmas.{moments_on, moments_quiet, moments_weak, within_on}
+use Rattle.session_model.proofs.HistoryLemmas.{quiet_same}
+use Rattle.session_model.proofs.SessionLemmas.{begins_more}
+use Rattle.session_model.proofs.TurnLemmas.{stays_on, stays_same, same_pass}
+use Rattle.attach_hub.specs.Following.{IsTaken}
+use Rattle.engine_serve.specs.Overtaking.{GoesOver, IsTakenSo, OpensOver, Overtakes, RunsOver}
+use Rattle.engine_serve.proofs.ServeLemmas.{SoFar, read_on}
+use Rattle.engine_serve.proofs.NextLemmas.{Stands, begun}
+
+-- ---- the row
+
+none_not : (upgrade : Bool) → takeover upgrade ≡ takes.None → ⊥
+none_not true h = cc
+none_not false h = cc
+
+head_is : (terms : Terms) (upgrade : Bool) (x : Reply) → takeover_head (takeover upgrade) ≡ head_of_stream terms (takeover upgrade) x
+head_is terms true x = refl
+head_is terms false x = refl
+
+some_not : (c : Call) → Some c ≡ None → ⊥
+some_not c h = cc
+
+broken : (ch : Charter) (k : ℕ) (flow : Flow) (f : Followed) (end : Option PumpEnd) (a b : List Step) (ms : List ℕ) → flow ≡ Leaves f end
+    → TakesMoments ch k false a b ms → TakesMoments ch k (is_whole_flow flow) a b ms
+broken ch k flow f end a b ms is moments = subst (λ x. TakesMoments ch k (is_whole_flow x) a b ms) (sym is) moments
+
+-- the call was made, and then the connection was taken over, or the head was lost
+exchange_over : (ch : Charter) (k : ℕ) (r : Request) (upgrade : Bool) (spec : LogSpec) (flow : Flow) (whole behind : List ℕ) (a b d : List Step)
+    (ms ns : List ℕ) (c : Call) → class_of r ≡ Stream c (takeover upgrade) → IsMade ch k k c a b (LogStream spec) → TakesMoments ch k true a b ms
+    → TakesMoments ch k false b d ns → IsTakenSo ch k upgrade spec flow whole b d behind → Exchange ch k r behind flow a d whole (ms ++ ns)
+exchange_over ch k r upgrade spec flow whole behind a b d ms ns c class made first last (inl (same, flows, is)) = record {
+  kind = HeadIsLost c (takeover upgrade) (LogStream spec) class (subst (λ h. IsMade ch k k c a h (LogStream spec)) same made) refl;
+  flow_is = flows;
+  bytes = is ∙ head_is (terms_of r) upgrade (LogStream spec);
+  moments = broken ch k flow F.WriteFault None a d (ms ++ ns) flows (moments_on ch k false a b d ms ns (moments_weak ch k a b ms first) last);
+  unasked = λ none. absurd (some_not c (sym (ap call_of class) ∙ none));
+}
+exchange_over ch k r upgrade spec flow whole behind a b d ms ns c class made first last (inr (f, end, body, pumps, tells, ends, flows, is)) = record {
+  kind = TakenOver c (takeover upgrade) spec f end b body class (none_not upgrade) made pumps tells ends;
+  flow_is = flows;
+  bytes = is;
+  moments = broken ch k flow f end a d (ms ++ ns) flows (moments_on ch k false a b d ms ns (moments_weak ch k a b ms first) last);
+  unasked = λ none. absurd (some_not c (sym (ap call_of class) ∙ none));
+}
+
+-- ---- the session
+
+-- a takeover ends it: what was read behind the request is the takeover's
+ended_over : (k : ℕ) (r : Request) (upgrade : Bool) (spec : LogSpec) (e : Ending) (p q m n : PassView) (s s1 s2 s3 : SourceView)
+    (u u1 u3 : SinkView) (t t1 t2 t3 : ClockView) (held ahead : List ℕ) → SoFar k p q s s1 u u1 t t1 held
+    → Reached held s1 s2 (λ all. Begins all r ahead) → OpensOver k r upgrade spec q m t1 t2
+    → Overtakes k upgrade spec e m n ahead (outside s2 u1 t2) (outside s3 u3 t3) → IsLegal n.charter n.seen
+    → Serves k e p n (outside s u t) (outside s3 u3 t3)
+ended_over k r upgrade spec e p q m n s s1 s2 s3 u u1 u3 t t1 t2 t3 held ahead so next opens over legal =
+    let now = read_on k p q s s1 s2 u u1 t t1 held next.read (held ++ next.read) so next.gave refl in
+    let more : List ℕ = over.told.read in
+    let all = read_on k p q s s2 s3 u u1 t t1 (held ++ next.read) more ((held ++ next.read) ++ more) now over.told.gave refl in
+    let late : List ℕ = opens.moves.handed ++ over.goes.handed in
+    let stays : Stays p m = stays_on p q m all.stays opens.moves.stays in
+    let later : IsLater (outside s u t) (outside s2 u1 t2) = record {
+      reads = now.source.faults;
+      ends = now.source.ends;
+      writes = now.sink.faults;
+      stops = omega (arith, now.clock.stops, opens.moves.clock.stops);
+    } in
+    record {
+      read = all.read;
+      written = all.written ++ over.part;
+      handed = all.handed ++ late;
+      source = all.source;
+      sink = sink_on u u1 u3 all.written over.part all.sink over.sink;
+      clock = clock_on t t1 t3 all.handed late all.clock (clock_on t1 t2 t3 opens.moves.handed over.goes.handed opens.moves.clock over.goes.clock);
+      extends = extends_on p.seen q.seen n.seen all.extends (extends_on q.seen m.seen n.seen opens.moves.extends over.goes.extends);
+      legal = legal;
+      same = record {
+        joined_calls = refl;
+        number = over.goes.same.number ∙ stays.number;
+        pair = refl;
+        charter = over.goes.same.charter ∙ stays.charter;
+        alone = over.goes.same.alone ∙ stays.alone;
+        home = over.goes.same.home ∙ stays.home;
+      };
+      pumps = is_pumped over.flow;
+      stays = λ b. stays_on p m n stays (over.goes.stays b);
+      input = over.goes.input;
+      within = λ h b. within_on p.charter p.seen q.seen n.seen all.handed late (all.within h)
+          (within_on p.charter q.seen m.seen n.seen opens.moves.handed over.goes.handed
+          (subst (λ ch. StaysWithin ch q.seen m.seen opens.moves.handed) all.stays.charter (opens.moves.within (all.stays.alone ∙ h)))
+          (subst (λ ch. StaysWithin ch m.seen n.seen over.goes.handed) stays.charter (over.goes.within (stays.alone ∙ h) b)));
+      session = record {
+        done = all.done;
+        tail = (held ++ next.read) ++ more;
+        mid = q.seen;
+        bytes = all.written;
+        last = over.part;
+        early = all.handed;
+        late = late;
+        requests = all.requests;
+        answered = all.answered;
+        ends = inr (
+          r,
+          ahead ++ more,
+          begins_more (held ++ next.read) r ahead more next.holds,
+          record {
+            flow = over.flow;
+            whole = over.whole;
+            exchange = exchange_over p.charter k r upgrade spec over.flow over.whole (ahead ++ more) q.seen m.seen n.seen
+                opens.moves.handed over.goes.handed opens.call opens.class
+                (subst (λ ch. IsMade ch k k opens.call q.seen m.seen (LogStream spec)) all.stays.charter opens.made)
+                (subst (λ ch. TakesMoments ch k true q.seen m.seen opens.moves.handed) all.stays.charter opens.moves.moments)
+                (subst (λ ch. TakesMoments ch k false m.seen n.seen over.goes.handed) stays.charter over.goes.moments)
+                (subst (λ ch. IsTakenSo ch k upgrade spec over.flow over.whole m.seen n.seen (ahead ++ more)) stays.charter over.told.holds);
+            written = written_since e over.flow over.whole over.part u u1 u3 now.sink.faults over.written;
+            cause = cause_since over.flow (outside s u t) (outside s2 u1 t2) (outside s3 u3 t3) later over.cause;
+            pumped = refl;
+          },
+        );
+        wrote = refl;
+        handed = refl;
+      };
+    }
+
+pub ends_over : (k : ℕ) (view : RequestView) (upgrade : Bool) (spec : LogSpec) (e : Ending) (p q m n : PassView) (s s1 s2 s3 : SourceView)
+    (u u1 u2 u3 : SinkView) (t t1 t2 t3 : ClockView) (old new : Reading) → Stands k p q s s1 u u1 t t1 old
+    → NextSays old new (next.Request view) s1 s2 → OpensOver k (request_of view) upgrade spec q m t1 t2 → u2 ≡ u1
+    → Overtakes k upgrade spec e m n new.ahead (outside s2 u2 t2) (outside s3 u3 t3) → IsLegal n.charter n.seen
+    → Serves k e p n (outside s u t) (outside s3 u3 t3)
+ends_over k view upgrade spec e p q m n s s1 s2 s3 u u1 u2 u3 t t1 t2 t3 old new st says opens same over legal =
+    ended_over k (request_of view) upgrade spec e p q m n s s1 s2 s3 u u1 u3 t t1 t2 t3 old.ahead new.ahead st.so_far
+    (begun old.ahead s1 s2 (request_of view) _ new.ahead says.2) opens
+    (subst (λ x. Overtakes k upgrade spec e m n new.ahead (outside s2 x t2) (outside s3 u3 t3)) same over) legal
+
+-- ---- the takeover
+
+goes_same : (k : ℕ) (pumped : Bool) (p : PassView) (v : ClockView) → IsTrue p.pair → GoesOver k pumped p p v v
+goes_same k pumped p v pair = record {
+  handed = [];
+  clock = clock_none v;
+  extends = extends_same p.seen;
+  moments = moments_quiet p.charter k false p.seen p.seen [] (quiet_same k p.seen);
+  same = same_pass p p (stays_same p);
+  stays = λ b. stays_same p;
+  input = λ b. inl pair;
+  within = λ h b. omega arith;
+}
+
+-- the head's write failed
+pub head_lost : (k : ℕ) (upgrade : Bool) (spec : LogSpec) (f : Failed) (p : PassView) (ahead : List ℕ) (s : SourceView) (u u' : SinkView)
+    (t : ClockView) → IsTrue p.pair → WriteSays (Err f) (takeover_head (takeover upgrade)) u u'
+    → Overtakes k upgrade spec E.WriteFault p p ahead (outside s u t) (outside s u' t)
+head_lost k upgrade spec f p ahead s u u' t pair (part, front, took, rose) = record {
+  flow = Leaves F.WriteFault None;
+  whole = takeover_head (takeover upgrade);
+  part = part;
+  told = record { read = []; gave = source_none s; holds = inl (refl, refl, refl) };
+  written = inr (refl, front, rose);
+  sink = took;
+  cause = (rose, tt);
+  goes = goes_same k false p t pair;
+}
+
+-- behind the head as much was written as the sink took
+written_over : (f : Followed) (end : Option PumpEnd) (head body part : List ℕ) (o o' : Outside) (u : SinkView) → SinkTook u head o.sink
+    → IsTaken f part body → FollowCause f o o' → IsWritten (ending_of_ends f end) (Leaves f end) (head ++ body) (head ++ part) u o'.sink
+written_over F.Whole end head body part o o' u took taken cause = inl (refl, ap (λ x. head ++ x) taken)
+written_over F.Stopped end head body part o o' u took taken cause = inl (refl, ap (λ x. head ++ x) taken)
+written_over (F.Lagged next first) end head body part o o' u took taken cause = inl (refl, ap (λ x. head ++ x) taken)
+written_over F.NoMemory end head body part o o' u took taken cause = inl (refl, ap (λ x. head ++ x) taken)
+written_over F.WriteFault end head body part o o' u took (cut, front) cause =
+    inr (refl, (cut, append_assoc head part cut ∙ ap (λ x. head ++ x) front), rose_since u.faults o.sink.faults o'.sink.faults took.faults cause)
+
+-- the head was written, and the stream followed
+pub taken_over : (k : ℕ) (upgrade : Bool) (spec : LogSpec) (f : Followed) (end : Option PumpEnd) (e : Ending) (p q : PassView) (ahead : List ℕ)
+    (s s' : SourceView) (u v u' : SinkView) (t t' : ClockView) → SinkTook u (takeover_head (takeover upgrade)) v
+    → RunsOver k spec f end p q ahead (outside s v t) (outside s' u' t') → e ≡ ending_of_ends f end
+    → Overtakes k upgrade spec e p q ahead (outside s u t) (outside s' u' t')
+taken_over k upgrade spec f end e p q ahead s s' u v u' t t' head runs is =
+    let bytes : List ℕ = takeover_head (takeover upgrade) in
+    let later : IsLater (outside s u t) (outside s v t) = record { reads = omega arith; ends = omega arith; writes = head.faults; stops = omega arith } in
+    record {
+      flow = Leaves f end;
+      whole = bytes ++ runs.body;
+      part = bytes ++ runs.part;
+      told = record { read = runs.pumps.read; gave = runs.pumps.gave; holds = inr (f, end, runs.body, runs.pumps.holds, runs.tells, runs.ends, refl, refl) };
+      written = subst (λ x. IsWritten x (Leaves f end) (bytes ++ runs.body) (bytes ++ runs.part) u u') (sym is)
+          (written_over f end bytes runs.body runs.part (outside s v t) (outside s' u' t') u head runs.taken runs.cause.0);
+      sink = sink_on u v u' bytes runs.part head runs.sink;
+      cause = cause_since (Leaves f end) (outside s u t) (outside s v t) (outside s' u' t') later runs.cause;
+      goes = runs.goes;
+    }

@@ -1,0 +1,104 @@
+-- A connection that is taken over by a log's stream (Docker Engine API v1.43, ContainerAttach and ExecStart; own: what is written, and
+-- how the session ends).
+use Rattle.std.specs.Prelude.{ℕ, ◌≡◌, ◌⊎◌, Bool, true, false, List, ◌++◌, Option, Some, None, IsTrue, IsFalse}
+use Rattle.engine_ports.specs.Clock.{ClockView, ClockHanded}
+use Rattle.engine_ports.specs.Door.{Outside}
+use Rattle.engine_ports.specs.Sink.{SinkView, SinkTook}
+use Rattle.engine_text.specs.declared.call.Call.{Call}
+use Rattle.engine_text.specs.declared.call.Call.TheVariants as call
+use Rattle.engine_text.specs.declared.reply.LogSpec.{LogSpec}
+use Rattle.engine_text.specs.declared.reply.Reply.{Reply}
+use Rattle.engine_text.specs.declared.reply.Reply.TheVariants.{LogStream}
+use Rattle.engine_text.specs.declared.step.Step.{Step}
+use Rattle.machine_model.specs.History.{Charter, Extends, state_after}
+use Rattle.http_edge.specs.Message.{Request}
+use Rattle.http_edge.specs.Reading.{Reached}
+use Rattle.api_routes.specs.Class.{class_of}
+use Rattle.api_routes.specs.RouteClass.{takeover}
+use Rattle.api_routes.specs.declared.class.Class.TheVariants.{Stream}
+use Rattle.session_model.specs.declared.ending.Ending.{Ending}
+use Rattle.session_model.specs.declared.followed.Followed.{Followed}
+use Rattle.session_model.specs.declared.followed.Followed.TheVariants as F
+use Rattle.session_model.specs.declared.followed.PumpEnd.{PumpEnd}
+use Rattle.session_model.specs.Exchange.{Flow, Leaves, IsBody, IsMade, EndsSo, Pumps, is_whole}
+use Rattle.session_model.specs.Moments.{TakesMoments, StaysWithin}
+use Rattle.session_model.specs.Pass.{PassView, Stays, KeepsInput}
+use Rattle.session_model.specs.Progress.{Moves}
+use Rattle.session_model.specs.Responses.{takeover_head}
+use Rattle.session_model.specs.Session.{Cause, IsWritten, is_pumped}
+use Rattle.attach_hub.specs.Following.{IsTaken, MayFollow}
+use Rattle.engine_serve.specs.declared.went.Tried.{Tried}
+use Rattle.engine_serve.specs.Serving.{Tries}
+
+-- the calls whose streams take the connection over: an attach, and an exec's start that isn't detached
+abbrev pub IsAttaching : Call → Type 0
+IsAttaching (call.Attach target ask) = Unit {0}
+IsAttaching (call.ExecStart id false) = Unit {0}
+IsAttaching c = ⊥
+
+-- the log's stream that a reply gives
+abbrev pub stream_of : Reply → Option LogSpec
+stream_of (LogStream spec) = Some spec
+stream_of reply = None
+
+-- ---- a takeover begins
+
+-- the request's call was made, and gave the stream that its connection is taken over for
+pub record OpensOver (k : ℕ) (r : Request) (upgrade : Bool) (spec : LogSpec) (p q : PassView) (v v' : ClockView) : Type 0 where
+  pub call : Call
+  pub class : class_of r ≡ Stream call (takeover upgrade)
+  pub made : IsMade p.charter k k call p.seen q.seen (LogStream spec)
+  pub may : MayFollow (state_after q.charter q.seen) spec
+  pub moves : Moves k true p q v v'
+
+-- a request was answered; or a takeover begins, of which nothing is written yet
+abbrev pub TriesSo : ℕ → Request → Tried → PassView → PassView → SinkView → SinkView → ClockView → ClockView → Type 0
+TriesSo k r (Tried.Answered went) p q u u' v v' = Tries k r went p q u u' v v'
+TriesSo k r (Tried.Over upgrade spec) p q u u' v v' = OpensOver k r upgrade spec p q v v' × (u' ≡ u)
+
+-- ---- a connection is taken over
+
+-- the pass went on, and the calls of the connection took moments of the clock. The number of its input may be given away only
+-- where input is pumped, and then the calls of that are joined in
+pub record GoesOver (k : ℕ) (pumped : Bool) (p q : PassView) (v v' : ClockView) : Type 0 where
+  pub handed : List ℕ
+  pub clock : ClockHanded v handed v'
+  pub extends : Extends p.seen q.seen
+  pub moments : TakesMoments p.charter k false p.seen q.seen handed
+  pub same : Stays (record p { joined_calls = q.joined_calls; pair = q.pair }) q
+  pub stays : IsFalse pumped → Stays p q
+  pub input : IsFalse q.alone → KeepsInput k q
+  pub within : IsTrue p.alone → IsFalse pumped → StaysWithin p.charter p.seen q.seen handed
+
+-- behind the head the stream was followed, and what came behind the request was pumped, if input is fed: a body, of which a
+-- write failed or not, beside what else the pass and the outside tell
+pub record RunsOver (k : ℕ) (spec : LogSpec) (f : Followed) (end : Option PumpEnd) (p q : PassView) (ahead : List ℕ) (o o' : Outside) : Type 0 where
+  pub body : List ℕ
+  pub part : List ℕ
+  pub pumps : Reached ahead o.source o'.source (λ behind. Pumps p.charter k spec behind end p.seen q.seen)
+  pub tells : IsBody p.charter (LogStream spec) (is_whole f) p.seen q.seen body
+  pub ends : EndsSo p.charter (LogStream spec) f body p.seen q.seen
+  pub taken : IsTaken f part body
+  pub sink : SinkTook o.sink part o'.sink
+  pub cause : Cause (Leaves f end) o o'
+  pub goes : GoesOver k (is_pumped (Leaves f end)) p q o.clock o'.clock
+
+-- of the bytes behind the request: the head, of which a write failed; or the head and a body that was followed, while the
+-- bytes were pumped, where input is fed
+abbrev pub IsTakenSo : Charter → ℕ → Bool → LogSpec → Flow → List ℕ → List Step → List Step → List ℕ → Type 0
+IsTakenSo ch k upgrade spec flow whole a b behind =
+    ((a ≡ b) × (flow ≡ Leaves F.WriteFault None) × (whole ≡ takeover_head (takeover upgrade)))
+    ⊎ ((f : Followed) × (end : Option PumpEnd) × (body : List ℕ) × Pumps ch k spec behind end a b
+    × IsBody ch (LogStream spec) (is_whole f) a b body × EndsSo ch (LogStream spec) f body a b
+    × (flow ≡ Leaves f end) × (whole ≡ takeover_head (takeover upgrade) ++ body))
+
+-- the connection was taken over with these bytes read ahead, and the session ends so
+pub record Overtakes (k : ℕ) (upgrade : Bool) (spec : LogSpec) (e : Ending) (p q : PassView) (ahead : List ℕ) (o o' : Outside) : Type 0 where
+  pub flow : Flow
+  pub whole : List ℕ
+  pub part : List ℕ
+  pub told : Reached ahead o.source o'.source (IsTakenSo p.charter k upgrade spec flow whole p.seen q.seen)
+  pub written : IsWritten e flow whole part o.sink o'.sink
+  pub sink : SinkTook o.sink part o'.sink
+  pub cause : Cause flow o o'
+  pub goes : GoesOver k (is_pumped flow) p q o.clock o'.clock
