@@ -10,6 +10,7 @@ use Rattle.machine_model.specs.History.{input_of}
 use Rattle.session_model.specs.Pass.{Only, KeepsInput}
 use Rattle.session_model.specs.declared.ending.Worst.{Worst}
 use Rattle.session_model.specs.declared.ending.Worst.TheVariants as worst
+use Rattle.daemon_core.specs.Keeping.{history_of}
 use Rattle.daemon_core.specs.declared.daemon.Daemon.{Daemon}
 use Rattle.daemon_core.specs.Passing.{whole_pass}
 use Rattle.daemon_core.specs.Storing.{pass_of}
@@ -170,8 +171,8 @@ halts_on worst.Refused most n m d d1 d2 e c f never = absurd never
 
 -- ---- the daemon that is left
 
-whole_same : (d : Daemon) (o : Opening) → opening_in d ≡ o → whole_pass d ≡ pass_of (charter_by o) d.stored.steps.items
-whole_same d o e = ap (λ x. pass_of (charter_by x) d.stored.steps.items) e
+whole_same : (d : Daemon) (o : Opening) → opening_in d ≡ o → whole_pass d ≡ pass_of (charter_by o) (history_of d.stored.journal)
+whole_same d o e = ap (λ x. pass_of (charter_by x) (history_of d.stored.journal)) e
 
 module _ {Q S K C P : Type 0} (seat : Q → SharedSeat) (told : S → K → C → Outside) (tells : P → Outside) (steps : Option (ℕ × ℕ)) where
   pub runs : (table : TableId) (oc : Option Opening) (o : Opening) (most m' : ℕ) (root : SharedSeat) (one : OneDaemon) (w : Worst) (d d' : DoorView) → oc ≡ Some o → most ≡ m'
@@ -180,7 +181,7 @@ module _ {Q S K C P : Type 0} (seat : Q → SharedSeat) (told : S → K → C �
       → RunsDaemon (charter_by o) steps m' w one.daemon.value d d'
   runs table oc o most m' root one w d d' is_o is_m s0 m =
       let s = subst (λ (z : Option Opening × ℕ). ServesAll seat told tells steps table z.0 z.1 root w d d') (λ i. (is_o i, is_m i)) s0 in
-      let h = one.daemon.value.stored.steps.items in
+      let h = (history_of one.daemon.value.stored.journal) in
       let so = s.begins in
       let same : opening_in one.daemon.value ≡ o = some_same _ o (sym m.one_charter ∙ s.is_root.charter) in
       let all = all_lived seat told tells steps table o h root.me.0 m.more m.goes_on m.stand 0 s.xs s.closes.rs so.running s.closes.taken in

@@ -16,7 +16,7 @@ use Rattle.turnstile.specs.Turns.{Looked}
 use Rattle.turnstile.proofs.Totals.{times-append}
 use Rattle.daemon_shared.specs.declared.one_daemon.Opening.{Opening}
 use Rattle.daemon_shared.specs.Sharing.{author_of, charter_in, IsKept, with_calls, shared_pass, home_of}
-use Rattle.daemon_shared.specs.Pairing.{Parted, IsOther, Rejoined}
+use Rattle.daemon_core.specs.Pairing.{Parted, IsOther, Rejoined}
 use Rattle.daemon_shared.proofs.TurnLemmas.{by_same}
 
 each_behind : (P : Claim Step → Type 0) (a b : List (Claim Step)) → Each P (a ++ b) → Each P b
@@ -83,6 +83,7 @@ parted_off k t0 t1 t3 v from v' w low num looked left right new home home' =
       number = ap Only num;
       own = ap Only number_w;
       home = ap home_of home';
+      charter = ap (λ (x : View Step Opening). charter_in x.charter) right ∙ ap (λ (x : View Step Opening). charter_in x.charter) looked.after;
       none_joined = ap (λ (x : View Step Opening). map (with_calls w.seen) x.joined_calls) right;
       behind = (looked.others.more, seen_v ∙ grows);
       seen = seen_w ∙ sym seen_v;

@@ -14,9 +14,12 @@ use Rattle.session_model.specs.declared.turned.Part.{Part}
 use Rattle.session_model.specs.declared.turned.Turned.{Turned}
 use Rattle.session_model.specs.Pass.{Only, is_call}
 use Rattle.session_model.specs.Turning.{Turns, Turn, TurnSays, MayAsk, HasBegun, ends_ticket}
-use Rattle.call_bounds.specs.Built.{AreBuilt}
+use Rattle.daemon_core.specs.JournalTurns.{JournalSays, JournalTurn}
+use Rattle.daemon_core.specs.Keeping.{history_of}
 use Rattle.daemon_core.specs.PartTurns.{PartDues, PartTurn}
 use Rattle.daemon_core.specs.Storing.{pass_of}
+use Rattle.daemon_core.specs.declared.daemon.Daemon.{Daemon}
+use Rattle.daemon_core.proofs.CountLemmas.{bits_count}
 use Rattle.daemon_core.proofs.EventLemmas.{counted_on}
 use Rattle.atomic_table.specs.Seated.{TableId}
 use Rattle.atomic_table.specs.declared.shared.Seat.{Seat}
@@ -28,7 +31,7 @@ use Rattle.turnstile.proofs.Lists.{none_of_others}
 use Rattle.turnstile.specs.Turns.{IsPass, EachMet, Turned as TurnedBy}
 use Rattle.daemon_shared.specs.declared.one_daemon.OneDaemon.{OneDaemon}
 use Rattle.daemon_shared.specs.declared.one_daemon.Opening.{Opening}
-use Rattle.daemon_shared.specs.Sharing.{author_of, charter_by, IsKept, charter_in, with_calls, shared_pass, home_of, MayMeet, Makes, MakesPart}
+use Rattle.daemon_shared.specs.Sharing.{author_of, charter_by, IsKept, charter_in, opening_in, with_calls, shared_pass, home_of, Makes, MakesPart, LooksAt}
 
 -- ---- steps of one number
 
@@ -122,13 +125,11 @@ may_on ch k h h' xs (Some (call.Drop n)) q at m = (m.0, begun_on ch k n h h' xs 
 may_on ch k h h' xs (Some c) q at m = m
 
 -- what could be asked can be asked of every history that the turn may meet
-pub each_met : (k : ℕ) (c : Option Call) (v : View Step Opening) → v.number ≡ k → MayAsk (charter_in v.charter) k v.seen c → AreBuilt c
-    → EachMet author_of IsKept v (λ o h. MayMeet o k h c)
-each_met k c v num may built o h is legal others =
-    let none : HasNoCall k others.more = sym (by_same k others.more) ∙ subst (λ n. steps_by author_of n others.more ≡ []) num others.none_own in (
-      may_on (charter_by o) k v.seen h others.more c none others.is (subst (λ x. MayAsk x k v.seen c) (ap charter_in is) may),
-      built,
-    )
+pub each_met : (k : ℕ) (c : Option Call) (v : View Step Opening) → v.number ≡ k → MayAsk (charter_in v.charter) k v.seen c
+    → EachMet author_of IsKept v (λ o h. MayAsk (charter_by o) k h c)
+each_met k c v num may o h is legal others =
+    let none : HasNoCall k others.more = sym (by_same k others.more) ∙ subst (λ n. steps_by author_of n others.more ≡ []) num others.none_own in
+    may_on (charter_by o) k v.seen h others.more c none others.is (subst (λ x. MayAsk x k v.seen c) (ap charter_in is) may)
 
 -- nor has it fewer events
 pub counted_met : (number : ℕ) (v : View Step Opening) → number ≤ length (events_of (charter_in v.charter) v.seen)
@@ -163,6 +164,10 @@ counted_same k met seen more own (c ∷ cs) apart stand only =
     ap (λ x. (c.0, x) ∷ map (with_calls (seen ++ more ++ own)) cs) here ∙ ap (λ l. (c.0, calls_of c.0 seen) ∷ l) (counted_same k met seen more own cs p.1 stand.1 only)
 
 -- ---- a turn
+
+-- a daemon's history is legal, and 64 bits count its steps
+pub kept_by : (d : Daemon) → IsKept (opening_in d) (history_of d.stored.journal)
+kept_by d = (d.legal, bits_count (charter_by (opening_in d)) (history_of d.stored.journal) d.legal)
 
 -- what a daemon's own turn makes
 pub makes_of : (o : Opening) (ch' : Charter) (k handed : ℕ) (c : Option Call) (a : Turned) (h h' : List Step)
@@ -272,6 +277,20 @@ shared_part table table' same_table k handed a told v w num apart t =
       turns = shared_turns table table' same_table k (λ o h h'. MakesPart o k handed a told h h') v w num apart t own t.answer.is t.answer.only;
       dues = subst (λ (z : Charter × List Step). Dues (state_after z.0 z.1)) (λ i. (sym under i, t.others.is i)) t.answer.dues;
       says = subst (λ ch. told ch w.seen) (sym under) t.answer.says;
+    }
+
+-- a part of the journal, which makes no step
+pub shared_look : (t t' : TableId) → t' ≡ t → (k number : ℕ) (a : Part) (old new : List ℕ) (v w : View Step Opening)
+    → v.number ≡ k → times v.number v.joined_calls ≡ 0 → TurnedBy author_of IsKept (λ o h h'. LooksAt o number a old new h h') v w
+    → JournalTurn k number a old new (shared_pass t v) (shared_pass t' w)
+unfolding shared_turns
+shared_look table table' same_table k number a old new v w num apart t =
+    let under : charter_in v.charter ≡ charter_by t.charter = ap charter_in t.charter_is in
+    record {
+      turns = shared_turns table table' same_table k (λ o h h'. LooksAt o number a old new h h') v w num apart t []
+          (t.answer.0 ∙ sym (append-nil t.met)) refl;
+      still = refl;
+      says = subst (λ ch. JournalSays ch w.seen number a old new) (sym under) t.answer.1;
     }
 
 -- ---- the pass

@@ -3,4 +3,3 @@ pub mod Worsts
 pub mod Running
 pub mod Sessions
 pub mod Threads
-pub mod Pairing

@@ -7,8 +7,8 @@ use Rattle.machine_model.specs.History.{Charter, state_after, moment_used, calls
 use Rattle.session_model.specs.declared.turned.Part.{Part}
 use Rattle.session_model.specs.declared.turned.Turned.{Turned}
 use Rattle.session_model.specs.Pass.{PassView, Only, is_call}
-use Rattle.session_model.specs.Turning.{MayAsk, TurnSays}
-use Rattle.call_bounds.specs.Built.{AreBuilt}
+use Rattle.session_model.specs.Turning.{TurnSays}
+use Rattle.daemon_core.specs.JournalTurns.{JournalSays}
 use Rattle.daemon_core.specs.PartTurns.{PartDues}
 use Rattle.daemon_core.specs.Storing.{charter_of, IsStored}
 use Rattle.daemon_core.specs.declared.daemon.Daemon.{Daemon}
@@ -58,10 +58,6 @@ shared_pass t v = record {
   home = home_of t;
 }
 
--- a call that connection k may make in the history h
-abbrev pub MayMeet : Opening → ℕ → List Step → Option Call → Type 0
-MayMeet o k h c = MayAsk (charter_by o) k h c × AreBuilt c
-
 -- a turn in the history h made its own steps, and gave this answer
 pub record Makes (o : Opening) (k handed : ℕ) (c : Option Call) (a : Turned)
     (h h' : List Step) : Type 0 where
@@ -78,3 +74,7 @@ pub record MakesPart (o : Opening) (k handed : ℕ) (a : Part) (told : Charter �
   pub only : filter is_call own ≡ calls_of k own
   pub dues : PartDues (state_after (charter_by o) h) (moment_used (state_after (charter_by o) h) handed) a own
   pub says : told (charter_by o) h'
+
+-- a part of the journal was asked for in the history h, and no step was made
+abbrev pub LooksAt : Opening → ℕ → Part → List ℕ → List ℕ → List Step → List Step → Type 0
+LooksAt o number a old new h h' = (h' ≡ h) × JournalSays (charter_by o) h' number a old new

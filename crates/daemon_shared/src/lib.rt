@@ -6,6 +6,7 @@ mod daemon_run;
 mod event_job;
 mod gate;
 mod hall;
+mod journal_job;
 mod log_job;
 mod one_daemon;
 mod pairing;
@@ -17,7 +18,6 @@ mod worsts;
 
 pub use daemon_run::run_daemon;
 pub use one_daemon::{OneDaemon, Opening, open};
-pub use pairing::Pairs;
 pub use room::serve_by;
 pub use shared::{Shared, TurnJob};
 pub use worsts::called_by;

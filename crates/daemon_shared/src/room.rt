@@ -8,12 +8,13 @@ ghost use Rattle.daemon_shared.specs.Running.{ServesBy};
 use crate::hall::{Begun, Ended, Hall, Seated};
 use crate::one_daemon::OneDaemon;
 use crate::shared::Shared;
-use daemon_core::Turns;
+use daemon_core::{Pairs, Turns};
 use engine_ports::{Clock, Parting, Sink, Source};
 use engine_serve::{OwnClock, serve};
 use session_model::Ending;
 use std::alloc::Global;
 use std::sync::Wait;
+use std::thread::Threads;
 use turnstile::{Pass, Turnstile};
 
 /// The daemon behind its turnstile, and the runtime by which its turns wait.
@@ -45,7 +46,7 @@ impl<'a, R: Wait + Sync> Hall for Room<'a, R> {
 
 /// Serves a connection by its clock, or by one of its own that begins at a moment, in milliseconds,
 /// and adds a step at each reading.
-pub fn serve_by<R: Wait, U: Turns, F: Source, I: Sink, T: Clock>(
+pub fn serve_by<R: Threads + Wait + Sync, U: Pairs, F: Source, I: Sink, T: Clock>(
     rt: &R,
     turns: &mut U,
     alloc: Global,
@@ -72,7 +73,7 @@ pub fn serve_by<R: Wait, U: Turns, F: Source, I: Sink, T: Clock>(
 }
 
 /// Serves a connection by its pass, and parts it.
-pub fn session<R: Wait, F: Source, I: Sink, T: Clock, P: Parting<F, I, T>>(
+pub fn session<R: Threads + Wait + Sync, F: Source, I: Sink, T: Clock, P: Parting<F, I, T>>(
     room: &Room<'_, R>,
     alloc: Global,
     steps: Option<(u64, u64)>,

@@ -8,6 +8,7 @@ ghost use Rattle.daemon_shared.specs.Sharing.{charter_in, with_calls, shared_pas
 ghost use Rattle.std.proofs.lemmas.List.Elements.{All-map};
 
 use crate::event_job::EventJob;
+use crate::journal_job::JournalJob;
 use crate::log_job::LogJob;
 use crate::one_daemon::OneDaemon;
 use daemon_core::Turns;
@@ -29,13 +30,14 @@ pub struct TurnJob<'c> {
 
 impl<'c> Job<OneDaemon> for TurnJob<'c> {
     ghost use Rattle.std.specs.Option.{option_map};
-    ghost use Rattle.daemon_shared.specs.Sharing.{Makes, MayMeet};
+    ghost use Rattle.session_model.specs.Turning.{MayAsk};
+    ghost use Rattle.daemon_shared.specs.Sharing.{Makes, charter_by};
 
     type Answer = Turned;
 
     ghost number = { λ j. j.conn };
 
-    ghost may_meet = { λ j o h. MayMeet o j.conn h (option_map (λ c. c.now) j.call) };
+    ghost may_meet = { λ j o h. MayAsk (charter_by o) j.conn h (option_map (λ c. c.now) j.call) };
 
     ghost may_answer = { λ j o h k a i.
         Makes o j.conn j.handed (option_map (λ c. c.now) j.call) a h k };
@@ -145,6 +147,19 @@ impl<'a, R: Wait> Turns for Shared<'a, R> {
             place: number,
             filter,
             until,
+            out: so_far,
+        };
+        let part = self.lock.turn(self.rt, &mut self.pass, &mut job);
+        *out = job.out;
+        part
+    }
+
+    fn journal_from(&mut self, alloc: Global, conn: u32, number: u64, out: &mut Vec<u8>) -> Part {
+        let so_far = mem::replace(&mut *out, Vec::new(alloc));
+        let mut job = JournalJob {
+            alloc,
+            conn,
+            place: number,
             out: so_far,
         };
         let part = self.lock.turn(self.rt, &mut self.pass, &mut job);

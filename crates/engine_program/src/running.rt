@@ -17,6 +17,7 @@ use engine_text::NoMemory;
 use session_model::Worst;
 use std::alloc::Global;
 use std::sync::Wait;
+use std::thread::Threads;
 
 /// A daemon without history, as the line sets it, opened at a moment.
 fn daemon_of(alloc: Global, line: Line, opening: u64) -> Result<Daemon, NoMemory>
@@ -27,8 +28,8 @@ fn daemon_of(alloc: Global, line: Line, opening: u64) -> Result<Daemon, NoMemory
 }
 
 /// Serves one connection with a new daemon, by the line's clock or by the handed one.
-pub fn run_session<W: Wait, S: Source, K: Sink, C: Clock>(
-    rt: &W,
+pub fn run_session<R: Threads + Wait + Sync, S: Source, K: Sink, C: Clock>(
+    rt: &R,
     alloc: Global,
     line: Line,
     source: &mut S,

@@ -1,18 +1,22 @@
+use Rattle.daemon_core.specs.Keeping.{history_of}
 use Rattle.daemon_shared.specs.Sharing.{opening_in}
-use Rattle.daemon_shared.proofs.TurnLemmas.{part_of, part_by_one}
+use Rattle.daemon_shared.proofs.TurnLemmas.{kept_by, part_of, part_by_one}
 use Rattle.daemon_shared.proofs.log_job.LogJobJobOneDaemon.run.Goals as goal
+
+pub returns-clause-legal : goal.returns-clause-legal
+returns-clause-legal c = kept_by c.log_from.new.self
 
 pub returns-clause-own : goal.returns-clause-own
 returns-clause-own c =
     let d = c.args.value.now.daemon.value in
     let job = c.args.self.now in
-    part_by_one (opening_in d) job.conn job.handed c.log_from.result _ d.stored.steps.items c.log_from.new.self.stored.steps.items
-    (part_of (opening_in d) _ job.conn job.handed c.log_from.result _ d.stored.steps.items c.log_from.new.self.stored.steps.items
+    part_by_one (opening_in d) job.conn job.handed c.log_from.result _ (history_of d.stored.journal) (history_of c.log_from.new.self.stored.journal)
+    (part_of (opening_in d) _ job.conn job.handed c.log_from.result _ (history_of d.stored.journal) (history_of c.log_from.new.self.stored.journal)
     (rw c.deref_mut.ensures.value at c.log_from.ensures))
 
 pub returns-clause-answer : goal.returns-clause-answer
 returns-clause-answer c =
     let d = c.args.value.now.daemon.value in
     let job = c.args.self.now in
-    part_of (opening_in d) _ job.conn job.handed c.log_from.result _ d.stored.steps.items c.log_from.new.self.stored.steps.items
+    part_of (opening_in d) _ job.conn job.handed c.log_from.result _ (history_of d.stored.journal) (history_of c.log_from.new.self.stored.journal)
     (rw c.deref_mut.ensures.value at c.log_from.ensures)

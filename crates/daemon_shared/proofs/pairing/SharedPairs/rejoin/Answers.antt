@@ -3,7 +3,7 @@ use Rattle.machine_model.specs.History.{IsLegal}
 use Rattle.turnstile.specs.Plays.{Learned}
 use Rattle.turnstile.specs.Views.{joined}
 use Rattle.daemon_shared.specs.Sharing.{author_of, charter_in, IsKept, shared_pass}
-use Rattle.daemon_shared.specs.Pairing.{IsOther}
+use Rattle.daemon_core.specs.Pairing.{IsOther}
 use Rattle.daemon_shared.proofs.PairLemmas.{taken_in, other_apart, still_apart}
 use Rattle.daemon_shared.proofs.pairing.SharedPairs.rejoin.Goals as goal
 
