@@ -14,6 +14,8 @@ import waits
 import talks
 import beside
 import events
+import journals
+import takeovers
 
 HERE = os.path.dirname(os.path.abspath(__file__))
 
