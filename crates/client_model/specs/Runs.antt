@@ -72,14 +72,6 @@ abbrev pub ByAnswers : Plan → Option Verdict → List Exchange → Said → Ty
 ByAnswers plan verdict xs said =
     (answers : List Answer) × AreAnswered xs answers × (said ≡ said_by plan verdict answers)
 
--- by those and the bytes of one more, to the byte that shows it: whatever answer they begin, the same is said
-abbrev pub ByBytes : Plan → Option Verdict → List Exchange → Said → Type 0
-ByBytes plan verdict xs said =
-    (before : List Exchange) × (last : Exchange) × (answers : List Answer) × (xs ≡ before ++ last ∷ [])
-    × AreAnswered before answers
-    × ((more : List ℕ) (ended : Bool) (answer : Answer) → IsAnswer (last.given ++ more) ended answer
-    → said_by plan verdict (answers ++ answer ∷ []) ≡ said)
-
 -- by those and as much of one more as its bytes tell
 abbrev pub SoFar : Plan → Option Verdict → List Exchange → Said → Type 0
 SoFar plan verdict xs said =
@@ -114,7 +106,7 @@ pub record IsEnded (words : List (List ℕ)) (status : ℕ) (o o' : Outside) : T
   pub part : List ℕ
   pub meets : Meets o o' xs input
   pub judged : IsJudged (plan_for words) input verdict
-  pub says : ByAnswers (plan_for words) verdict xs said ⊎ ByBytes (plan_for words) verdict xs said
+  pub says : ByAnswers (plan_for words) verdict xs said
   pub ended : said.end ≡ Some ending
   pub sent : map (λ x. x.sent) xs ≡ map (sent_by input) said.asked
   pub input_read : ReadsInput (plan_for words) said input o.input o'.input
