@@ -4,11 +4,12 @@ from lives import *
 from states import *
 from logs import frame
 
+# a clock that goes on, as processes read and write at moments of it
+GOES_ON = "--stdio --clock 1700000000000:10"
 UPGRADE = "Connection: Upgrade\r\nUpgrade: tcp\r\n"
 UPGRADED = ("HTTP/1.1 101 UPGRADED\r\nContent-Type: application/vnd.docker.multiplexed-stream\r\nConnection: Upgrade\r\n"
             "Upgrade: tcp\r\n\r\n")
 TAKEN = "HTTP/1.1 200 OK\r\nContent-Type: application/vnd.docker.raw-stream\r\n\r\n"
-OPEN_CAT = compact({"Image": "engine/tools:latest", "Cmd": ["cat"], "OpenStdin": True})
 
 
 def attach(name, query, upgrade=True):
@@ -26,18 +27,14 @@ def detach_exec(n):
 # one that has ended: its log, and the session ends; what comes behind the request isn't answered
 ENDED = [create("web", ECHO), post("/containers/web/start")]
 scenario("attach_of_the_ended", ENDED + [attach("web", "logs=1&stream=1&stdout=1&stderr=1"), PING],
-         [created(0), answer(204), UPGRADED + frame(1, "hi\n")], comings=("pieces=1", "pieces=4096"))
+         [created(0), answer(204), UPGRADED + frame(1, "hi\n")], words=GOES_ON, comings=("pieces=1", "pieces=4096"))
 scenario("attach_plain", ENDED + [attach("web", "logs=1&stdout=1", upgrade=False), PING],
-         [created(0), answer(204), TAKEN + frame(1, "hi\n")])
-scenario("attach_without_logs", ENDED + [attach("web", "stream=1&stdout=1")], [created(0), answer(204), UPGRADED])
+         [created(0), answer(204), TAKEN + frame(1, "hi\n")], words=GOES_ON)
+scenario("attach_without_logs", ENDED + [attach("web", "stream=1&stdout=1")], [created(0), answer(204), UPGRADED], words=GOES_ON)
 # a refusal is an answer as any other
-scenario("attach_of_none", [attach("db", "stream=1&stdout=1"), attach("db", "stream=1"), PING],
-         [message(404, "No such container: db"), message(400, "you must choose at least one stream"), PONG])
-# what comes behind the request is its standard input
-scenario("attach_with_input", [create("web", body=OPEN_CAT), post("/containers/web/start"), attach("web", "stream=1&stdin=1&stdout=1"),
-                               "one\ntwo\n"],
-         [created(0), answer(204), UPGRADED + frame(1, "one\ntwo\n")])
-# an exec: its output, a detached one, and one that has started; the input of one is what comes behind its start
+scenario("attach_of_none", [attach("db", "stream=1&stdout=1"), start_exec(1), PING],
+         [message(404, "No such container: db"), message(404, f"No such exec instance: {id_of(1)}"), PONG])
+# an exec: its output, a detached one, and one that has started
 LIVES = [create("web", LONG), post("/containers/web/start")]
 LIVE = [created(0), answer(204)]
 
@@ -47,11 +44,9 @@ def exec_made(n):
 
 
 scenario("exec_attached", LIVES + [create_exec("web", ECHO, AttachStdout=True), start_exec(1), PING],
-         LIVE + [exec_made(1), UPGRADED + frame(1, "hi\n")], comings=("pieces=1", "pieces=4096"))
+         LIVE + [exec_made(1), UPGRADED + frame(1, "hi\n")], words=GOES_ON, comings=("pieces=1", "pieces=4096"))
 scenario("exec_plain", LIVES + [create_exec("web", ECHO, AttachStdout=True), start_exec(1, upgrade=False)],
-         LIVE + [exec_made(1), TAKEN + frame(1, "hi\n")])
+         LIVE + [exec_made(1), TAKEN + frame(1, "hi\n")], words=GOES_ON)
 scenario("exec_detached", LIVES + [create_exec("web", ECHO, AttachStdout=True), detach_exec(1), detach_exec(1), detach_exec(2)],
          LIVE + [exec_made(1), answer(200, ""), message(409, f"exec {id_of(1)} has already started"),
                  message(404, f"No such exec instance: {id_of(2)}")])
-scenario("exec_with_input", LIVES + [create_exec("web", ["cat"], AttachStdin=True, AttachStdout=True), start_exec(1), "one\n"],
-         LIVE + [exec_made(1), UPGRADED + frame(1, "one\n")])
