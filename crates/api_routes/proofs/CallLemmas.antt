@@ -17,5 +17,5 @@ is-full (b ∷ name) given = refl
 pub class-sound : (r : Request) → OfItsCall IsSound (class_of r)
 class-sound r =
     class-by r (OfItsCall IsSound) (λ fault. tt)
-    (λ class read built. subst (λ e. IfOk e (OfItsCall IsSound)) read.reads
+    (λ class read. subst (λ e. IfOk e (OfItsCall IsSound)) read.reads
     (route-sound read.route _ (λ has. is-full read.name (name-given (method_of r.method) read.path read.route read.name has read.fits read.named))))

@@ -85,7 +85,6 @@ direct-status to.Journal r a h = absurd (never-streams _ _ a h)
 -- a fault's status
 fault-status : (f : Fault) → IsTrue (is_direct_status (status_of f))
 fault-status fault.PageNotFound = refl
-fault-status fault.NotBuilt = refl
 fault-status (fault.VersionTooOld v) = refl
 fault-status (fault.VersionTooNew v) = refl
 fault-status fault.BadPath = refl
@@ -104,4 +103,4 @@ pub class-status : (r : Request) (a : DirectAnswer) → class_of r ≡ Direct a 
 class-status r a =
     class-by r (λ class. class ≡ Direct a → IsTrue (is_direct_status a.status))
     (λ fault h. subst (λ x. IsTrue (is_direct_status x.status)) (same-answer _ a h) (fault-status fault))
-    (λ class read built h. direct-status read.route _ a (read.reads ∙ ap Ok h))
+    (λ class read h. direct-status read.route _ a (read.reads ∙ ap Ok h))

@@ -2,7 +2,7 @@
 use Rattle.std.specs.Prelude.{ℕ, List, ◌++◌, codes, Result, Ok, Err}
 use Rattle.api_json.specs.Fault.{fault_text}
 use Rattle.api_routes.specs.declared.fault.Fault.{Fault}
-use Rattle.api_routes.specs.declared.fault.Fault.TheVariants.{VersionTooOld, VersionTooNew, PageNotFound, BadPath, InvalidName, InvalidSignal, BadSeconds, BadLimit, BadTail, BadCondition, BadTime, NoStream, LinksLeftOut, Body, NotBuilt}
+use Rattle.api_routes.specs.declared.fault.Fault.TheVariants.{VersionTooOld, VersionTooNew, PageNotFound, BadPath, InvalidName, InvalidSignal, BadSeconds, BadLimit, BadTail, BadCondition, BadTime, NoStream, LinksLeftOut, Body}
 
 -- goes on with what was read, or keeps the fault
 abbrev pub and_then : {A B : Type 0} → Result A Fault → (A → Result B Fault) → Result B Fault
@@ -11,7 +11,6 @@ and_then (Err fault) next = Err fault
 
 abbrev pub status_of : Fault → ℕ
 status_of PageNotFound = 404
-status_of NotBuilt = 501
 status_of _ = 400
 
 -- a version that is too old, as it was given
@@ -45,4 +44,3 @@ message_of BadTime = codes "bad time"
 message_of NoStream = codes "you must choose at least one stream"
 message_of LinksLeftOut = codes "links are left out"
 message_of (Body fault) = fault_text fault
-message_of NotBuilt = codes "not built"

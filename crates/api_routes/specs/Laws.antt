@@ -2,7 +2,6 @@
 use Rattle.std.specs.Prelude.{◌≡◌, ◌==◌, ◌||◌, ℕ, Bool, IsTrue}
 use Rattle.engine_text.specs.declared.call.Call.{Call}
 use Rattle.call_bounds.specs.Soundness.{IsSound}
-use Rattle.built_calls.specs.Built.{is_built}
 use Rattle.http_edge.specs.Message.{Request}
 use Rattle.api_routes.specs.Class.{class_of}
 use Rattle.api_routes.specs.declared.class.Class.{Class}
@@ -15,17 +14,13 @@ OfItsCall P (Direct answer) = Unit {0}
 OfItsCall P (Ask c) = P c
 OfItsCall P (Stream c takeover) = P c
 
--- the call of a class is sound: its values lie within their bounds, whether it is built or not
+-- the call of a class is sound: its values lie within their bounds
 abbrev pub CallsAreSound : Type 0
 CallsAreSound = (r : Request) → OfItsCall IsSound (class_of r)
 
--- and it is built
-abbrev pub CallsAreBuilt : Type 0
-CallsAreBuilt = (r : Request) → OfItsCall (λ c. IsTrue (is_built c)) (class_of r)
-
--- the statuses that a request's bytes alone may have: what was asked for, a bad request, no such route, a call that isn't built
+-- the statuses that a request's bytes alone may have: what was asked for, a bad request, no such route
 abbrev pub is_direct_status : ℕ → Bool
-is_direct_status status = status == 200 || status == 400 || status == 404 || status == 501
+is_direct_status status = status == 200 || status == 400 || status == 404
 
 -- each direct answer has one of them, so that no other error comes without a call
 abbrev pub AnswersHaveStatus : Type 0

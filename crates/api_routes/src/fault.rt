@@ -31,8 +31,6 @@ pub enum Fault {
     LinksLeftOut,
     /// A fault of the body, or of the filters of the query.
     Body(BodyFault),
-    /// The call isn't served yet.
-    NotBuilt,
 }
 
 // The three parts, one after the other.
@@ -52,7 +50,6 @@ impl Fault {
     {
         match self {
             Fault::PageNotFound => 404,
-            Fault::NotBuilt => 501,
             _ => 400,
         }
     }
@@ -76,7 +73,6 @@ impl Fault {
             Fault::NoStream => Text::of(alloc, "you must choose at least one stream"),
             Fault::LinksLeftOut => Text::of(alloc, "links are left out"),
             Fault::Body(fault) => Text::of(alloc, fault.text()),
-            Fault::NotBuilt => Text::of(alloc, "not built"),
         }
     }
 }

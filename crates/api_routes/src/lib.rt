@@ -2,7 +2,6 @@
 #![tactic(auto)]
 
 mod body;
-mod built;
 mod class;
 mod containers;
 mod execs;

@@ -6,7 +6,6 @@ ghost use Rattle.api_routes.specs.Class as spec;
 ghost use Rattle.api_routes.specs.Routes.{method_of, route_for};
 ghost use Rattle.api_routes.specs.Reading.{Reads};
 
-use crate::built::if_built;
 use crate::path::{cut_at, parameter};
 use crate::refused::Refused;
 use crate::route_class::route_class;
@@ -71,8 +70,7 @@ impl Routes {
         let path = behind_version(alloc, path)?;
         let route = self.route_of(method, path)?;
         let name = parameter(alloc, path)?;
-        let class = route_class(alloc, route, name, query, body, upgrade)?;
-        if_built(class)
+        route_class(alloc, route, name, query, body, upgrade)
     }
 
     // The class of a request by its parts.
