@@ -1,3 +1,4 @@
+mod checks;
 mod connections;
 mod copies;
 mod delays;
