@@ -1,6 +1,7 @@
 -- What a command writes of a stream, as it comes (Docker Engine API v1.43, ContainerAttach, "Stream format"; SystemEvents).
 use Rattle.std.specs.Prelude.{ℕ, ◌==◌, ◌&&◌, List, [], ◌∷◌, ◌++◌, Bool, true, false, Option, Some, None, option_map, codes, nat_le, Ok, Err, if◌then◌else◌}
-use Rattle.std.specs.List.{slice_split}
+use Rattle.std.specs.List.{slice_split, list_all}
+use Rattle.std.specs.Str.{is_utf8}
 use Rattle.http_edge.specs.Message.{Request}
 use Rattle.json_laws.specs.Text.{data_of}
 use Rattle.engine_text.specs.Texts.{same_bytes}
@@ -64,10 +65,14 @@ copies request next = streams to_out ends_text request false next
 
 -- ---- events
 
+-- the texts of an event are UTF-8
+abbrev pub is_event_utf8 : Event → Bool
+is_event_utf8 e = is_utf8 e.id && list_all (λ pair. is_utf8 pair.key && is_utf8 pair.value) e.attributes
+
 -- an event that has this line
 abbrev pub if_line : List ℕ → Event → Option Event
 if_line line e =
-    if nat_le e.moment greatest_moment && attributes_fit e.kind e.action e.attributes
+    if nat_le e.moment greatest_moment && attributes_fit e.kind e.action e.attributes && is_event_utf8 e
     && same_bytes (event_line_text e) (line ++ codes "\n")
     then Some e else None
 
