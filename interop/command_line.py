@@ -9,27 +9,26 @@ import shlex
 import subprocess
 import time
 
-from steps import Steps, is_absent
+from steps import Steps
 
 steps = Steps("docker")
 ID = "[0-9a-f]{64}"
 
 
-def typed(line, seconds=20):
-    """Runs a command of docker, and returns its status, what it wrote, and its message."""
+def typed(line, seconds=20, sent=None):
+    """Runs a command of docker, with this standard input, and returns its status, what it wrote, and its message."""
     words = ["docker", *shlex.split(line)]
     try:
-        ran = subprocess.run(words, capture_output=True, text=True, timeout=seconds, stdin=subprocess.DEVNULL, check=False)
+        given = {"stdin": subprocess.DEVNULL} if sent is None else {"input": sent}
+        ran = subprocess.run(words, capture_output=True, text=True, timeout=seconds, check=False, **given)
         return ran.returncode, ran.stdout, ran.stderr
     except subprocess.TimeoutExpired:
         return None, "", f"no end within {seconds} seconds"
 
 
-def step(line, pattern="", status=0, seconds=20):
-    ended, out, message = typed(line, seconds)
+def step(line, pattern="", status=0, seconds=20, sent=None):
+    ended, out, message = typed(line, seconds, sent)
     said = out + message
-    if is_absent(message):
-        return steps.tell(line, absent=True)
     if ended == status and re.fullmatch(pattern, said.strip(), re.DOTALL):
         return steps.tell(line)
     return steps.tell(line, f"status {ended}, not {status}: {said.strip()!r} isn't {pattern!r}")
@@ -77,8 +76,6 @@ step("logs nobody", ".*No such container: nobody.*", 1)
 def apart(line, on_stdout, on_stderr):
     """A step whose output and message are these, each by itself."""
     ended, out, message = typed(line)
-    if is_absent(message):
-        return steps.tell(line, absent=True)
     same = (ended, out, message) == (0, on_stdout, on_stderr)
     return steps.tell(line, None if same else f"status {ended}, {out!r} and {message!r}")
 
@@ -94,8 +91,6 @@ def follow(line, pattern, ends, seconds=20):
         except subprocess.TimeoutExpired:
             run.kill()
             return steps.tell(line, f"no end within {seconds} seconds")
-    if is_absent(first):
-        return steps.tell(line, absent=True)
     same = ended == 0 and run.returncode == 0 and re.fullmatch(pattern, (first + rest).strip(), re.DOTALL)
     return steps.tell(line, None if same else f"status {run.returncode}: {first + rest!r} isn't {pattern!r}")
 
@@ -186,10 +181,22 @@ step("start host", "host")
 step("exec host echo inside", "inside")
 step("exec host exit 4", "", 4)
 step("exec --detach host echo inside", "")
+step("exec --interactive host cat", "one\ntwo", sent="one\ntwo\n")
+step("exec nobody echo inside", ".*No such container: nobody.*", 1)
 step("rm --force host", "host")
 step(f"run --name once {TOOLS} echo hi", "hi")
 step(f"run {TOOLS} exit 7", "", 7)
 step("start --attach once", "hi")
+step(f"run --interactive {TOOLS} cat", "one\ntwo", sent="one\ntwo\n")
+step(f"run --interactive {TOOLS} cat", "", sent="")
+step(f"run --interactive {TOOLS} cat", "x{1000000}", sent="x" * 1_000_000)
+step(f"create --name later {TOOLS} tick 5 300", ID)
+step("start later", "later")
+step("attach later", "tick(\ntick)*")
+state("later", "exited 0")
+step("attach later", ".*[Cc]annot attach to a stopped container.*", 1)
+step(f"create --name stopped --interactive {TOOLS} cat", ID)
+step("start --attach --interactive stopped", "again", sent="again\n")
 step(f"run --detach --name behind {TOOLS} deaf", ID)
 step("rm --force behind", "behind")
 step(f"run --rm {TOOLS} echo hi", ".*", 125)
