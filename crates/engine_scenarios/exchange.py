@@ -9,7 +9,7 @@ import urllib.parse
 
 PHRASES = {200: "OK", 201: "Created", 204: "No Content", 304: "Not Modified", 400: "Bad Request", 404: "Not Found",
            409: "Conflict", 413: "Payload Too Large", 417: "Expectation Failed", 431: "Request Header Fields Too Large",
-           501: "Not Implemented", 503: "Service Unavailable", 505: "HTTP Version Not Supported"}
+           503: "Service Unavailable", 505: "HTTP Version Not Supported"}
 STDIO = "--stdio --clock 1700000000000:0"
 NOW = "2023-11-14T22:13:20.000000000Z"  # the moment 1700000000000
 NEVER = "0001-01-01T00:00:00Z"

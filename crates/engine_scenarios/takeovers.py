@@ -50,3 +50,17 @@ scenario("exec_plain", LIVES + [create_exec("web", ECHO, AttachStdout=True), sta
 scenario("exec_detached", LIVES + [create_exec("web", ECHO, AttachStdout=True), detach_exec(1), detach_exec(1), detach_exec(2)],
          LIVE + [exec_made(1), answer(200, ""), message(409, f"exec {id_of(1)} has already started"),
                  message(404, f"No such exec instance: {id_of(2)}")])
+# standard input behind the request, whole or byte by byte: what each read brought is a record of its own
+CAT = compact({"Image": "engine/tools", "Cmd": ["cat"], "OpenStdin": True, "StdinOnce": True})
+FED = "stream=1&stdin=1&stdout=1"
+READS = [create("web", body=CAT), post("/containers/web/start")]
+BY_BYTES = "".join(frame(1, byte) for byte in "abc\n")
+scenario("attach_fed", READS + [attach("web", FED), "abc\n"], LIVE + [UPGRADED + frame(1, "abc\n")], words=GOES_ON)
+scenario("attach_fed_by_bytes", READS + [attach("web", FED), "abc\n"], LIVE + [UPGRADED + BY_BYTES], words=GOES_ON,
+         comings=("pieces=1",))
+scenario("attach_fed_plain", READS + [attach("web", FED, upgrade=False), "abc\n"], LIVE + [TAKEN + frame(1, "abc\n")], words=GOES_ON)
+scenario("attach_fed_nothing", READS + [attach("web", FED)], LIVE + [UPGRADED], words=GOES_ON)
+scenario("exec_fed", LIVES + [create_exec("web", ["cat"], AttachStdin=True, AttachStdout=True), start_exec(1), "abc\n"],
+         LIVE + [exec_made(1), UPGRADED + frame(1, "abc\n")], words=GOES_ON)
+# one that has no open input is followed, and what comes behind the request isn't answered
+scenario("attach_unfed", ENDED + [attach("web", FED + "&logs=1"), PING], [created(0), answer(204), UPGRADED + frame(1, "hi\n")], words=GOES_ON)
