@@ -1,211 +1,167 @@
 #!/usr/bin/env python3
-"""Each call of the machine, beside Debian's docker.io in the same run: microseconds over one kept connection, and the ratio.
+"""Each call of the machine, beside Debian's docker.io (and nginx for a ping) in the same run: the time of a call over one kept
+connection, and the ratio; waits, and memory; and which of the figures that are wanted are met.
 
-Usage: benches/calls.py PATH_OF_ENGINED [SECONDS]      (docker's part needs root, Debian's docker.io and busybox-static)
-SECONDS is how long each call is repeated (1). It isn't part of the gate.
+Usage: benches/calls.py WHERE [SECONDS]      WHERE is the path of engined, or the address of a new one that listens
+It needs wrk; docker's part needs root, docker.io and busybox-static; nginx's part nginx-light. SECONDS is how long each call
+is repeated (2); docker's slow calls take longer. It isn't part of the gate.
 """
-import io
-import json
 import os
-import shutil
-import socket
-import subprocess
 import sys
-import tarfile
-import tempfile
 import time
 
+from servers import Client, docker, engined, nginx, rate, rounds
+from waiters import answers, used, waiters
+
 MANY = 32_768
+NOISE = 4 << 20
+WAITERS = 1000
+MARK = f"b{os.getpid()}-"
+
+# The words of the programs that are run, of ours and of an image of busybox.
+PROGRAMS = {
+    "engined": {"line": ["echo", "hi"], "end": ["exit", "0"], "last": ["deaf"], "noise": ["noise", str(NOISE)]},
+    "dockerd": {
+        "line": ["/busybox", "echo", "hi"],
+        "end": ["/busybox", "true"],
+        "last": ["/busybox", "sleep", "100000"],
+        "noise": ["/busybox", "sh", "-c", f"/busybox yes {'x' * 127} | /busybox head -c {NOISE}"],
+    },
+}
 
 
-class Client:
-    """One kept connection. A request is sent whole, and its answer read to the end."""
+class Asked:
+    """What one daemon was asked: microseconds by call."""
 
-    def __init__(self, port):
-        self.link = socket.create_connection(("127.0.0.1", port))
-        self.link.setsockopt(socket.IPPROTO_TCP, socket.TCP_NODELAY, 1)
-        self.ahead = b""
+    def __init__(self, server, seconds):
+        self.server, self.seconds, self.words = server, seconds, PROGRAMS[server.name]
+        self.client, self.made, self.found = Client(server.port), 0, {}
 
-    def more(self):
-        got = self.link.recv(1 << 20)
-        if not got:
-            raise SystemExit("the peer closed")
-        self.ahead += got
-
-    def take(self, count):
-        while len(self.ahead) < count:
-            self.more()
-        taken, self.ahead = self.ahead[:count], self.ahead[count:]
-        return taken
-
-    def line(self, end=b"\r\n"):
-        while (at := self.ahead.find(end)) < 0:
-            self.more()
-        return self.take(at + len(end))[: -len(end)]
-
-    def chunks(self):
-        body = b""
-        while size := int(self.line(), 16):
-            body += self.take(size)
-            self.take(2)
-        self.take(2)
-        return body
-
-    def ask(self, method, path, body=b""):
-        head = f"{method} {path} HTTP/1.1\r\nHost: x\r\nContent-Type: application/json\r\nContent-Length: {len(body)}\r\n\r\n"
-        self.link.sendall(head.encode() + body)
-        first, *fields = self.line(b"\r\n\r\n").decode().split("\r\n")
-        status = int(first.split()[1])
-        named = {name.lower(): value.strip() for name, _, value in (it.partition(":") for it in fields)}
-        if named.get("transfer-encoding") == "chunked":
-            body = self.chunks()
-        else:
-            body = self.take(int(named.get("content-length", 0)))
-        if status >= 400:
-            raise SystemExit(f"{method} {path}: {status} {body[:200]!r}")
-        return body
-
-
-class Daemon:
-    def __init__(self, name, port, process, image, words):
-        self.name, self.port, self.process = name, port, process
-        self.spec = json.dumps({"Image": image, "Cmd": words}).encode()
-        self.client = Client(port)
-        self.made = 0
-
-    def create(self):
-        self.made += 1
-        self.client.ask("POST", f"/containers/create?name=c{self.made}", self.spec)
-        return f"c{self.made}"
+    def create(self, name, kind):
+        self.server.create(self.client, MARK + name, self.words[kind])
 
     def fill(self, count):
-        while self.made < count:
-            self.create()
+        """So many containers more."""
+        for _ in range(count):
+            self.create(f"c{self.made}", "line")
+            self.made += 1
 
-    def remove(self, name):
-        self.client.ask("DELETE", f"/containers/{name}?force=1")
+    def start(self, name):
+        self.client.ask("POST", f"/containers/{MARK}{name}/start")
 
-    def run(self):
-        name = self.create()
-        self.client.ask("POST", f"/containers/{name}/start")
-        self.client.ask("POST", f"/containers/{name}/wait")
-        return name
+    def run(self, name):
+        """A container of that program, which has run to its end."""
+        self.create(name, name)
+        self.start(name)
+        self.client.ask("POST", f"/containers/{MARK}{name}/wait")
 
-    def logs(self, name):
-        """A log's answer closes its connection."""
-        client = Client(self.port)
-        client.ask("GET", f"/containers/{name}/logs?stdout=1")
-        client.link.close()
+    def note(self, call, each_second):
+        self.found[call] = 1e6 / each_second
 
-    def resident(self):
-        """In KB."""
-        with open(f"/proc/{self.process}/status", encoding="ascii") as lines:
-            return next(int(line.split()[1]) for line in lines if line.startswith("VmRSS:"))
+    def get(self, call, path):
+        self.note(call, rate(self.server.port, path, self.seconds))
 
+    def post(self, call, path):
+        self.note(call, rate(self.server.port, path, self.seconds, 'wrk.method = "POST"'))
 
-def micros(call, seconds):
-    """Of one call, repeated for so long, at least three times."""
-    count, begun = 0, time.perf_counter()
-    while count < 3 or time.perf_counter() - begun < seconds:
-        call()
-        count += 1
-    return (time.perf_counter() - begun) / count * 1e6
+    def circle(self, call, *steps):
+        slow = 5 if self.server.name == "dockerd" else 1
+        self.note(call, rounds(self.server.port, self.seconds * slow, *steps))
 
+    def all(self):
+        box, spec = f"/containers/{MARK}", self.server.spec(self.words["end"])
+        self.get("_ping", "/_ping")
+        self.circle("create and remove", ("POST", f"/containers/create?name={MARK}r%d", spec), ("DELETE", f"{box}r%d", ""))
+        self.create("end", "end")
+        self.circle("start to exit", ("POST", f"{box}end/start", ""), ("POST", f"{box}end/wait", ""))
+        self.run("line")
+        self.run("noise")
+        self.post("wait for one that has ended", f"{box}line/wait")
+        self.get("logs of a line", f"{box}line/logs?stdout=1")
+        self.get("logs of 4 MiB", f"{box}noise/logs?stdout=1")
+        self.fill(100)
+        self.get("inspect by name among 100", f"{box}c50/json")
+        rest = self.server.resident()
+        self.fill(900)
+        self.each = (self.server.resident() - rest) * 1024 / 900
+        self.get("inspect by name among 1,000", f"{box}c500/json")
+        self.get("list of the newest 1,000", "/containers/json?all=1&limit=1000")
+        return self
 
-def figures(daemon, seconds):
-    """By what was asked, in the order of asking."""
-    ask = daemon.client.ask
-    found = {"_ping": micros(lambda: ask("GET", "/_ping"), seconds)}
-    found["create and remove"] = micros(lambda: daemon.remove(daemon.create()), seconds)
-    found["create, start, wait, remove"] = micros(lambda: daemon.remove(daemon.run()), seconds)
-    ended = daemon.run()
-    found["wait for one that has ended"] = micros(lambda: ask("POST", f"/containers/{ended}/wait"), seconds)
-    found["logs of a line, a new connection each"] = micros(lambda: daemon.logs(ended), seconds)
-    for count in 100, 1000:
-        daemon.fill(daemon.made + count)
-        found[f"inspect among {count}"] = micros(lambda: ask("GET", f"/containers/{ended}/json"), seconds)
-    found["list of the newest 1,000"] = micros(lambda: ask("GET", "/containers/json?all=1&limit=1000"), seconds)
-    return found
-
-
-def is_up(port):
-    try:
-        Client(port).ask("GET", "/_ping")
-        return True
-    except (OSError, SystemExit):
-        return False
-
-
-def wait_for(port):
-    for _ in range(100):
-        if is_up(port):
-            return True
-        time.sleep(0.2)
-    return False
+    def wait(self):
+        """The share of a processor that so many waits take, and how soon they are answered behind a kill."""
+        self.create("last", "last")
+        self.start("last")
+        links = waiters(self.server.port, WAITERS, b"X-Engine-Early: wait\r\n", f"{MARK}last".encode())
+        time.sleep(2)
+        share = used(self.server.process, 5)
+        self.client.ask("POST", f"/containers/{MARK}last/kill")
+        first, last = answers(links, b"0\r\n\r\n")
+        for link in links:
+            link.close()
+        print(f"{self.server.name}: {WAITERS} waits take {share * 100:.1f}% of a processor; the first answer {first:.0f} ms "
+              f"behind the kill, the last {last:.0f} ms")
 
 
-def engined(path, port):
-    line = [path, "--listen", f"127.0.0.1:{port}"]
-    process = subprocess.Popen(line, stdin=subprocess.DEVNULL, stdout=subprocess.DEVNULL)
-    if not wait_for(port):
-        raise SystemExit("engined didn't come up")
-    return process, Daemon("engined", port, process.pid, "engine/tools", ["echo", "hi"])
+def many(asked):
+    """What only this daemon is asked: many containers. The time of a find among them, and the memory in KB."""
+    rest = asked.server.resident()
+    asked.fill(MANY)
+    held = asked.server.resident() - rest
+    asked.get(f"inspect by name among {MANY:,}", f"/containers/{MARK}c{asked.made // 2}/json")
+    print(f"{MANY:,} containers more: {held} KB, so {held * 1024 / MANY:.0f} bytes each with the step that made it")
+    return held
 
 
-def image():
-    """A file system with one static program, as a tar."""
-    made = io.BytesIO()
-    with tarfile.open(fileobj=made, mode="w") as tar:
-        tar.add(shutil.which("busybox"), arcname="busybox")
-    return made.getvalue()
+def show(here, there, static):
+    print(f"\n{'microseconds':36}{here.server.name:>12}{'dockerd':>12}{'times':>8}")
+    for call, took in here.found.items():
+        other = there.found.get(call) if there else None
+        beside = f"{other:12,.0f}{other / took:8.1f}" if other else ""
+        print(f"{call:36}{took:12,.1f}{beside}")
+    if static:
+        print(f"{'_ping of nginx':36}{static:12,.1f}")
 
 
-def docker(room, port):
-    """Debian's dockerd with that image, or none and why."""
-    if not shutil.which("dockerd") or not shutil.which("busybox"):
-        return None, "dockerd or busybox isn't here"
-    line = ["dockerd", "-H", f"tcp://127.0.0.1:{port}", "--tls=false", "--data-root", f"{room}/docker", "--exec-root"]
-    line += [f"{room}/exec", "--pidfile", f"{room}/docker.pid", "--iptables=false", "--bridge=none"]
-    log = open(f"{room}/docker.log", "wb")
-    process = subprocess.Popen(line, stdin=subprocess.DEVNULL, stdout=log, stderr=log)
-    if not wait_for(port):
-        return process, "dockerd didn't come up"
-    Client(port).ask("POST", "/images/create?fromSrc=-&repo=bench", image())
-    return process, Daemon("dockerd", port, process.pid, "bench", ["/busybox", "echo", "hi"])
-
-
-def alone(daemon, seconds):
-    """What only this daemon is asked: many containers, and memory."""
-    ask, rest = daemon.client.ask, daemon.resident()
-    first, begun = daemon.made, time.perf_counter()
-    daemon.fill(first + MANY)
-    took = (time.perf_counter() - begun) / MANY * 1e6
-    held = daemon.resident() - rest
-    print(f"{MANY} containers more: {took:.0f} us each, {held} KB, so {held * 1024 / MANY:.0f} bytes each with their stored steps")
-    by_name = micros(lambda: ask("GET", f"/containers/c{first + MANY // 2}/json"), seconds)
-    print(f"inspect by name among {MANY}: {by_name:.0f} us")
+def judge(here, there, static, rest, held):
+    """The figures that are wanted, met or not."""
+    found = here.found
+    bars = [
+        ("at rest below 4 MB", rest < 4_000_000 / 1024, f"{rest} KB"),
+        ("32,768 containers below 100 MB", held < 100_000_000 / 1024, f"{held} KB"),
+        ("a list of 1,000 within 2 ms", found["list of the newest 1,000"] <= 2000, f"{found['list of the newest 1,000']:.0f} us"),
+    ]
+    small, large = found["inspect by name among 100"], found[f"inspect by name among {MANY:,}"]
+    bars.append(("by name among 32,768 at most twice the time among 100", large <= 2 * small, f"{large / small:.2f} times"))
+    if static:
+        bars.append(("_ping at least as fast as nginx", found["_ping"] <= static, f"{static / found['_ping']:.2f} times"))
+    if there:
+        for call, took in there.found.items():
+            if call != "_ping":
+                bars.append((f"{call}: ten times docker's rate", took >= 10 * found[call], f"{took / found[call]:.1f} times"))
+    print()
+    for text, met, figure in bars:
+        print(f"{'met    ' if met else 'NOT MET'}  {text}: {figure}")
 
 
 def main():
-    path, seconds = sys.argv[1], float(sys.argv[2]) if len(sys.argv) > 2 else 1.0
-    room = tempfile.mkdtemp()
-    process, ours = engined(path, 8096)
-    print(f"engined at rest: {ours.resident()} KB")
-    theirs_process, theirs = docker(room, 8097)
+    where, seconds = sys.argv[1], int(sys.argv[2]) if len(sys.argv) > 2 else 2
+    servers = [engined(where), docker(), nginx()]
     try:
-        here = figures(ours, seconds)
-        there = {} if isinstance(theirs, str) or theirs is None else figures(theirs, seconds)
-        if not there:
-            print(f"no figures of docker.io: {theirs}")
-        for name, took in here.items():
-            beside = f"   dockerd {there[name]:10.0f} us   {there[name] / took:8.1f} times" if name in there else ""
-            print(f"{name:40} {took:8.0f} us{beside}")
-        alone(ours, seconds)
+        ours, theirs, static = servers
+        rest = ours.resident()
+        print(f"at rest: engined {rest} KB" + (f", dockerd with containerd {theirs.resident()} KB" if theirs else ""))
+        bare = static and 1e6 / rate(static.port, "/", seconds)
+        here, there = Asked(ours, seconds).all(), theirs and Asked(theirs, seconds).all()
+        print(f"a container: engined {here.each:.0f} bytes" + (f", dockerd {there.each:.0f}" if there else ""))
+        for asked in filter(None, (here, there)):
+            asked.wait()
+        held = many(here)
+        show(here, there, bare)
+        judge(here, there, bare, rest, held)
     finally:
-        for it in filter(None, (process, theirs_process)):
-            it.terminate()
-            it.wait()
-        shutil.rmtree(room, ignore_errors=True)
+        for server in filter(None, servers):
+            server.stop()
 
 
 main()

@@ -15,7 +15,7 @@ import time
 
 HERE = os.path.dirname(os.path.abspath(__file__))
 SECONDS = 10
-WAIT = b"POST /containers/web/wait HTTP/1.1\r\nHost: x\r\n%b\r\n"
+WAIT = b"POST /containers/%b/wait HTTP/1.1\r\nHost: x\r\nContent-Length: 0\r\n%b\r\n"
 
 
 def ask(port, method, path, body=None):
@@ -41,11 +41,11 @@ def used(process, seconds):
     return (ticks(process) - begun) / os.sysconf("SC_CLK_TCK") / (time.monotonic() - at)
 
 
-def waiters(port, count, field):
+def waiters(port, count, field, name=b"web"):
     links = []
     for _ in range(count):
         link = socket.create_connection(("127.0.0.1", port))
-        link.sendall(WAIT % field)
+        link.sendall(WAIT % (name, field))
         links.append(link)
     return links
 
@@ -117,4 +117,5 @@ def main(engined, count=1000, port=23751):
             daemon.kill()
 
 
-main(*sys.argv[1:])
+if __name__ == "__main__":
+    main(*sys.argv[1:])

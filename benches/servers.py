@@ -1,0 +1,267 @@
+"""What the scripts here share: a client of one kept connection, and the daemons that a script starts, or finds at an address.
+
+Wherever a script takes WHERE, it is the path of engined, or the address of one that listens.
+"""
+import io
+import json
+import os
+import re
+import resource
+import shutil
+import socket
+import subprocess
+import tarfile
+import tempfile
+import time
+
+
+# A thousand connections and more, of this process and of those that it starts.
+resource.setrlimit(resource.RLIMIT_NOFILE, (min(4096, resource.getrlimit(resource.RLIMIT_NOFILE)[1]),) * 2)
+
+
+class Client:
+    """One kept connection. A request is sent whole, and its answer read to the end."""
+
+    def __init__(self, port):
+        self.link = socket.create_connection(("127.0.0.1", port))
+        self.link.setsockopt(socket.IPPROTO_TCP, socket.TCP_NODELAY, 1)
+        self.ahead = b""
+
+    def more(self):
+        got = self.link.recv(1 << 20)
+        if not got:
+            raise SystemExit("the peer closed")
+        self.ahead += got
+
+    def take(self, count):
+        while len(self.ahead) < count:
+            self.more()
+        taken, self.ahead = self.ahead[:count], self.ahead[count:]
+        return taken
+
+    def line(self, end=b"\r\n"):
+        while (at := self.ahead.find(end)) < 0:
+            self.more()
+        return self.take(at + len(end))[: -len(end)]
+
+    def chunks(self):
+        parts = []
+        while size := int(self.line(), 16):
+            parts.append(self.take(size))
+            self.take(2)
+        self.take(2)
+        return b"".join(parts)
+
+    def send(self, method, path, body=b"", fields=()):
+        lines = [f"{method} {path} HTTP/1.1", "Host: x", f"Content-Length: {len(body)}"]
+        if body:
+            lines.append("Content-Type: application/json")
+        self.link.sendall("\r\n".join([*lines, *fields, "", ""]).encode() + body)
+
+    def head(self):
+        """The status, and the fields by their names in small letters."""
+        first, *fields = self.line(b"\r\n\r\n").decode().split("\r\n")
+        named = (field.partition(":") for field in fields)
+        return int(first.split()[1]), {name.lower(): value.strip() for name, _, value in named}
+
+    def ask(self, method, path, body=b""):
+        self.send(method, path, body)
+        status, named = self.head()
+        if named.get("transfer-encoding") == "chunked":
+            found = self.chunks()
+        else:
+            found = self.take(int(named.get("content-length", 0)))
+        if status >= 400:
+            raise SystemExit(f"{method} {path}: {status} {found[:200]!r}")
+        return found
+
+    def take_over(self, path):
+        """A request for the connection itself: from here on it is the peer's stream."""
+        self.send("POST", path, fields=("Connection: Upgrade", "Upgrade: tcp"))
+        status, _ = self.head()
+        if status != 101:
+            raise SystemExit(f"{path}: {status}")
+
+
+class Server:
+    """What answers at a port of this machine."""
+
+    def __init__(self, name, port, started=None, image="engine/tools", room=None):
+        self.name, self.port, self.started, self.image, self.room = name, port, started, image, room
+        self.process = started.pid if started else listener_at(port)
+
+    def spec(self, words, **fields):
+        """The body of a create."""
+        return json.dumps({"Image": self.image, "Cmd": words, **fields})
+
+    def create(self, client, name, words, **fields):
+        client.ask("POST", f"/containers/create?name={name}", self.spec(words, **fields).encode())
+
+    def resident(self):
+        """The memory of the process and of those that it started, in KB."""
+        return sum(map(resident, family(self.process)))
+
+    def stop(self):
+        if self.started:
+            self.started.terminate()
+            self.started.wait()
+        if self.room:
+            shutil.rmtree(self.room, ignore_errors=True)
+
+
+def resident(process):
+    """In KB."""
+    with open(f"/proc/{process}/status", encoding="ascii") as lines:
+        return next((int(line.split()[1]) for line in lines if line.startswith("VmRSS:")), 0)
+
+
+def family(process):
+    """A process and all below it. Threads start processes too."""
+    found = [process]
+    for thread in os.listdir(f"/proc/{process}/task"):
+        with open(f"/proc/{process}/task/{thread}/children", encoding="ascii") as children:
+            for child in children.read().split():
+                found += family(int(child))
+    return found
+
+
+def ticks(process):
+    """Seconds of processor time, in and out of the kernel."""
+    with open(f"/proc/{process}/stat", encoding="ascii") as text:
+        fields = text.read().rpartition(")")[2].split()
+    return (int(fields[11]) + int(fields[12])) / os.sysconf("SC_CLK_TCK")
+
+
+def listener_at(port):
+    """The process that listens at a port."""
+    with open("/proc/net/tcp", encoding="ascii") as lines:
+        rows = [line.split() for line in lines][1:]
+    here = {f"socket:[{row[9]}]" for row in rows if row[3] == "0A" and int(row[1].partition(":")[2], 16) == port}
+    for process in filter(str.isdigit, os.listdir("/proc")):
+        try:
+            for file in os.listdir(f"/proc/{process}/fd"):
+                if os.readlink(f"/proc/{process}/fd/{file}") in here:
+                    return int(process)
+        except OSError:
+            continue
+    raise SystemExit(f"nobody listens at port {port}")
+
+
+def free_port():
+    with socket.create_server(("127.0.0.1", 0)) as place:
+        return place.getsockname()[1]
+
+
+def wait_for(port, tries=100):
+    """Whether somebody listens at the port, at last."""
+    for _ in range(tries):
+        try:
+            socket.create_connection(("127.0.0.1", port)).close()
+            return True
+        except OSError:
+            time.sleep(0.1)
+    return False
+
+
+def engined(where, *words):
+    """The daemon at an address, or a new one of that program."""
+    if not os.path.exists(where):
+        return Server("engined", int(where.rpartition(":")[2]))
+    port = free_port()
+    line = [os.path.abspath(where), "--listen", f"127.0.0.1:{port}", *words]
+    started = subprocess.Popen(line, stdin=subprocess.DEVNULL, stdout=subprocess.DEVNULL)
+    if not wait_for(port):
+        raise SystemExit("engined didn't come up")
+    return Server("engined", port, started)
+
+
+def busybox():
+    """A file system with one static program, as a tar."""
+    made = io.BytesIO()
+    with tarfile.open(fileobj=made, mode="w") as tar:
+        tar.add(shutil.which("busybox"), arcname="busybox")
+    return made.getvalue()
+
+
+def docker():
+    """Debian's dockerd with an image of busybox; or nothing, and it says why."""
+    if not shutil.which("dockerd") or not shutil.which("busybox"):
+        print("no figures of docker.io: dockerd or busybox isn't here (apt-get install docker.io busybox-static)")
+        return None
+    room, port = tempfile.mkdtemp(), free_port()
+    line = ["dockerd", "-H", f"tcp://127.0.0.1:{port}", "--tls=false", "--data-root", f"{room}/docker", "--exec-root"]
+    line += [f"{room}/exec", "--pidfile", f"{room}/docker.pid", "--iptables=false", "--bridge=none"]
+    with open(f"{room}/docker.log", "wb") as log:
+        started = subprocess.Popen(line, stdin=subprocess.DEVNULL, stdout=log, stderr=log)
+    server = Server("dockerd", port, started, "bench", room)
+    if not wait_for(port, 300):
+        with open(f"{room}/docker.log", encoding="utf-8") as log:
+            print(f"no figures of docker.io: dockerd didn't come up: {log.read().splitlines()[-1:]}")
+        server.stop()
+        return None
+    Client(port).ask("POST", "/images/create?fromSrc=-&repo=bench", busybox())
+    return server
+
+
+NGINX = """
+worker_processes 1;
+pid {room}/nginx.pid;
+error_log {room}/nginx.err;
+daemon off;
+events {{ worker_connections 64; }}
+http {{
+    access_log off;
+    keepalive_requests 10000000;
+    server {{ listen 127.0.0.1:{port}; location / {{ default_type text/plain; return 200 "OK"; }} }}
+}}
+"""
+
+
+def nginx():
+    """nginx with a static answer; or nothing, and it says why."""
+    if not shutil.which("nginx"):
+        print("no figures of nginx: it isn't here (apt-get install nginx-light)")
+        return None
+    room, port = tempfile.mkdtemp(), free_port()
+    os.chmod(room, 0o755)
+    with open(f"{room}/nginx.conf", "w", encoding="ascii") as conf:
+        conf.write(NGINX.format(room=room, port=port))
+    started = subprocess.Popen(["nginx", "-c", f"{room}/nginx.conf"], stderr=subprocess.DEVNULL)
+    if not wait_for(port):
+        raise SystemExit("nginx didn't come up")
+    return Server("nginx", port, started, room=room)
+
+
+def rate(port, path, seconds, script=None):
+    """Requests a second over one kept connection, by wrk. Each answer has to be one of success."""
+    line = ["wrk", "-t1", "-c1", f"-d{seconds}s", "--timeout", "60s", f"http://127.0.0.1:{port}{path}"]
+    with tempfile.NamedTemporaryFile("w", suffix=".lua") as file:
+        file.write(script or "")
+        file.flush()
+        told = subprocess.run(line + ["-s", file.name], check=True, capture_output=True, text=True).stdout
+    if "Non-2xx" in told or "Socket errors" in told:
+        raise SystemExit(f"{path}: {told}")
+    found = float(re.search(r"Requests/sec: *([\d.]+)", told)[1])
+    if not found:
+        raise SystemExit(f"{path}: no answer in {seconds} s")
+    return found
+
+
+# Requests in a circle, with the number of the round in their paths. The first that is made is one that wrk only looks at.
+CIRCLE = """
+local steps = {{ {steps} }}
+local count, looked = 0, false
+function request()
+   local method, path, body = unpack(steps[count % #steps + 1])
+   path = string.format(path, math.floor(count / #steps))
+   if looked then count = count + 1 end
+   looked = true
+   return wrk.format(method, path, {{ ["Content-Type"] = "application/json" }}, body)
+end
+"""
+
+
+def rounds(port, seconds, *steps):
+    """Rounds a second of requests in a circle: each a method, a path, and a body or none."""
+    told = ", ".join(f"{{ {json.dumps(method)}, {json.dumps(path)}, [==[{body}]==] }}" for method, path, body in steps)
+    return rate(port, "/", seconds, CIRCLE.format(steps=told)) / len(steps)
