@@ -60,6 +60,22 @@ pub fn is_answered(stream: &TcpStream, request: &str, answer: &str) -> io::Resul
     goes_on(stream, answer)
 }
 
+/// Sends a request, after which just this has to come back.
+pub fn ask(stream: &TcpStream, request: &str, answer: &str) -> io::Result<()> {
+    if is_answered(stream, request, answer)? {
+        Ok(())
+    } else {
+        Err(ErrorKind::InvalidData.into())
+    }
+}
+
+/// Whether just these bytes come, and then the end.
+pub fn ends(mut stream: &TcpStream, text: &str) -> io::Result<bool> {
+    let goes = goes_on(stream, text)?;
+    let count = stream.read(&mut [0])?;
+    Ok(goes && count == 0)
+}
+
 /// Two orders between two connections, which only side by side can both be kept: the first creates
 /// `web` and stays; only then the second creates `db`; only then the first lists both. A third that
 /// comes behind them lists both.

@@ -1,4 +1,5 @@
 // The program with a line that listens.
+use super::attaches::copy_a_line;
 use super::clients::{keep_two_orders, leave_halfway};
 use super::waits::wait_before_the_start;
 use engine_ports::{Door, MemSink, MemSource, NoMemory, StepClock, TcpDoor};
@@ -72,6 +73,22 @@ fn a_wait_before_the_start_is_answered(rt: HostRuntime) -> Result<(), Fail> {
         &rt,
         || -> Result<(u8, bool), NoMemory> { runs(&rt, &words, &mut door) },
         || -> io::Result<bool> { wait_before_the_start(&rt, port) },
+    );
+    assert_eq!(rt; ran, Ok((0, true)));
+    assert!(rt; told.unwrap_or(false));
+    Ok(())
+}
+
+#[test]
+fn a_line_comes_back_and_the_stream_ends(rt: HostRuntime) -> Result<(), Fail> {
+    let alloc = rt.alloc();
+    let port = free_port(&rt)?;
+    let words = words_of(alloc, port, "3")?;
+    let mut door = TcpDoor::new(&rt, alloc);
+    let (ran, told) = join(
+        &rt,
+        || -> Result<(u8, bool), NoMemory> { runs(&rt, &words, &mut door) },
+        || -> io::Result<bool> { copy_a_line(&rt, port) },
     );
     assert_eq!(rt; ran, Ok((0, true)));
     assert!(rt; told.unwrap_or(false));

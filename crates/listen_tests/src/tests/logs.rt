@@ -1,6 +1,6 @@
 // A log that one connection follows and another one ends, over real sockets.
 use super::clients::{connect, goes_on, is_answered, tells};
-use super::requests::{IDS, LAST_CHUNK, LIST, LOG_HEAD};
+use super::requests::{DONE, IDS, LAST_CHUNK, LIST, LOG_HEAD, REMOVE, START};
 use super::sockets::worst_of;
 use engine_ports::TcpDoor;
 use session_model::Worst;
@@ -14,14 +14,7 @@ use std::time::Clock;
 const LASTS: &str =
     "POST /v1.43/containers/create?name=web HTTP/1.1\r\nHost: x\r\nContent-Length: 39\r\n\r\n{\"Image\":\"engine/tools\",\"Cmd\":[\"deaf\"]}";
 
-const START: &str = "POST /containers/web/start HTTP/1.1\r\nHost: x\r\n\r\n";
-
 const FOLLOW: &str = "GET /containers/web/logs?stdout=1&follow=1 HTTP/1.1\r\nHost: x\r\n\r\n";
-
-/// A forced removal.
-const REMOVE: &str = "DELETE /containers/web?force=1 HTTP/1.1\r\nHost: x\r\n\r\n";
-
-const DONE: &str = "HTTP/1.1 204 No Content\r\nApi-Version: 1.43\r\nServer: engined\r\n\r\n";
 
 /// One follows a log, and has its head before anything is written; only then another removes the
 /// container by force; only then the log ends, by its last chunk, and the first lists none.

@@ -10,7 +10,7 @@ use std::str;
 use std::test::Fail;
 
 /// A door through which these requests come, each in a connection of its own.
-fn door_of(alloc: Global, requests: &[&str]) -> Result<MemDoor<StepClock>, NoMemory> {
+pub(super) fn door_of(alloc: Global, requests: &[&str]) -> Result<MemDoor<StepClock>, NoMemory> {
     let mut door = MemDoor::new(alloc, &[])?;
     for request in requests {
         let source = MemSource::new(alloc, request.as_bytes(), 7, &[])?;

@@ -23,6 +23,18 @@ pub fn create(alloc: Global, name: &str, connection: &str) -> Result<String, All
     )
 }
 
+/// The answer to a create of the first container.
+pub const CREATED: &str =
+    "HTTP/1.1 201 Created\r\nApi-Version: 1.43\r\nContent-Length: 87\r\nContent-Type: application/json\r\nServer: engined\r\n\r\n{\"Id\":\"76b8e0ada0f13d90405d6ae55386bd28bdd219b8a08ded1a0000000000000000\",\"Warnings\":[]}";
+
+pub const START: &str = "POST /containers/web/start HTTP/1.1\r\nHost: x\r\n\r\n";
+
+/// A forced removal.
+pub const REMOVE: &str = "DELETE /containers/web?force=1 HTTP/1.1\r\nHost: x\r\n\r\n";
+
+/// The answer to a start, a kill or a removal.
+pub const DONE: &str = "HTTP/1.1 204 No Content\r\nApi-Version: 1.43\r\nServer: engined\r\n\r\n";
+
 /// A create of a container that writes a line three times, each 100 milliseconds.
 pub const CREATE_TICKS: &str =
     "POST /v1.43/containers/create?name=ticks HTTP/1.1\r\nHost: x\r\nContent-Length: 49\r\n\r\n{\"Image\":\"engine/tools\",\"Cmd\":[\"tick\",\"3\",\"100\"]}";

@@ -21,7 +21,7 @@ pub(super) fn worst_of<R: Threads + Wait + Sync + AllocGlobal, D: Door>(
         return Worst::Fault;
     }
     let alloc = rt.alloc();
-    let (worst, daemon) = run_daemon(rt, alloc, [0; 32], MOMENT, 100, Some(most), None, door);
+    let (worst, daemon) = run_daemon(rt, alloc, [0; 32], MOMENT, 10_000, Some(most), None, door);
     drop(daemon);
     worst
 }

@@ -1,6 +1,6 @@
 // Waits of several connections for one container, over real sockets.
 use super::clients::{connect, goes_on, is_answered, tells};
-use super::requests::LIST;
+use super::requests::{CREATED, DONE, LIST, START};
 use super::sockets::worst_of;
 use engine_ports::TcpDoor;
 use session_model::Worst;
@@ -18,18 +18,11 @@ const EXITS: &str =
 const LASTS: &str =
     "POST /v1.43/containers/create?name=web HTTP/1.1\r\nHost: x\r\nContent-Length: 46\r\n\r\n{\"Image\":\"engine/tools:latest\",\"Cmd\":[\"deaf\"]}";
 
-const START: &str = "POST /containers/web/start HTTP/1.1\r\nHost: x\r\n\r\n";
-
 const KILL: &str = "POST /containers/web/kill HTTP/1.1\r\nHost: x\r\n\r\n";
 
 /// A wait for the next end, whose head comes at once.
 const EARLY_WAIT: &str =
     "POST /containers/web/wait?condition=next-exit HTTP/1.1\r\nHost: x\r\nX-Engine-Early: wait\r\n\r\n";
-
-const CREATED: &str =
-    "HTTP/1.1 201 Created\r\nApi-Version: 1.43\r\nContent-Length: 87\r\nContent-Type: application/json\r\nServer: engined\r\n\r\n{\"Id\":\"76b8e0ada0f13d90405d6ae55386bd28bdd219b8a08ded1a0000000000000000\",\"Warnings\":[]}";
-
-const DONE: &str = "HTTP/1.1 204 No Content\r\nApi-Version: 1.43\r\nServer: engined\r\n\r\n";
 
 const EARLY_HEAD: &str =
     "HTTP/1.1 200 OK\r\nApi-Version: 1.43\r\nContent-Type: application/json\r\nServer: engined\r\nTransfer-Encoding: chunked\r\n\r\n";
