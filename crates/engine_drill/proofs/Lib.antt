@@ -1,0 +1,7 @@
+pub mod StandardFacts
+pub mod MakingLemmas
+pub mod AnswerLemmas
+pub mod TallyLemmas
+pub mod LineLemmas
+pub mod JournalLemmas
+pub mod DrillLemmas

@@ -1,0 +1,36 @@
+use Rattle.std.proofs.Common.{◌≡◌, ◌∙◌, ℕ, List, length, ap, subst}
+use Rattle.machine_model.specs.History.{Charter, IsLegal, events_of, state_after}
+use Rattle.history_replay.specs.Verdict.{IsVerdict}
+use Rattle.history_check.specs.Legal.{journal_of, steps_told}
+use Rattle.history_replay.specs.declared.verdict.Verdict.TheVariants.{Legal}
+use Rattle.daemon_core.specs.Keeping.{history_of}
+use Rattle.daemon_core.specs.Passing.{charter}
+use Rattle.engine_drill.specs.Answers.{counts_of}
+use Rattle.engine_drill.specs.Report.{report_by}
+use Rattle.engine_drill.specs.Running.{charter_by}
+use Rattle.engine_drill.proofs.drilling.report_of.Goals as goal
+
+pub returns : goal.returns
+returns c =
+    let d = c.args.daemon.now in
+    let ch = charter_by c.args.drill in
+    let h = history_of d.stored.journal in
+    let same : charter d ≡ ch = c.requires.charter in
+    let told = c.in_ok-counts.ensures in
+    let n : ℕ = c.args.drill.requests in
+    let verdict = c.in_ok-verdict.verdict in
+    let text : c.deref.result.now ≡ journal_of ch h = c.deref.ensures.value ∙ c.in_ok-journal.ensures ∙ ap (λ (x : Charter). journal_of x h) same in
+    let judged : IsVerdict ch (journal_of ch h) verdict = subst (λ (l : List ℕ). IsVerdict ch l verdict) text c.in_ok-verdict.ensures in
+    let legal : IsLegal ch h = subst (λ (x : Charter). IsLegal x h) same d.legal in
+    record {
+      statuses = told.0;
+      answered = told.1;
+      verdict = verdict;
+      judged = judged;
+      legal = λ texts. c.law_one_verdict.ensures ch (journal_of ch h) verdict (Legal (steps_told ch h)) judged (c.law_complete.ensures ch h legal texts);
+      text_is =
+          c.from_string.ensures ∙ c.in_ok-text.ensures
+          ∙ ap (λ (l : List ℕ). report_by n l c.counts-events.result.0 c.counts-events.result.1 verdict) (c.deref-2.ensures.value ∙ told.2)
+          ∙ ap (λ (e : ℕ). report_by n (counts_of told.0) e c.counts-events.result.1 verdict) (c.counts-events.ensures.events ∙ ap (λ (x : Charter). length (events_of x h)) same)
+          ∙ ap (λ (k : ℕ). report_by n (counts_of told.0) (length (events_of ch h)) k verdict) (c.counts-events.ensures.containers ∙ ap (λ (x : Charter). length (state_after x h).containers) same);
+    }

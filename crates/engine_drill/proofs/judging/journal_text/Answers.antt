@@ -1,0 +1,43 @@
+use Rattle.std.proofs.Common.{arith, ◌≡◌, ◌⊎◌, inl, inr, ◌++◌, ◌∙◌, ℕ, List, take, drop, subst, sym}
+use Rattle.std.specs.List.{flat_map}
+use Rattle.machine_model.specs.JournalLines.{entries_of, journal_line}
+use Rattle.session_model.specs.declared.turned.Part.{Part}
+use Rattle.session_model.specs.declared.turned.Part.TheVariants.{Whole, Gone}
+use Rattle.daemon_core.specs.JournalTurns.{JournalSays}
+use Rattle.daemon_core.specs.Keeping.{history_of}
+use Rattle.daemon_core.specs.Passing.{charter}
+use Rattle.engine_drill.proofs.JournalLemmas.{one_line, all_lines}
+use Rattle.engine_drill.proofs.judging.journal_text.Goals as goal
+
+pub lines-init : goal.lines-init
+lines-init c = (c.new-text.ensures.items, omega arith)
+
+pub lines-preserved : goal.lines-preserved
+lines-preserved c =
+    let entries = entries_of (charter c.args.daemon.now) (history_of c.args.daemon.now.stored.journal) in
+    let n : ℕ = c.lines.number in
+    let old : List ℕ = c.lines.text.items in
+    let new : List ℕ = c.journal_from.new.out.items in
+    let says = (c.in-More.ensures 0).says in (
+      subst (λ (m : ℕ). new ≡ flat_map journal_line (take m entries)) (sym says.0)
+          (one_line entries n old new c.lines.invariant.0 (subst (λ (m : ℕ). new ≡ old ++ flat_map journal_line (drop n (take m entries))) says.0 says.2)),
+      says.1,
+    )
+
+pub lines-smaller : goal.lines-smaller
+lines-smaller c = let says = (c.in-More.ensures 0).says in omega (arith, says.0, says.1)
+
+pub returns-in-UpToDate : goal.returns-in-UpToDate
+returns-in-UpToDate c =
+    let entries = entries_of (charter c.args.daemon.now) (history_of c.args.daemon.now.stored.journal) in
+    let says = (c.in-UpToDate.ensures 0).says in
+    says.1 ∙ all_lines entries c.lines.number c.lines.text.items c.lines.invariant.0 says.0
+
+-- a part of the journal is never whole, and never gone
+pub unreachable-requires : goal.unreachable-requires
+unreachable-requires c = go c.journal_from.result (c.journal_from.ensures 0).says c.in-Whole.is
+  where
+    go : (r : Part) → JournalSays (charter c.args.daemon.now) (history_of c.args.daemon.now.stored.journal) c.lines.number r c.lines.text.items c.journal_from.new.out.items
+        → (r ≡ Whole) ⊎ ((next : ℕ) × (first : ℕ) × (r ≡ Gone next first)) → ⊥
+    go r says (inl is) = subst (λ (p : Part). JournalSays (charter c.args.daemon.now) (history_of c.args.daemon.now.stored.journal) c.lines.number p c.lines.text.items c.journal_from.new.out.items) is says
+    go r says (inr gone) = subst (λ (p : Part). JournalSays (charter c.args.daemon.now) (history_of c.args.daemon.now.stored.journal) c.lines.number p c.lines.text.items c.journal_from.new.out.items) gone.2 says

@@ -1,0 +1,60 @@
+-- The report of a drill: what its requests came to (own).
+use Rattle.std.specs.Prelude.{ℕ, zero, suc, ◌≡◌, ◌+◌, List, [], ◌∷◌, ◌++◌, All, length, codes, decimal}
+use Rattle.engine_text.specs.declared.step.Step.{Step}
+use Rattle.machine_model.specs.History.{Charter, events_of, state_after}
+use Rattle.machine_model.specs.JournalLines.{entries_of}
+use Rattle.history_replay.specs.Texts.{EntryHasTexts}
+use Rattle.history_replay.specs.Verdict.{IsVerdict}
+use Rattle.history_replay.specs.declared.verdict.Verdict.{Verdict}
+use Rattle.history_replay.specs.declared.verdict.Verdict.TheVariants.{Legal, Illegal, BadLine}
+use Rattle.history_check.specs.Legal.{journal_of, steps_told}
+use Rattle.engine_drill.specs.Answers.{HaveStatuses, counts_of}
+
+-- a line: a word and a text, or a word and a number
+abbrev pub text_line : List ℕ → List ℕ → List ℕ
+text_line word text = word ++ codes " " ++ text ++ codes "\n"
+
+abbrev pub number_line : List ℕ → ℕ → List ℕ
+number_line word n = text_line word (decimal n)
+
+-- the line of a status and how often it was answered
+abbrev pub answered_line : ℕ → ℕ → List ℕ
+answered_line status count = codes "status " ++ decimal status ++ codes " " ++ decimal count ++ codes "\n"
+
+-- it stands there if it was
+abbrev pub status_line : ℕ → ℕ → List ℕ
+status_line status zero = []
+status_line status (suc n) = answered_line status (suc n)
+
+-- those of all statuses from this one on, by their counts
+abbrev pub status_lines : ℕ → List ℕ → List ℕ
+status_lines first [] = []
+status_lines first (count ∷ counts) = status_line first count ++ status_lines (first + 1) counts
+
+-- what is said of the journal: that it is right, or which line isn't, with what it keeps and what is found there
+abbrev pub illegal_lines : ℕ → List ℕ → List ℕ → List ℕ
+illegal_lines line kept found =
+    number_line (codes "illegal line") line ++ text_line (codes "kept") kept ++ text_line (codes "found") found
+
+abbrev pub verdict_lines : Verdict → List ℕ
+verdict_lines (Legal steps) = number_line (codes "legal") steps
+verdict_lines (Illegal line kept found) = illegal_lines line kept found
+verdict_lines (BadLine line) = number_line (codes "bad line") line
+
+-- how many requests were made, how often each status was answered, how many events came, how many containers are left,
+-- and what is said of the journal
+abbrev pub report_by : ℕ → List ℕ → ℕ → ℕ → Verdict → List ℕ
+report_by requests counts events containers verdict =
+    number_line (codes "requests") requests ++ status_lines 0 counts ++ number_line (codes "events") events
+    ++ number_line (codes "containers") containers ++ verdict_lines verdict
+
+-- the text is the report of so many requests, of what was written and of the history that they led to
+pub record IsReport (ch : Charter) (requests : ℕ) (written : List ℕ) (h : List Step) (text : List ℕ) : Type 0 where
+  pub statuses : List ℕ
+  pub answered : HaveStatuses written statuses
+  -- what is said of the history's whole journal; it is legal, with the steps up to the last call, where calls and
+  -- replies are what their types hold
+  pub verdict : Verdict
+  pub judged : IsVerdict ch (journal_of ch h) verdict
+  pub legal : All EntryHasTexts (entries_of ch h) → verdict ≡ Legal (steps_told ch h)
+  pub text_is : text ≡ report_by requests (counts_of statuses) (length (events_of ch h)) (length (state_after ch h).containers) verdict

@@ -1,0 +1,97 @@
+// A drill, and what it came to.
+ghost use Rattle.std.specs.Prelude.{◌≡◌, ◌≤◌, IfOk};
+ghost use Rattle.machine_model.specs.History.{greatest_moment};
+ghost use Rattle.daemon_core.specs.Keeping.{history_of};
+ghost use Rattle.daemon_core.specs.Passing.{charter};
+ghost use Rattle.engine_drill.specs.Source.{empty_sink};
+ghost use Rattle.engine_drill.specs.Report.{IsReport};
+ghost use Rattle.engine_drill.specs.Running.{charter_by, Drills};
+
+use super::counting::tally;
+use super::given::Given;
+use super::judging::journal_text;
+use super::making::requests;
+use super::reporting::report;
+use daemon_core::{Alone, Daemon};
+use engine_ports::{Clock, MemSink, Sink};
+use engine_serve::{Ending, serve};
+use engine_text::{NoMemory, Text};
+use history_check::{check, law_complete, law_one_verdict};
+use std::alloc::Global;
+use std::sync::Wait;
+use std::thread::Threads;
+
+/// What a drill came to.
+#[derive(Drop)]
+pub enum Drilled {
+    /// Its session was closed, and this is its report.
+    Reported(Text),
+    /// Its session ended otherwise.
+    Ended(Ending),
+}
+
+/// What a drill is run with.
+#[derive(Clone, Copy, Drop)]
+pub struct Drill {
+    /// The seed of its words and of the ids.
+    pub seed: [u8; 32],
+    /// How many requests it makes.
+    pub requests: u32,
+    /// The moment at which its daemon is opened, in milliseconds.
+    pub opening: u64,
+    /// The most entries of its journal.
+    pub entries: u64,
+}
+
+/// The report of a daemon that was opened for the drill, and answered by these bytes.
+fn report_of(alloc: Global, daemon: &Daemon, drill: Drill, written: &[u8]) -> Result<Text, NoMemory>
+    requires opening { drill.opening ≤ greatest_moment }
+    requires charter { charter daemon.now ≡ charter_by drill }
+    ensures { IfOk result (λ text. IsReport (charter_by drill) drill.requests written.now (history_of daemon.now.stored.journal) text) }
+{
+    law_complete();
+    law_one_verdict();
+    let journal = journal_text(alloc, daemon)?;
+    let verdict = check(alloc, &journal, drill.seed, drill.opening)?;
+    let counts = tally(alloc, written)?;
+    let (events, containers) = daemon.counts();
+    let text = report(alloc, drill.requests, &counts, events, containers, &verdict)?;
+    Ok(Text::from_string(text))
+}
+
+/// A sink that keeps what it takes, and fails for want of memory alone.
+fn memory_sink(alloc: Global) -> Result<MemSink, NoMemory>
+    ensures { IfOk result (λ k. ⟦<MemSink as Sink>⟧.takes k ≡ empty_sink) }
+{
+    match MemSink::new(alloc, &[]) {
+        Ok(sink) => Ok(sink),
+        Err(_) => Err(NoMemory),
+    }
+}
+
+/// Runs a drill: its requests are served on one connection by a new daemon, the daemon's journal is checked, and what
+/// they came to is reported. It may wait.
+pub fn run_drill<R: Threads + Wait + Sync, C: Clock>(
+    rt: &R,
+    alloc: Global,
+    drill: Drill,
+    clock: &mut C,
+) -> Result<Drilled, NoMemory>
+    requires { drill.opening ≤ greatest_moment }
+    ensures { Drills (charter_by drill) drill.requests result (C.times clock.old) (C.times clock.new) }
+{
+    let bytes = requests(alloc, drill.seed, drill.requests)?;
+    let mut source = Given::new(bytes);
+    let mut sink = memory_sink(alloc)?;
+    let daemon = Daemon::new(alloc, drill.seed, drill.opening, drill.entries)?;
+    let mut turns = Alone::new(daemon);
+    match serve(rt, &mut turns, alloc, 0, &mut source, &mut sink, clock) {
+        Ending::Closed => {
+            let daemon = turns.into_daemon();
+            let text = report_of(alloc, &daemon, drill, sink.bytes())?;
+            Ok(Drilled::Reported(text))
+        }
+        Ending::WriteFault => Err(NoMemory),
+        ending => Ok(Drilled::Ended(ending)),
+    }
+}
