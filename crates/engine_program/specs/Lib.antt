@@ -2,4 +2,5 @@ pub mod Opening
 pub mod Statuses
 pub mod Running
 pub mod Listening
+pub mod Drilling
 pub mod Program

@@ -11,13 +11,11 @@ use Rattle.session_model.specs.declared.ending.Worst.TheVariants.{NoMemory}
 use Rattle.engine_program.specs.Statuses.{status_by}
 use Rattle.engine_program.specs.Running.{RunsSession}
 use Rattle.engine_program.specs.Listening.{ListenSays}
+use Rattle.engine_program.specs.Drilling.{DrillSays}
 
--- what is written where the words aren't a line, and where the line asks for what isn't built yet
+-- what is written where the words aren't a line
 abbrev pub usage_line : List ℕ
 usage_line = codes "usage: engined --stdio | --listen ADDR | --drill N [--seed HEX] [--clock START:STEP] [--connections N] [--journal N]\n"
-
-abbrev pub not_built_line : List ℕ
-not_built_line = codes "not built\n"
 
 -- the text is written, or its write failed
 pub record Tells (text : List ℕ) (status : ℕ) (u u' : SinkView) : Type 0 where
@@ -34,7 +32,7 @@ OnlyTells text status o o' =
 abbrev pub RunsWork : Work → Line → ℕ → Outside → Outside → DoorView → DoorView → Type 0
 RunsWork Stdio line status o o' d d' = RunsSession line status o o' × (d' ≡ d)
 RunsWork (Listen port) line status o o' d d' = ListenSays port line status o o' d d'
-RunsWork (Drill count) line status o o' d d' = OnlyTells not_built_line status o o' × (d' ≡ d)
+RunsWork (Drill requests) line status o o' d d' = DrillSays requests line status o o' × (d' ≡ d)
 
 abbrev pub RunsLine : Option Line → ℕ → Outside → Outside → DoorView → DoorView → Type 0
 RunsLine None status o o' d d' = OnlyTells usage_line status o o' × (d' ≡ d)

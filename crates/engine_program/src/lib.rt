@@ -1,6 +1,7 @@
-//! The top call of the program `engined`: one session, or the shared daemon behind a door.
+//! The top call of the program `engined`: one session, the shared daemon behind a door, or a drill.
 #![tactic(auto)]
 
+mod drilling;
 mod listening;
 mod opening;
 mod program;

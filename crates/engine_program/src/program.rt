@@ -2,10 +2,11 @@
 ghost use Rattle.engine_ports.specs.Door.{outside};
 ghost use Rattle.engine_program.specs.Program.{RunsProgram};
 
+use crate::drilling::run_line_drill;
 use crate::listening::{address_of, listen};
 use crate::running::run_session;
 use crate::status::status_by;
-use crate::telling::{NOT_BUILT, USAGE, tell};
+use crate::telling::{USAGE, tell};
 use engine_line::{Work, read_line};
 use engine_ports::{Clock, Door, Sink, Source};
 use engine_text::Text;
@@ -40,7 +41,7 @@ pub fn run_engined<R: Threads + Wait + Sync, S: Source, K: Sink, C: Clock, D: Do
                 Ok(addr) => listen(rt, alloc, line, &addr, clock, door),
                 Err(_) => status_by(Worst::NoMemory),
             },
-            Work::Drill(_) => tell(sink, NOT_BUILT),
+            Work::Drill(requests) => run_line_drill(rt, alloc, line, requests, sink, clock),
         },
     }
 }

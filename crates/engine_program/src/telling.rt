@@ -7,9 +7,6 @@ use engine_ports::Sink;
 pub const USAGE: &str =
     "usage: engined --stdio | --listen ADDR | --drill N [--seed HEX] [--clock START:STEP] [--connections N] [--journal N]\n";
 
-/// What is written where the line asks for what isn't built yet.
-pub const NOT_BUILT: &str = "not built\n";
-
 /// Writes a text, and answers the status of a line that can't be run. A write that fails isn't
 /// told.
 pub fn tell<K: Sink>(sink: &mut K, text: &str) -> u8
