@@ -1,0 +1,187 @@
+-- A connection that was made, and left.
+use Rattle.std.proofs.Common.{◌≡◌, ◌⊎◌, ◌<◌, ◌≤◌, inl, inr, ℕ, List, [], ◌∷◌, ◌++◌, refl, sym, subst, Option, Some, None, Result, Ok, Err, append-nil, arith}
+use Rattle.engine_ports.specs.Rose.{Rose}
+use Rattle.engine_ports.specs.Source.{SourceView, SourceGave}
+use Rattle.engine_ports.specs.Sink.{SinkView, SinkTook}
+use Rattle.engine_ports.specs.Door.{Came, Left}
+use Rattle.engine_ports.specs.Link.{LinkView, Wire, wire, Connects, Misses as LinkMisses, Leaves}
+use Rattle.engine_ports.proofs.PortLemmas.{source_none}
+use Rattle.response_reader.specs.Answers.{Answer, NoHead}
+use Rattle.client_model.specs.Plans.{nothing}
+use Rattle.client_model.specs.Runs.{Exchange, HaveCome, AreLeft}
+use Rattle.client_model.specs.declared.fault.Fault.{Fault}
+use Rattle.client_model.specs.declared.fault.Fault.TheVariants as F
+use Rattle.client_streams.specs.Outputs.{Outputs, BothBegan}
+use Rattle.client_streams.specs.Taking.{Taken}
+use Rattle.client_exchange.specs.Telling.{Told, Fails, BreaksOff}
+use Rattle.client_exchange.specs.Exchanges.{SendFails, IsUnsent, ConverseSays, Meets, IsAnswered, HasGone, HasRefused, FailsOn, HasBroken, HasMissed, ExchangeSays}
+use Rattle.client_exchange.specs.Feeding.{InputFails, TalkSays, FedSays}
+use Rattle.client_exchange.specs.declared.got.Got.{Got}
+use Rattle.client_streams.specs.declared.taker.Showing.{Showing}
+use Rattle.client_streams.proofs.OutputLemmas.{began_none}
+
+-- a connection that was made is owed
+pub is_owed : (w : Wire) (v v' : LinkView) → Connects w v v' → 0 < v'.owed
+is_owed w v v' c = by_rose c.owed
+  where
+    by_rose : Rose v.owed v'.owed → 0 < v'.owed
+    by_rose (inl less) = omega (arith, less)
+    by_rose (inr top) = omega (arith, top)
+
+came_one : (o o' o'' : Option (List Wire)) (w : Wire) → Came o w o' → o'' ≡ o' → HaveCome o (w ∷ []) o''
+came_one (Some before) (Some now) o'' w came is = subst (HaveCome (Some before) (w ∷ [])) (sym is) came
+came_one None None o'' w came is = subst (HaveCome None (w ∷ [])) (sym is) tt
+came_one (Some before) None o'' w came is = absurd came
+came_one None (Some now) o'' w came is = absurd came
+
+left_one : (o o' o'' : Option (List Wire)) (w : Wire) → o' ≡ o → Left o' w o'' → AreLeft o (w ∷ []) o''
+left_one o o' o'' w is left = go o o'' (subst (λ x. Left x w o'') is left)
+  where
+    go : (o o'' : Option (List Wire)) → Left o w o'' → AreLeft o (w ∷ []) o''
+    go (Some before) (Some now) left = left
+    go None None left = tt
+    go (Some before) None left = absurd left
+    go None (Some now) left = absurd left
+
+-- a connection as it was made and left
+exchange_of : (s s' : SourceView) (u u' : SinkView) (given sent : List ℕ) → SourceGave s given s' → SinkTook u sent u' → Exchange
+exchange_of s s' u u' given sent gave took =
+    record { came = wire s u; left = wire s' u'; given = given; sent = sent; gave = gave; took = took }
+
+module _ (v v1 v2 : LinkView) (s s' : SourceView) (u u' : SinkView) (made : Connects (wire s u) v v1) (left : Leaves (wire s' u') v1 v2) where
+  meets : (x : Exchange) → x.came ≡ wire s u → x.left ≡ wire s' u' → Meets v v2 x
+  meets x came was = record {
+    came = subst (λ w. HaveCome v.coming (w ∷ []) v2.coming) (sym came) (came_one v.coming v1.coming v2.coming (wire s u) made.came left.coming);
+    left = subst (λ w. AreLeft v.past (w ∷ []) v2.past) (sym was) (left_one v.past v1.past v2.past (wire s' u') made.past left.past);
+    faults = subst (λ n. v.faults ≤ n) (sym left.faults) made.faults;
+  }
+
+  answered : (request : List ℕ) (answer : Answer) → SinkTook u request u' → Told s s' answer → IsAnswered request answer v v2
+  unfolding exchange_of
+  answered request answer took told = record {
+    exchange = exchange_of s s' u u' told.bytes request told.gave took;
+    meets = meets (exchange_of s s' u u' told.bytes request told.gave took) refl refl;
+    sent = refl;
+    is = told.is;
+  }
+
+  fails_on : (starved : Type 0) (fault : Fault) (x : Exchange) (o o' : Outputs) → x.came ≡ wire s u → x.left ≡ wire s' u' → Fails fault s s' o o' → FailsOn starved fault x o o'
+  fails_on starved F.Connection x o o' came was f =
+      inl (inl (subst (λ (w : Wire). Rose w.source.faults x.left.source.faults) (sym came) (subst (λ (w : Wire). Rose s.faults w.source.faults) (sym was) f)))
+  fails_on starved F.Output x o o' came was f = f
+  fails_on starved F.Errors x o o' came was f = f
+  fails_on starved F.NoMemory x o o' came was f = f
+  fails_on starved F.Words x o o' came was f = absurd f
+  fails_on starved F.Input x o o' came was f = absurd f
+  fails_on starved F.Answer x o o' came was f = absurd f
+  fails_on starved F.NoCode x o o' came was f = absurd f
+  fails_on starved F.EventsGone x o o' came was f = absurd f
+  fails_on starved (F.Refused message) x o o' came was f = absurd f
+  fails_on starved F.Link x o o' came was f = absurd f
+
+  send_fails : (starved : Type 0) (fault : Fault) (x : Exchange) (o o' : Outputs) → x.came ≡ wire s u → x.left ≡ wire s' u' → SendFails starved fault u u' → FailsOn starved fault x o o'
+  send_fails starved F.Connection x o o' came was f =
+      inl (inr (subst (λ (w : Wire). Rose w.sink.faults x.left.sink.faults) (sym came) (subst (λ (w : Wire). Rose u.faults w.sink.faults) (sym was) f)))
+  send_fails starved F.Input x o o' came was f = f
+  send_fails starved F.Output x o o' came was f = absurd f
+  send_fails starved F.Errors x o o' came was f = absurd f
+  send_fails starved F.NoMemory x o o' came was f = absurd f
+  send_fails starved F.Words x o o' came was f = absurd f
+  send_fails starved F.Answer x o o' came was f = absurd f
+  send_fails starved F.NoCode x o o' came was f = absurd f
+  send_fails starved F.EventsGone x o o' came was f = absurd f
+  send_fails starved (F.Refused message) x o o' came was f = absurd f
+  send_fails starved F.Link x o o' came was f = absurd f
+
+  broken : (bytes : List ℕ) (starved : Type 0) (fault : Fault) (showing : Showing) (o o' : Outputs) → SinkTook u bytes u' → BreaksOff fault showing s s' o o'
+      → HasBroken bytes starved fault showing (record { link = v; shown = o }) (record { link = v2; shown = o' })
+  unfolding exchange_of
+  broken bytes starved fault showing o o' took b =
+      let x = exchange_of s s' u u' b.told.bytes bytes b.told.gave took in record {
+        answer = b.answer;
+        exchange = x;
+        meets = meets x refl refl;
+        sent = ([], append-nil bytes);
+        tells = b.told.is;
+        began = b.began;
+        cause = fails_on starved fault x o o' refl refl b.cause;
+      }
+
+  unsent : (bytes : List ℕ) (starved : Type 0) (fault : Fault) (showing : Showing) (o o' : Outputs) → IsUnsent bytes starved (Err fault) s s' u u' o o'
+      → HasBroken bytes starved fault showing (record { link = v; shown = o }) (record { link = v2; shown = o' })
+  unfolding exchange_of
+  unsent bytes starved fault showing o o' b =
+      let same : b.fault ≡ fault = err_same (Err fault) b.fault fault b.is refl in
+      let gave : SourceGave s [] s' = subst (SourceGave s []) (sym b.unread) (source_none s) in
+      let x = exchange_of s s' u u' [] b.part gave b.took in record {
+        answer = NoHead;
+        exchange = x;
+        meets = meets x refl refl;
+        sent = b.front;
+        tells = tt;
+        began = subst (λ p. BothBegan o nothing p) (sym b.unshown) (began_none o nothing);
+        cause = subst (λ f. FailsOn starved f x o o') same (send_fails starved b.fault x o o' refl refl b.cause);
+      }
+    where
+      err_same : (r : Result Got Fault) (a b : Fault) → r ≡ Err a → r ≡ Err b → a ≡ b
+      err_same r a b p q = cc
+
+  -- a connection that was made came to an answer, or broke off
+  pub Gets : List ℕ → Type 0 → Result Got Fault → Showing → Taken → Outputs → Outputs → Type 0
+  Gets bytes starved (Ok got) showing t o o' = HasGone bytes got showing t (record { link = v; shown = o }) (record { link = v2; shown = o' })
+  Gets bytes starved (Err fault) showing t o o' =
+      HasRefused bytes fault (record { link = v; shown = o }) (record { link = v2; shown = o' })
+      ⊎ HasBroken bytes starved fault showing (record { link = v; shown = o }) (record { link = v2; shown = o' })
+
+  pub gets : (bytes : List ℕ) (starved : Type 0) (result : Result Got Fault) (showing : Showing) (t : Taken) (o o' : Outputs)
+      → ConverseSays bytes starved result showing t s s' u u' o o' → Gets bytes starved result showing t o o'
+  unfolding Gets
+  gets bytes starved (Ok got) showing t o o' (inl (took, g)) =
+      record { head = g.head; body = g.body; status = g.status; first = g.first; kept = g.kept; answered = answered bytes _ took g.told; took = g.took }
+  gets bytes starved (Err fault) showing t o o' (inl (took, inl r)) =
+      inl (record { answer = r.answer; answered = answered bytes r.answer took r.told; refuses = r.refuses; took = r.took })
+  gets bytes starved (Err fault) showing t o o' (inl (took, inr b)) = inr (broken bytes starved fault showing o o' took b)
+  gets bytes starved (Ok got) showing t o o' (inr b) = absurd (no_fault (Ok got) got b.fault refl b.is)
+    where
+      no_fault : (r : Result Got Fault) (got : Got) (fault : Fault) → r ≡ Ok got → r ≡ Err fault → ⊥
+      no_fault r got fault p q = cc
+  gets bytes starved (Err fault) showing t o o' (inr b) = inr (unsent bytes starved fault showing o o' b)
+
+  pub exchanged : (request : List ℕ) (result : Result Got Fault) (showing : Showing) (t : Taken) (o o' : Outputs)
+      → ConverseSays request ⊥ result showing t s s' u u' o o'
+      → ExchangeSays request result showing t (record { link = v; shown = o }) (record { link = v2; shown = o' })
+  unfolding Gets
+  exchanged request result showing t o o' says = by_result result (gets request ⊥ result showing t o o' says)
+    where
+      by_result : (result : Result Got Fault) → Gets request ⊥ result showing t o o'
+          → ExchangeSays request result showing t (record { link = v; shown = o }) (record { link = v2; shown = o' })
+      by_result (Ok got) g = g
+      by_result (Err fault) (inl r) = inl r
+      by_result (Err fault) (inr b) = inr (inl b)
+
+  pub talked : (request : List ℕ) (result : Result Got Fault) (showing : Showing) (t : Taken) (i i' : SourceView) (o o' : Outputs)
+      → TalkSays request result showing t i i' s s' u u' o o'
+      → FedSays request result showing t i i' (record { link = v; shown = o }) (record { link = v2; shown = o' })
+  unfolding Gets
+  talked request (Ok got) showing t i i' o o' (input, gave, inl (ended, (took, says))) =
+      inl (input, gave, (ended, gets (request ++ input) (InputFails i i') (Ok got) showing t o o' (inl (took, says))))
+  talked request (Err fault) showing t i i' o o' (input, gave, inl (ended, (took, says))) =
+      by_answer (gets (request ++ input) (InputFails i i') (Err fault) showing t o o' (inl (took, says)))
+    where
+      by_answer : Gets (request ++ input) (InputFails i i') (Err fault) showing t o o'
+          → FedSays request (Err fault) showing t i i' (record { link = v; shown = o }) (record { link = v2; shown = o' })
+      by_answer (inl r) = inl (input, gave, inl (ended, r))
+      by_answer (inr b) = inl (input, gave, inr b)
+  talked request (Ok got) showing t i i' o o' (input, gave, inr b) = absurd (no_fault (Ok got) got b.fault refl b.is)
+    where
+      no_fault : (r : Result Got Fault) (got : Got) (fault : Fault) → r ≡ Ok got → r ≡ Err fault → ⊥
+      no_fault r got fault p q = cc
+  talked request (Err fault) showing t i i' o o' (input, gave, inr b) =
+      inl (input, gave, inr (unsent (request ++ input) (InputFails i i') fault showing o o' b))
+
+-- no connection was made
+pub missed : (v v' : LinkView) (o : Outputs) → LinkMisses v v' → HasMissed F.Link (record { link = v; shown = o }) (record { link = v'; shown = o })
+missed v v' o m = record { missed = record { coming = m.coming; past = m.past }; shown = refl; cause = m.faults }
+
+pub nothing_made : (v : LinkView) (o : Outputs) → HasMissed F.NoMemory (record { link = v; shown = o }) (record { link = v; shown = o })
+nothing_made v o = record { missed = record { coming = refl; past = refl }; shown = refl; cause = tt }

@@ -1,0 +1,186 @@
+-- A request that standard input follows, by the plan that asks it.
+use Rattle.std.proofs.Common.{◌≡◌, inl, inr, ℕ, List, [], ◌∷◌, ◌++◌, map, refl, sym, ap, ◌∙◌, subst, Result, Ok, Err, Bool, true, false}
+use Rattle.std.specs.Prelude.{if◌then◌else◌, ◌&&◌, ◌||◌}
+use Rattle.std.specs.List.{list_any}
+use Rattle.std.proofs.lemmas.List.Folds.{list_any-append}
+use Rattle.engine_ports.specs.Source.{SourceView, SourceGave, SourceEnded}
+use Rattle.http_edge.specs.Message.{Request}
+use Rattle.response_reader.specs.Answers.{Answered}
+use Rattle.client_model.specs.Requests.{request_bytes}
+use Rattle.client_model.specs.Plans.{Plan, Asked, nothing, writes, fails, by_answer}
+use Rattle.client_model.specs.Runs.{sent_by}
+use Rattle.client_model.specs.declared.fault.Fault.{Fault}
+use Rattle.client_model.specs.declared.fault.Fault.TheVariants as F
+use Rattle.client_streams.specs.Taking.{Taken, shows, ends_by}
+use Rattle.client_streams.specs.declared.taker.Showing.{Showing}
+use Rattle.client_streams.proofs.OutputLemmas.{both_none}
+use Rattle.client_exchange.specs.declared.got.Got.{Got}
+use Rattle.client_exchange.specs.Exchanges.{Reach, HasGone}
+use Rattle.client_exchange.specs.Walks.{IsAsking, AreQuiet, Walked, Walks, Does}
+use Rattle.client_exchange.specs.Asking.{shown_by}
+use Rattle.client_exchange.specs.Feeding.{InputFails, FedSays, Feeds, FedDoes}
+use Rattle.client_exchange.proofs.WalkLemmas.{way_one, way_on, walk_none, walk_on}
+use Rattle.client_exchange.proofs.AskLemmas.{by_below, by_shown, ends_as, refused_way, broken_stops, missed_does}
+
+-- ---- walks beside input
+
+-- what was sent without input is what would be with it
+pub sent_anyway : (input : List ℕ) (asked : List Asked) → AreQuiet asked → map (sent_by []) asked ≡ map (sent_by input) asked
+sent_anyway input [] quiet = refl
+sent_anyway input (a ∷ asked) quiet = by_first a.input refl (sent_anyway input asked)
+  where
+    by_first : (t : Bool) → a.input ≡ t → (AreQuiet asked → map (sent_by []) asked ≡ map (sent_by input) asked) → map (sent_by []) (a ∷ asked) ≡ map (sent_by input) (a ∷ asked)
+    by_first true is rest = absurd (loud (sym (ap (λ t. t || list_any (λ (b : Asked). b.input) asked) is) ∙ quiet))
+      where
+        loud : true ≡ false → ⊥
+        loud e = cc
+    by_first false is rest =
+        ap (λ t. (if t then request_bytes a.request ++ [] else request_bytes a.request) ∷ map (sent_by []) asked) is
+        ∙ ap (λ l. request_bytes a.request ∷ l) (rest (sym (ap (λ t. t || list_any (λ (b : Asked). b.input) asked) is) ∙ quiet))
+        ∙ ap (λ t. (if t then request_bytes a.request ++ input else request_bytes a.request) ∷ map (sent_by input) asked) (sym is)
+
+unfoldable pub with_input : (plan next : Plan) (input : List ℕ) (o o' : Reach) → Walks plan o next o' → Walked plan input o next o'
+with_input plan next input o o' w = record {
+  xs = w.way.xs;
+  answers = w.way.answers;
+  asked = w.way.asked;
+  written = w.way.written;
+  answered = w.way.answered;
+  came = w.way.came;
+  left = w.way.left;
+  faults = w.way.faults;
+  sent = w.way.sent ∙ sent_anyway input w.way.asked w.quiet;
+  took = w.way.took;
+  says = w.way.says;
+}
+
+loud_on : (ms ns : List Asked) → list_any (λ a. a.input) ms ≡ true → list_any (λ a. a.input) (ms ++ ns) ≡ true
+loud_on ms ns loud = list_any-append (λ (x : Asked). x.input) ms ns ∙ ap (λ t. t || list_any (λ (x : Asked). x.input) ns) loud
+
+pub loud_behind : (ms ns : List Asked) → AreQuiet ms → list_any (λ a. a.input) ns ≡ true → list_any (λ a. a.input) (ms ++ ns) ≡ true
+loud_behind ms ns quiet loud = list_any-append (λ (x : Asked). x.input) ms ns ∙ ap (λ t. t || list_any (λ (x : Asked). x.input) ns) quiet ∙ loud
+
+pub feeds_behind : (plan next last : Plan) (v v' : SourceView) (o p q : Reach) → Walks plan o next p → Feeds next v v' p last q → Feeds plan v v' o last q
+unfolding way_on with_input
+feeds_behind plan next last v v' o p q w f = record {
+  input = f.input;
+  way = way_on plan next last f.input o p q (with_input plan next f.input o p w) f.way;
+  loud = loud_behind w.way.asked f.way.asked w.quiet f.loud;
+  gave = f.gave;
+  ended = f.ended;
+}
+
+pub feeds_on : (plan next last : Plan) (v v' : SourceView) (o p q : Reach) → Feeds plan v v' o next p → Walks next p last q → Feeds plan v v' o last q
+unfolding way_on with_input
+feeds_on plan next last v v' o p q f w = record {
+  input = f.input;
+  way = way_on plan next last f.input o p q f.way (with_input next last f.input p q w);
+  loud = loud_on f.way.asked w.way.asked f.loud;
+  gave = f.gave;
+  ended = f.ended;
+}
+
+-- ---- plans beside input
+
+pub does_fed : (plan next : Plan) (result : Result ℕ Fault) (v v' : SourceView) (o p q : Reach) → Feeds plan v v' o next p → Does next result p q → FedDoes plan result v v' o q
+does_fed plan next result v v' o p q f d =
+    inr (inl (record { next = d.next; between = d.between; feeds = feeds_on plan next d.next v v' o p d.between f d.walks; comes = d.comes }))
+
+pub fed_does : (plan next : Plan) (result : Result ℕ Fault) (v v' : SourceView) (o p q : Reach) → Walks plan o next p → FedDoes next result v v' p q → FedDoes plan result v v' o q
+fed_does plan next result v v' o p q w (inl (d, same)) =
+    inl (record { next = d.next; between = d.between; walks = walk_on plan next d.next o p d.between w d.walks; comes = d.comes }, same)
+fed_does plan next result v v' o p q w (inr (inl d)) =
+    inr (inl (record { next = d.next; between = d.between; feeds = feeds_behind plan next d.next v v' o p d.between w d.feeds; comes = d.comes }))
+fed_does plan next result v v' o p q w (inr (inr (fault, is, s))) =
+    inr (inr (
+      fault,
+      is,
+      record {
+        next = s.next;
+        between = s.between;
+        walks = walk_on plan next s.next o p s.between w s.walks;
+        input = s.input;
+        gave = s.gave;
+        loud = s.loud;
+        stops = s.stops;
+      },
+    ))
+
+-- ---- a body that is shown
+
+module _ (showing : Showing) (request : Request) (next : Plan) where
+  abbrev plan : Plan
+  plan = shown_by showing request true next
+
+  abbrev asked : Asked
+  asked = record { request = request; input = true }
+
+  -- the plan that an answer leads to is reached
+  reaches : (got : Got) (t : Taken) (input : List ℕ) (last : Plan) (v v' : SourceView) (o o' : Reach) → SourceGave v input v' → SourceEnded v v'
+      → (g : HasGone (request_bytes request ++ input) got showing t o o') → (if got.whole && ends_by t then next else fails F.Answer) ≡ last → IsAsking last
+      → Feeds plan v v' o last o'
+  unfolding by_shown way_one
+  reaches got t input last v v' o o' gave ended g is asking = record {
+    input = input;
+    way =
+        way_one asked input (by_answer (by_shown showing next)) (Answered g.head g.body got.whole) (shows showing g.body) last o o' g.answered g.took
+        (by_below (by_shown showing next) g.head g.body got.whole g.status
+        ∙ ap (λ e. writes (shows showing g.body) (if got.whole && e then next else fails F.Answer)) (sym (ends_as showing t g.body g.kept))
+        ∙ ap (writes (shows showing g.body)) is)
+        asking;
+    loud = refl;
+    gave = gave;
+    ended = ended;
+  }
+
+  fails_fed : (fault : Fault) (v v' : SourceView) (o o' : Reach) → Feeds plan v v' o (fails fault) o' → FedDoes plan (Err fault) v v' o o'
+  fails_fed fault v v' o o' f = inr (inl (record {
+    next = fails fault;
+    between = o';
+    feeds = f;
+    comes = inl (record { written = nothing; is = refl; took = both_none o'.shown; link = refl });
+  }))
+
+  same_err : (r : Result Got Fault) (a b : Fault) → r ≡ Err a → r ≡ Err b → a ≡ b
+  same_err r a b p q = cc
+
+  not_ok : (r : Result Got Fault) (a : Got) (b : Fault) → r ≡ Ok a → r ≡ Err b → ⊥
+  not_ok r a b p q = cc
+
+  pub fed_goes : (got : Got) (t : Taken) (v v' : SourceView) (o o' : Reach) → (got.whole && ends_by t) ≡ true
+      → FedSays (request_bytes request) (Ok got) showing t v v' o o' → IsAsking next → Feeds plan v v' o next o'
+  fed_goes got t v v' o o' all (inl (input, gave, (ended, g))) asking =
+      reaches got t input next v v' o o' gave ended g (ap (λ e. if e then next else fails F.Answer) all) asking
+  fed_goes got t v v' o o' all (inr (fault, is, same, m)) asking = absurd (not_ok (Ok got) got fault refl is)
+
+  pub fed_cut : (got : Got) (t : Taken) (v v' : SourceView) (o o' : Reach) → (got.whole && ends_by t) ≡ false
+      → FedSays (request_bytes request) (Ok got) showing t v v' o o' → FedDoes plan (Err F.Answer) v v' o o'
+  fed_cut got t v v' o o' cut (inl (input, gave, (ended, g))) =
+      fails_fed F.Answer v v' o o' (reaches got t input (fails F.Answer) v v' o o' gave ended g (ap (λ e. if e then next else fails F.Answer) cut) tt)
+  fed_cut got t v v' o o' cut (inr (fault, is, same, m)) = absurd (not_ok (Ok got) got fault refl is)
+
+  pub fed_fails : (fault : Fault) (t : Taken) (v v' : SourceView) (o o' : Reach)
+      → FedSays (request_bytes request) (Err fault) showing t v v' o o' → FedDoes plan (Err fault) v v' o o'
+  unfolding by_shown refused_way way_one
+  fed_fails fault t v v' o o' (inl (input, gave, inl (ended, r))) = fails_fed fault v v' o o' (record {
+    input = input;
+    way = refused_way asked input (by_shown showing next) fault o o' r;
+    loud = refl;
+    gave = gave;
+    ended = ended;
+  })
+  fed_fails fault t v v' o o' (inl (input, gave, inr b)) = inr (inr (
+    fault,
+    refl,
+    record {
+      next = plan;
+      between = o;
+      walks = walk_none plan o;
+      input = input;
+      gave = gave;
+      loud = λ answer. refl;
+      stops = broken_stops asked input (by_shown showing next) (InputFails v v') showing fault o o' (λ h body. (F.Answer, refl)) b;
+    },
+  ))
+  fed_fails fault t v v' o o' (inr (other, is, same, m)) =
+      inl (subst (λ e. Does plan (Err e) o o') (same_err (Err fault) other fault is refl) (missed_does asked (by_shown showing next) other o o' m), same)

@@ -1,0 +1,153 @@
+-- Exchanges one after another.
+use Rattle.std.proofs.Common.{◌≡◌, ℕ, List, [], ◌∷◌, ◌++◌, map, refl, sym, ap, ap₂, ◌∙◌, append_assoc, append-nil, Option, Some, None, Result, arith}
+use Rattle.std.proofs.lemmas.List.{map-append}
+use Rattle.std.proofs.lemmas.List.Folds.{list_any-append}
+use Rattle.engine_ports.specs.Link.{Wire}
+use Rattle.response_reader.specs.Answers.{Answer}
+use Rattle.client_model.specs.Requests.{request_bytes}
+use Rattle.client_model.specs.Plans.{Plan, Ends, Asks, Judges, Asked, Written, nothing, joined, writes}
+use Rattle.client_model.specs.Client.{Said, said, said_first, said_by}
+use Rattle.client_model.specs.Runs.{Exchange, AreAnswered, HaveCome, AreLeft, sent_by}
+use Rattle.client_model.specs.declared.fault.Fault.{Fault}
+use Rattle.http_edge.specs.Message.{Request}
+use Rattle.client_streams.specs.Outputs.{BothTook}
+use Rattle.client_exchange.specs.Exchanges.{Reach, IsAnswered}
+use Rattle.client_exchange.specs.Walks.{IsAsking, AreQuiet, said_behind, Walked, Walks, Does}
+use Rattle.client_exchange.specs.Asking.{alone}
+use Rattle.client_streams.proofs.OutputLemmas.{both_none, both_on}
+
+-- ---- lists of connections
+
+pub came_none : (o : Option (List Wire)) → HaveCome o [] o
+came_none (Some ws) = refl
+came_none None = tt
+
+pub came_on : (o p q : Option (List Wire)) (xs ys : List Exchange)
+    → HaveCome o (map (λ x. x.came) xs) p → HaveCome p (map (λ x. x.came) ys) q → HaveCome o (map (λ x. x.came) (xs ++ ys)) q
+came_on (Some o) (Some p) (Some q) xs ys a b =
+    a ∙ ap (λ l. map (λ (x : Exchange). x.came) xs ++ l) b
+    ∙ sym (append_assoc (map (λ (x : Exchange). x.came) xs) (map (λ (x : Exchange). x.came) ys) q)
+    ∙ ap (λ l. l ++ q) (sym (map-append (λ (x : Exchange). x.came) xs ys))
+came_on None None None xs ys a b = tt
+came_on (Some o) None q xs ys a b = absurd a
+came_on None (Some p) q xs ys a b = absurd a
+came_on (Some o) (Some p) None xs ys a b = absurd b
+came_on None None (Some q) xs ys a b = absurd b
+
+pub left_none : (o : Option (List Wire)) → AreLeft o [] o
+left_none (Some ws) = sym (append-nil ws)
+left_none None = tt
+
+pub left_on : (o p q : Option (List Wire)) (xs ys : List Exchange)
+    → AreLeft o (map (λ x. x.left) xs) p → AreLeft p (map (λ x. x.left) ys) q → AreLeft o (map (λ x. x.left) (xs ++ ys)) q
+left_on (Some o) (Some p) (Some q) xs ys a b =
+    b ∙ ap (λ l. l ++ map (λ (x : Exchange). x.left) ys) a
+    ∙ append_assoc o (map (λ (x : Exchange). x.left) xs) (map (λ (x : Exchange). x.left) ys)
+    ∙ ap (λ l. o ++ l) (sym (map-append (λ (x : Exchange). x.left) xs ys))
+left_on None None None xs ys a b = tt
+left_on (Some o) None q xs ys a b = absurd a
+left_on None (Some p) q xs ys a b = absurd a
+left_on (Some o) (Some p) None xs ys a b = absurd b
+left_on None None (Some q) xs ys a b = absurd b
+
+pub answered_on : (xs ys : List Exchange) (ms ns : List Answer) → AreAnswered xs ms → AreAnswered ys ns → AreAnswered (xs ++ ys) (ms ++ ns)
+answered_on [] ys [] ns a b = b
+answered_on (x ∷ xs) ys (answer ∷ ms) ns a b = (a.0, answered_on xs ys ms ns a.1 b)
+answered_on [] ys (answer ∷ ms) ns a b = absurd a
+answered_on (x ∷ xs) ys [] ns a b = absurd a
+
+quiet_on : (ms ns : List Asked) → AreQuiet ms → AreQuiet ns → AreQuiet (ms ++ ns)
+quiet_on ms ns a b = rw (list_any-append (λ (x : Asked). x.input) ms ns, a, b) refl
+
+-- ---- what is said
+
+joined_assoc : (w v u : Written) → joined (joined w v) u ≡ joined w (joined v u)
+joined_assoc w v u = λ i. record { out = append_assoc w.out v.out u.out i; err = append_assoc w.err v.err u.err i }
+
+pub behind_on : (ms ns : List Asked) (w v : Written) (s : Said) → said_behind ms w (said_behind ns v s) ≡ said_behind (ms ++ ns) (joined w v) s
+behind_on ms ns w v s = λ i. said (sym (append_assoc ms ns s.asked) i) (sym (joined_assoc w v s.written) i) s.end
+
+-- ---- walks
+
+unfoldable pub way_none : (plan : Plan) (input : List ℕ) (o : Reach) → Walked plan input o plan o
+way_none plan input o = record {
+  xs = [];
+  answers = [];
+  asked = [];
+  written = nothing;
+  answered = tt;
+  came = came_none o.link.coming;
+  left = left_none o.link.past;
+  faults = omega arith;
+  sent = refl;
+  took = both_none o.shown;
+  says = λ more. refl;
+}
+
+unfoldable pub way_on : (plan next last : Plan) (input : List ℕ) (o p q : Reach) → Walked plan input o next p → Walked next input p last q → Walked plan input o last q
+way_on plan next last input o p q a b = record {
+  xs = a.xs ++ b.xs;
+  answers = a.answers ++ b.answers;
+  asked = a.asked ++ b.asked;
+  written = joined a.written b.written;
+  answered = answered_on a.xs b.xs a.answers b.answers a.answered b.answered;
+  came = came_on o.link.coming p.link.coming q.link.coming a.xs b.xs a.came b.came;
+  left = left_on o.link.past p.link.past q.link.past a.xs b.xs a.left b.left;
+  faults = omega (arith, a.faults, b.faults);
+  sent =
+      map-append (λ (x : Exchange). x.sent) a.xs b.xs ∙ ap₂ (λ l m. l ++ m) a.sent b.sent ∙ sym (map-append (sent_by input) a.asked b.asked);
+  took = both_on o.shown p.shown q.shown a.written b.written a.took b.took;
+  says = λ more.
+      ap (said_by plan None) (append_assoc a.answers b.answers more) ∙ a.says (b.answers ++ more)
+      ∙ ap (said_behind a.asked a.written) (b.says more) ∙ behind_on a.asked b.asked a.written b.written (said_by last None more);
+}
+
+pub walk_none : (plan : Plan) (o : Reach) → Walks plan o plan o
+unfolding way_none
+walk_none plan o = record { way = way_none plan [] o; quiet = refl }
+
+pub walk_on : (plan next last : Plan) (o p q : Reach) → Walks plan o next p → Walks next p last q → Walks plan o last q
+unfolding way_on
+walk_on plan next last o p q a b =
+    record { way = way_on plan next last [] o p q a.way b.way; quiet = quiet_on a.way.asked b.way.asked a.quiet b.quiet }
+
+pub does_on : (plan next : Plan) (result : Result ℕ Fault) (o p q : Reach) → Walks plan o next p → Does next result p q → Does plan result o q
+does_on plan next result o p q a d =
+    record { next = d.next; between = d.between; walks = walk_on plan next d.next o p d.between a d.walks; comes = d.comes }
+
+-- ---- one exchange
+
+-- what a plan says that writes this first
+pub writes_says : (w : Written) (plan : Plan) (more : List Answer) → IsAsking plan → said_by (writes w plan) None more ≡ said_behind [] w (said_by plan None more)
+writes_says w (Ends v ending) more is = refl
+writes_says w (Asks v asked next) [] is = refl
+writes_says w (Asks v asked next) (answer ∷ more) is =
+    λ i. said (asked ∷ (said_by (next answer) None more).asked) (joined_assoc w v (said_by (next answer) None more).written i) (said_by (next answer) None more).end
+writes_says w (Judges charter next) more is = absurd is
+
+-- it was answered, and what the answer shows was written: the next plan is reached
+unfoldable pub way_one : (asked : Asked) (input : List ℕ) (cont : Answer → Plan) (answer : Answer) (w : Written) (next : Plan) (o o' : Reach)
+    → IsAnswered (sent_by input asked) answer o.link o'.link → BothTook o.shown w o'.shown → cont answer ≡ writes w next → IsAsking next
+    → Walked (Asks nothing asked cont) input o next o'
+way_one asked input cont answer w next o o' is took goes asking = record {
+  xs = is.exchange ∷ [];
+  answers = answer ∷ [];
+  asked = asked ∷ [];
+  written = w;
+  answered = (is.is, tt);
+  came = is.meets.came;
+  left = is.meets.left;
+  faults = is.meets.faults;
+  sent = ap (λ l. l ∷ []) is.sent;
+  took = took;
+  says = λ more.
+      ap (λ (p : Plan). said_first nothing asked (said_by p None more)) goes
+      ∙ ap (said_first nothing asked) (writes_says w next more asking);
+}
+
+pub walk_one : (request : Request) (cont : Answer → Plan) (answer : Answer) (w : Written) (next : Plan) (o o' : Reach)
+    → IsAnswered (request_bytes request) answer o.link o'.link → BothTook o.shown w o'.shown → cont answer ≡ writes w next → IsAsking next
+    → Walks (Asks nothing (alone request) cont) o next o'
+unfolding way_one
+walk_one request cont answer w next o o' is took goes asking =
+    record { way = way_one (alone request) [] cont answer w next o o' is took goes asking; quiet = refl }

@@ -1,0 +1,121 @@
+-- One request over a connection of its own, and its answer (own).
+use Rattle.std.specs.Prelude.{ℕ, ◌≡◌, ◌⊎◌, ◌≤◌, nat_lt, true, List, [], ◌∷◌, Result, Ok, Err, ⊤}
+use Rattle.engine_ports.specs.Rose.{Rose}
+use Rattle.engine_ports.specs.Source.{SourceView}
+use Rattle.engine_ports.specs.Sink.{SinkView, SinkTook, IsFront}
+use Rattle.engine_ports.specs.Link.{LinkView}
+use Rattle.http_edge.specs.declared.head.Head.{Head}
+use Rattle.response_reader.specs.Answers.{Answer, Answered, IsAnswer, TellsSoFar}
+use Rattle.response_reader.specs.Heads.{first_in}
+use Rattle.client_model.specs.Plans.{nothing}
+use Rattle.client_model.specs.Runs.{Exchange, has_ended, HaveCome, AreLeft, HasFailed}
+use Rattle.client_model.specs.declared.fault.Fault.{Fault}
+use Rattle.client_model.specs.declared.fault.Fault.TheVariants as F
+use Rattle.client_streams.specs.Outputs.{Outputs, outputs, BothTook, BothBegan, OutputsFail}
+use Rattle.client_streams.specs.Taking.{Taken, taken, shows}
+use Rattle.client_exchange.specs.Telling.{Refuses, answer_shows, AnswerSays}
+use Rattle.client_exchange.specs.declared.got.Got.{Got}
+use Rattle.client_streams.specs.declared.taker.Showing.{Showing}
+
+-- what a request reaches: the link, and the outputs
+pub record Reach : Type 0 where
+  pub link : LinkView
+  pub shown : Outputs
+
+abbrev pub reach : LinkView → SinkView → SinkView → Reach
+reach link out err = record { link = link; shown = outputs out err }
+
+-- ---- on a connection
+
+-- why not all was sent: the connection failed, or what was to be sent couldn't be had
+abbrev pub SendFails : Type 0 → Fault → SinkView → SinkView → Type 0
+SendFails starved F.Connection u u' = Rose u.faults u'.faults
+SendFails starved F.Input u u' = starved
+SendFails starved fault u u' = ⊥
+
+-- a front of the bytes was sent, and nothing read
+pub record IsUnsent (bytes : List ℕ) (starved : Type 0) (result : Result Got Fault) (s s' : SourceView) (u u' : SinkView) (o o' : Outputs) : Type 0 where
+  pub fault : Fault
+  pub is : result ≡ Err fault
+  pub unread : s' ≡ s
+  pub unshown : o' ≡ o
+  pub part : List ℕ
+  pub front : IsFront part bytes
+  pub took : SinkTook u part u'
+  pub cause : SendFails starved fault u u'
+
+-- the bytes were sent, and the answer read; or a front of them was sent
+abbrev pub ConverseSays : List ℕ → Type 0 → Result Got Fault → Showing → Taken → SourceView → SourceView → SinkView → SinkView → Outputs → Outputs → Type 0
+ConverseSays bytes starved result showing t s s' u u' o o' =
+    (SinkTook u bytes u' × AnswerSays result showing t s s' o o') ⊎ IsUnsent bytes starved result s s' u u' o o'
+
+-- ---- over the link
+
+-- one connection was made, and left
+pub record Meets (v v' : LinkView) (x : Exchange) : Type 0 where
+  pub came : HaveCome v.coming (x.came ∷ []) v'.coming
+  pub left : AreLeft v.past (x.left ∷ []) v'.past
+  pub faults : v.faults ≤ v'.faults
+
+-- it was sent the request, and gave this answer
+pub record IsAnswered (request : List ℕ) (answer : Answer) (v v' : LinkView) : Type 0 where
+  pub exchange : Exchange
+  pub meets : Meets v v' exchange
+  pub sent : exchange.sent ≡ request
+  pub is : IsAnswer exchange.given (has_ended exchange) answer
+
+-- none was made
+pub record IsMissed (v v' : LinkView) : Type 0 where
+  pub coming : v'.coming ≡ v.coming
+  pub past : v'.past ≡ v.past
+
+-- an answer that doesn't refuse came to its end, and was shown
+pub record HasGone (request : List ℕ) (got : Got) (showing : Showing) (t : Taken) (o o' : Reach) : Type 0 where
+  pub head : Head
+  pub body : List ℕ
+  pub status : nat_lt head.status 400 ≡ true
+  pub first : got.first ≡ first_in head.form
+  pub kept : t ≡ taken showing body
+  pub answered : IsAnswered request (Answered head body got.whole) o.link o'.link
+  pub took : BothTook o.shown (shows showing body) o'.shown
+
+-- one by which every command fails so came to its end
+pub record HasRefused (request : List ℕ) (fault : Fault) (o o' : Reach) : Type 0 where
+  pub answer : Answer
+  pub answered : IsAnswered request answer o.link o'.link
+  pub refuses : Refuses answer fault
+  pub took : BothTook o.shown nothing o'.shown
+
+-- an output failed, memory was refused, the connection failed, or what was to be sent couldn't be had
+abbrev pub FailsOn : Type 0 → Fault → Exchange → Outputs → Outputs → Type 0
+FailsOn starved F.Connection x o o' = HasFailed (x ∷ [])
+FailsOn starved F.Input x o o' = starved
+FailsOn starved fault x o o' = OutputsFail fault o o'
+
+-- a connection broke off: it was sent a front of the bytes, and gave so much of an answer, of which fronts were shown
+pub record HasBroken (bytes : List ℕ) (starved : Type 0) (fault : Fault) (showing : Showing) (o o' : Reach) : Type 0 where
+  pub answer : Answer
+  pub exchange : Exchange
+  pub meets : Meets o.link o'.link exchange
+  pub sent : IsFront exchange.sent bytes
+  pub tells : TellsSoFar exchange.given answer
+  pub began : BothBegan o.shown (answer_shows showing answer) o'.shown
+  pub cause : FailsOn starved fault exchange o.shown o'.shown
+
+-- why no connection was made
+abbrev pub Misses : Fault → LinkView → LinkView → Type 0
+Misses F.Link v v' = Rose v.faults v'.faults
+Misses F.NoMemory v v' = ⊤
+Misses fault v v' = ⊥
+
+-- no connection was made, and nothing shown
+pub record HasMissed (fault : Fault) (o o' : Reach) : Type 0 where
+  pub missed : IsMissed o.link o'.link
+  pub shown : o'.shown ≡ o.shown
+  pub cause : Misses fault o.link o'.link
+
+-- what an exchange says
+abbrev pub ExchangeSays : List ℕ → Result Got Fault → Showing → Taken → Reach → Reach → Type 0
+ExchangeSays request (Ok got) showing t o o' = HasGone request got showing t o o'
+ExchangeSays request (Err fault) showing t o o' =
+    HasRefused request fault o o' ⊎ (HasBroken request ⊥ fault showing o o' ⊎ HasMissed fault o o')

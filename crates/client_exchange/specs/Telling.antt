@@ -1,0 +1,103 @@
+-- What a connection tells of its answer, and what is done with it (own: told of all the bytes that its source gave).
+use Rattle.std.specs.Prelude.{ℕ, ◌≡◌, ◌⊎◌, nat_lt, Bool, true, false, List, [], ◌++◌, Result, Ok, Err, if◌then◌else◌}
+use Rattle.engine_ports.specs.Rose.{Rose}
+use Rattle.engine_ports.specs.Source.{SourceView, SourceGave}
+use Rattle.http_edge.specs.declared.head.Head.{Head}
+use Rattle.response_reader.specs.Answers.{Answer, NoHead, Answered, IsAnswer, TellsSoFar}
+use Rattle.response_reader.specs.Heads.{first_in}
+use Rattle.response_reader.specs.Held.{Reading}
+use Rattle.response_reader.specs.Reader.{HasTaken}
+use Rattle.response_reader.specs.declared.got.Stage.TheVariants as stage
+use Rattle.client_model.specs.Bodies.{message_in}
+use Rattle.client_model.specs.Plans.{Plan, Written, nothing, by_answer, goes_on, if_whole, fails}
+use Rattle.client_model.specs.declared.fault.Fault.{Fault}
+use Rattle.client_model.specs.declared.fault.Fault.TheVariants as F
+use Rattle.client_streams.specs.Outputs.{Outputs, BothTook, BothBegan, OutputsFail}
+use Rattle.client_streams.specs.Taking.{Taken, taken, shows}
+use Rattle.client_exchange.specs.declared.got.Got.{Got}
+use Rattle.client_streams.specs.declared.taker.Showing.{Showing}
+
+-- a source that came so gave this head and these bytes of its body, and a reader has taken them
+pub record Stands (came : SourceView) (h : Head) (body : List ℕ) (r : Reading) (s : SourceView) : Type 0 where
+  pub bytes : List ℕ
+  pub taken : HasTaken bytes h body r
+  pub gave : SourceGave came (bytes ++ r.ahead) s
+
+-- a source that came so gave this answer
+pub record Told (came s : SourceView) (answer : Answer) : Type 0 where
+  pub bytes : List ℕ
+  pub gave : SourceGave came bytes s
+  pub is : IsAnswer bytes (nat_lt came.ends s.ends) answer
+
+-- it gave so much of this answer
+pub record ToldSoFar (came s : SourceView) (answer : Answer) : Type 0 where
+  pub bytes : List ℕ
+  pub gave : SourceGave came bytes s
+  pub is : TellsSoFar bytes answer
+
+-- an output failed, memory was refused, or the source failed
+abbrev pub Fails : Fault → SourceView → SourceView → Outputs → Outputs → Type 0
+Fails F.Connection came s o o' = Rose came.faults s.faults
+Fails fault came s o o' = OutputsFail fault o o'
+
+-- the body came to its end, whole or not, and was shown; or so much of it, and fronts of that were shown
+abbrev pub FollowSays : Result Bool Fault → SourceView → Head → Showing → Taken → SourceView → Outputs → Outputs → Type 0
+FollowSays (Ok whole) came h showing t s o o' =
+    (body : List ℕ) × (t ≡ taken showing body) × Told came s (Answered h body whole) × BothTook o (shows showing body) o'
+FollowSays (Err fault) came h showing t s o o' =
+    (body : List ℕ) × ToldSoFar came s (Answered h body false) × BothBegan o (shows showing body) o' × Fails fault came s o o'
+
+-- ---- answers
+
+-- by this answer every command fails so
+abbrev pub Refuses : Answer → Fault → Type 0
+Refuses answer fault = (next : Head → List ℕ → Bool → Plan) → by_answer next answer ≡ fails fault
+
+-- before the head
+abbrev pub unread_answer : Reading
+unread_answer = record { ahead = []; taken = 0; from = 0; stage = stage.Head }
+
+-- what the body of a refusal tells, but for want of memory
+abbrev pub FaultSays : Fault → Bool → List ℕ → Type 0
+FaultSays fault whole body =
+    (fault ≡ F.NoMemory)
+    ⊎ (goes_on (λ message. fails (F.Refused message)) (if_whole whole (message_in body)) ≡ fails fault)
+
+-- what is shown of an answer
+abbrev pub answer_shows : Showing → Answer → Written
+answer_shows showing NoHead = nothing
+answer_shows showing (Answered h body whole) = if nat_lt h.status 400 then shows showing body else nothing
+
+-- an answer that doesn't refuse came to its end, and was shown
+pub record Goes (got : Got) (showing : Showing) (t : Taken) (came s : SourceView) (o o' : Outputs) : Type 0 where
+  pub head : Head
+  pub body : List ℕ
+  pub status : nat_lt head.status 400 ≡ true
+  pub first : got.first ≡ first_in head.form
+  pub kept : t ≡ taken showing body
+  pub told : Told came s (Answered head body got.whole)
+  pub took : BothTook o (shows showing body) o'
+
+-- an answer by which every command fails so came to its end
+pub record IsRefused (fault : Fault) (came s : SourceView) (o o' : Outputs) : Type 0 where
+  pub answer : Answer
+  pub told : Told came s answer
+  pub refuses : Refuses answer fault
+  pub took : BothTook o nothing o'
+
+-- so much of an answer came, and fronts of that were shown
+pub record BreaksOff (fault : Fault) (showing : Showing) (came s : SourceView) (o o' : Outputs) : Type 0 where
+  pub answer : Answer
+  pub told : ToldSoFar came s answer
+  pub began : BothBegan o (answer_shows showing answer) o'
+  pub cause : Fails fault came s o o'
+
+-- what reading a refusal says
+abbrev pub RefusalSays : Fault → SourceView → SourceView → Outputs → Outputs → Type 0
+RefusalSays fault came s o o' =
+    IsRefused fault came s o o' ⊎ ((showing : Showing) → BreaksOff fault showing came s o o')
+
+-- what reading an answer says
+abbrev pub AnswerSays : Result Got Fault → Showing → Taken → SourceView → SourceView → Outputs → Outputs → Type 0
+AnswerSays (Ok got) showing t came s o o' = Goes got showing t came s o o'
+AnswerSays (Err fault) showing t came s o o' = IsRefused fault came s o o' ⊎ BreaksOff fault showing came s o o'

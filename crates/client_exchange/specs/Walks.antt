@@ -1,0 +1,85 @@
+-- A command on its way: whole exchanges bring it from plan to plan, and then it ends or breaks off (own).
+use Rattle.std.specs.Prelude.{ℕ, ◌≡◌, ◌⊎◌, ◌≤◌, false, List, [], ◌∷◌, ◌++◌, map, None, Result, Ok, Err, ⊤}
+use Rattle.std.specs.List.{list_any}
+use Rattle.response_reader.specs.Answers.{Answer, TellsSoFar}
+use Rattle.client_model.specs.Plans.{Plan, Ends, Judges, Asked, Written, Ending, Done, Fails, joined}
+use Rattle.client_model.specs.Client.{Said, said, said_by}
+use Rattle.client_model.specs.Runs.{Exchange, AreAnswered, HaveCome, AreLeft, AreSentSoFar, sent_by}
+use Rattle.client_model.specs.declared.fault.Fault.{Fault}
+use Rattle.client_streams.specs.Outputs.{BothTook, BothBegan, OutputsFail}
+use Rattle.client_exchange.specs.Exchanges.{Reach, Meets, IsMissed, Misses, FailsOn}
+
+-- standard input follows none of these requests
+abbrev pub AreQuiet : List Asked → Type 0
+AreQuiet asked = list_any (λ a. a.input) asked ≡ false
+
+-- it doesn't read standard input for a verdict
+abbrev pub IsAsking : Plan → Type 0
+IsAsking (Judges charter next) = ⊥
+IsAsking plan = ⊤
+
+-- behind these requests, and what was written first
+abbrev pub said_behind : List Asked → Written → Said → Said
+said_behind asked w s = said (asked ++ s.asked) (joined w s.written) s.end
+
+-- whole exchanges bring a plan to the next; a request may be followed by this input
+pub record Walked (plan : Plan) (input : List ℕ) (o : Reach) (next : Plan) (o' : Reach) : Type 0 where
+  pub xs : List Exchange
+  pub answers : List Answer
+  pub asked : List Asked
+  pub written : Written
+  pub answered : AreAnswered xs answers
+  pub came : HaveCome o.link.coming (map (λ x. x.came) xs) o'.link.coming
+  pub left : AreLeft o.link.past (map (λ x. x.left) xs) o'.link.past
+  pub faults : o.link.faults ≤ o'.link.faults
+  pub sent : map (λ x. x.sent) xs ≡ map (sent_by input) asked
+  pub took : BothTook o.shown written o'.shown
+  pub says : (more : List Answer) → said_by plan None (answers ++ more) ≡ said_behind asked written (said_by next None more)
+
+-- and standard input follows none of them
+pub record Walks (plan : Plan) (o : Reach) (next : Plan) (o' : Reach) : Type 0 where
+  pub way : Walked plan [] o next o'
+  pub quiet : AreQuiet way.asked
+
+-- a plan ends so, and all that it writes was written
+pub record Finishes (plan : Plan) (ending : Ending) (o o' : Reach) : Type 0 where
+  pub written : Written
+  pub is : plan ≡ Ends written ending
+  pub took : BothTook o.shown written o'.shown
+  pub link : o'.link ≡ o.link
+
+-- why nothing more was asked: an output failed, no connection was made, or memory was refused
+abbrev pub FailsAlone : Fault → Reach → Reach → Type 0
+FailsAlone fault o o' = OutputsFail fault o.shown o'.shown ⊎ Misses fault o.link o'.link
+
+-- it broke off before anything more was asked: fronts of what it writes first were written
+pub record StopsBefore (plan : Plan) (fault : Fault) (o o' : Reach) : Type 0 where
+  pub missed : IsMissed o.link o'.link
+  pub began : BothBegan o.shown (said_by plan None []).written o'.shown
+  pub cause : FailsAlone fault o o'
+
+-- it broke off in its next exchange: a front of the request and its input was sent, so much of an answer came, and
+-- fronts of what it writes by that were written
+pub record StopsIn (plan : Plan) (input : List ℕ) (starved : Type 0) (fault : Fault) (o o' : Reach) : Type 0 where
+  pub exchange : Exchange
+  pub answer : Answer
+  pub meets : Meets o.link o'.link exchange
+  pub tells : TellsSoFar exchange.given answer
+  pub sent : AreSentSoFar (exchange.sent ∷ []) (map (sent_by input) (said_by plan None (answer ∷ [])).asked)
+  pub began : BothBegan o.shown (said_by plan None (answer ∷ [])).written o'.shown
+  pub cause : FailsOn starved fault exchange o.shown o'.shown
+
+abbrev pub Stops : Plan → Fault → Reach → Reach → Type 0
+Stops plan fault o o' = StopsBefore plan fault o o' ⊎ StopsIn plan [] ⊥ fault o o'
+
+-- how a plan that was reached came out: it ended so, or broke off
+abbrev pub Comes : Plan → Result ℕ Fault → Reach → Reach → Type 0
+Comes plan (Ok status) o o' = Finishes plan (Done status) o o'
+Comes plan (Err fault) o o' = Finishes plan (Fails fault) o o' ⊎ Stops plan fault o o'
+
+-- what was done of a plan: whole exchanges, and then its end, or what broke it off
+pub record Does (plan : Plan) (result : Result ℕ Fault) (o o' : Reach) : Type 0 where
+  pub next : Plan
+  pub between : Reach
+  pub walks : Walks plan o next between
+  pub comes : Comes next result between o'

@@ -1,0 +1,174 @@
+// One request of a command, by the plan that asks it.
+ghost use Rattle.std.specs.Prelude.{◌≡◌, ◌&&◌, []};
+ghost use Rattle.http_edge.specs.Message.{Request};
+ghost use Rattle.client_model.specs.Requests.{request_bytes};
+ghost use Rattle.client_exchange.specs.Asking.{AskSays, NumberedSays, ShowSays};
+ghost use Rattle.client_streams.specs.Taking.{ends_by, taken};
+ghost use Rattle.client_exchange.specs.Exchanges.{reach};
+ghost use Rattle.client_exchange.specs.Feeding.{ShowFedSays};
+
+use crate::connection::exchange;
+use crate::feeding::exchange_with_input;
+use crate::got::Got;
+use crate::made::fresh_taker;
+use client_model::Fault;
+use client_streams::{Showing, Taker};
+use engine_ports::{Link, Sink, Source};
+use std::alloc::Global;
+use std::sync::Wait;
+
+/// Sends a request, and hands the body of its answer on, all of which came.
+pub fn ask<W: Wait, L: Link, K: Sink, E: Sink>(
+    rt: &W,
+    alloc: Global,
+    link: &mut L,
+    address: &str,
+    request: &[u8],
+    out: &mut K,
+    errors: &mut E,
+) -> Result<Vec<u8>, Fault>
+    ensures { (r : Request) → request.now ≡ request_bytes r → AskSays r result
+        (reach (L.links link.old) (K.takes out.old) (E.takes errors.old))
+        (reach (L.links link.new) (K.takes out.new) (E.takes errors.new)) }
+{
+    let mut taker = fresh_taker(alloc, Showing::Kept);
+    match exchange(rt, alloc, link, address, request, &mut taker, out, errors) {
+        Ok(got) => {
+            if got.whole {
+                Ok(taker.into_kept())
+            } else {
+                Err(Fault::Answer)
+            }
+        }
+        Err(fault) => Err(fault),
+    }
+}
+
+/// Sends a request, and hands on as much of the body of its answer as came, with the number of its first event and whether
+/// all of it came.
+pub fn ask_numbered<W: Wait, L: Link, K: Sink, E: Sink>(
+    rt: &W,
+    alloc: Global,
+    link: &mut L,
+    address: &str,
+    request: &[u8],
+    out: &mut K,
+    errors: &mut E,
+) -> Result<(Got, Vec<u8>), Fault>
+    ensures { (r : Request) → request.now ≡ request_bytes r → NumberedSays r result
+        (reach (L.links link.old) (K.takes out.old) (E.takes errors.old))
+        (reach (L.links link.new) (K.takes out.new) (E.takes errors.new)) }
+{
+    let mut taker = fresh_taker(alloc, Showing::Kept);
+    match exchange(rt, alloc, link, address, request, &mut taker, out, errors) {
+        Ok(got) => Ok((got, taker.into_kept())),
+        Err(fault) => Err(fault),
+    }
+}
+
+/// Whether all of a body came, and it ends where it may.
+fn is_whole(got: Got, taker: &Taker) -> bool
+    ensures { result ≡ got.whole && ends_by taker.now }
+{
+    if got.whole { taker.may_end() } else { false }
+}
+
+/// Sends a request, and shows the body of its answer through this taker.
+fn show_through<W: Wait, L: Link, K: Sink, E: Sink>(
+    rt: &W,
+    alloc: Global,
+    link: &mut L,
+    address: &str,
+    request: &[u8],
+    taker: &mut Taker,
+    out: &mut K,
+    errors: &mut E,
+) -> Result<(), Fault>
+    requires { taker.old ≡ taken taker.old.showing [] }
+    ensures { (r : Request) → request.now ≡ request_bytes r → ShowSays taker.old.showing r result
+        (reach (L.links link.old) (K.takes out.old) (E.takes errors.old))
+        (reach (L.links link.new) (K.takes out.new) (E.takes errors.new)) }
+{
+    match exchange(rt, alloc, link, address, request, taker, out, errors) {
+        Ok(got) => {
+            if is_whole(got, taker) {
+                Ok(())
+            } else {
+                Err(Fault::Answer)
+            }
+        }
+        Err(fault) => Err(fault),
+    }
+}
+
+/// Sends a request, and shows the body of its answer as it comes.
+pub fn show<W: Wait, L: Link, K: Sink, E: Sink>(
+    rt: &W,
+    alloc: Global,
+    link: &mut L,
+    address: &str,
+    request: &[u8],
+    showing: Showing,
+    out: &mut K,
+    errors: &mut E,
+) -> Result<(), Fault>
+    ensures { (r : Request) → request.now ≡ request_bytes r → ShowSays showing r result
+        (reach (L.links link.old) (K.takes out.old) (E.takes errors.old))
+        (reach (L.links link.new) (K.takes out.new) (E.takes errors.new)) }
+{
+    let mut taker = fresh_taker(alloc, showing);
+    show_through(rt, alloc, link, address, request, &mut taker, out, errors)
+}
+
+/// Sends a request, and behind it standard input to its end; then shows the body of its answer through this taker.
+fn show_input_through<W: Wait, L: Link, N: Source, K: Sink, E: Sink>(
+    rt: &W,
+    alloc: Global,
+    link: &mut L,
+    address: &str,
+    request: &[u8],
+    input: &mut N,
+    taker: &mut Taker,
+    out: &mut K,
+    errors: &mut E,
+) -> Result<(), Fault>
+    requires { taker.old ≡ taken taker.old.showing [] }
+    ensures { (r : Request) → request.now ≡ request_bytes r → ShowFedSays taker.old.showing r result
+        (N.gives input.old) (N.gives input.new)
+        (reach (L.links link.old) (K.takes out.old) (E.takes errors.old))
+        (reach (L.links link.new) (K.takes out.new) (E.takes errors.new)) }
+{
+    match exchange_with_input(rt, alloc, link, address, request, input, taker, out, errors) {
+        Ok(got) => {
+            if is_whole(got, taker) {
+                Ok(())
+            } else {
+                Err(Fault::Answer)
+            }
+        }
+        Err(fault) => Err(fault),
+    }
+}
+
+/// Sends a request, and behind it standard input to its end; then shows the body of its answer as it comes.
+pub fn show_with_input<W: Wait, L: Link, N: Source, K: Sink, E: Sink>(
+    rt: &W,
+    alloc: Global,
+    link: &mut L,
+    address: &str,
+    request: &[u8],
+    input: &mut N,
+    showing: Showing,
+    out: &mut K,
+    errors: &mut E,
+) -> Result<(), Fault>
+    ensures { (r : Request) → request.now ≡ request_bytes r → ShowFedSays showing r result
+        (N.gives input.old) (N.gives input.new)
+        (reach (L.links link.old) (K.takes out.old) (E.takes errors.old))
+        (reach (L.links link.new) (K.takes out.new) (E.takes errors.new)) }
+{
+    let mut taker = fresh_taker(alloc, showing);
+    show_input_through(
+        rt, alloc, link, address, request, input, &mut taker, out, errors,
+    )
+}

@@ -1,0 +1,14 @@
+// A taker that has taken nothing.
+ghost use Rattle.std.specs.Prelude.{◌≡◌, []};
+ghost use Rattle.client_streams.specs.Taking.{taken};
+
+use client_streams::{Showing, Taker};
+use std::alloc::Global;
+
+/// A taker before the first byte of a body.
+pub(crate) fn fresh_taker(alloc: Global, showing: Showing) -> Taker
+    ensures showing { result.showing ≡ showing }
+    ensures fresh { result ≡ taken result.showing [] }
+{
+    Taker::new(alloc, showing)
+}
