@@ -28,8 +28,8 @@ ALWAYS = ("always", 0)
 ZEROS = bytes(32)
 
 
-def keystream(n, seed):
-    state = list(struct.unpack("<4I8I", b"expand 32-byte k" + seed)) + [0, 0, n & 0xFFFFFFFF, n >> 32]
+def keystream(n, seed, block=0):
+    state = list(struct.unpack("<4I8I", b"expand 32-byte k" + seed)) + [block, 0, n & 0xFFFFFFFF, n >> 32]
     work = state[:]
 
     def quarter(a, b, c, d):

@@ -12,7 +12,7 @@ scenario("create_failing", WEB, "", status=4, comings=("read=0", "write=0"))
 for name, words in (("other_words", "--stdio --listen 127.0.0.1:1"), ("other_word", "--stdin"), ("no_words", "")):
     scenario(name, WEB, USAGE, status=2, words=words)
 
-# what the line sets: the seed of ids, the most entries of the journal, and what isn't built or is no line
+# what the line sets: the seed of ids, the most entries of the journal, and what is no line
 SEED = bytes(range(0xA0, 0xC0))
 scenario("seed", [WEB, create("db")], [created(0, SEED), created(1, SEED)], words=f"{STDIO} --seed {SEED.hex().upper()}")
 scenario("journal_of_one", [WEB, create("db"), get("/containers/json?all=1"), get("/_ping")],
@@ -23,7 +23,6 @@ scenario("connections", WEB, created(0), words=f"--connections 1 {STDIO}")
 scenario("listen", WEB, "", words="--listen 127.0.0.1:2375 --connections 5", comings=("pieces=4096", "read=0", "write=0"))
 for host in ("0.0.0.0:2375", "localhost:2375"):
     scenario(f"listen_at_{host.partition(':')[0].replace('.', '_')}", WEB, USAGE, status=2, words=f"--listen {host}")
-scenario("drill", WEB, "not built\n", status=2, words="--drill 100000 --clock 1700000000000:0")
 scenario("clock_twice", WEB, USAGE, status=2, words=f"{STDIO} --clock 1700000000000:0", comings=("pieces=4096", "write=0"))
 scenario("same_name", [WEB, WEB, create(), get("/containers/anon-1/json")],
          [created(0), conflict("web", 0), created(1), shown(1, "anon-1", ["hello"], "created")])

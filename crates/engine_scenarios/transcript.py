@@ -8,6 +8,7 @@ import urllib.parse
 
 from exchange import *
 import lives  # (each adds its scenarios, in this order)
+import drills
 import states
 import logs
 import waits
@@ -162,7 +163,9 @@ def main():
                 told.append(f"== {name} in pieces of {number}\nstatus {status}\n{wanted}\n")
             elif how == "stop":
                 told.append(f"== {name} with pause {number} stopped\nstatus {status}\n{wanted}\n")
-            elif status == 2 or "--stdio" not in words:  # nothing is read, and a write that fails stays untold
+            elif how == "read" and "--drill" in words:  # nothing is read
+                told.append(f"== {name} with {how} {number} failing\nstatus {status}\n{wanted}\n")
+            elif status == 2 or "--listen" in words:  # nor is it here, and a write that fails stays untold
                 told.append(f"== {name} with {how} {number} failing\nstatus {status}\n{wanted if how == 'read' else ''}\n")
             else:
                 told.append(f"== {name} with {how} {number} failing\nstatus 4\n{front or ''}\n")
