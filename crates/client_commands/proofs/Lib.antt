@@ -1,0 +1,5 @@
+pub mod EventBackLemmas
+pub mod AskedLemmas
+pub mod PrintLemmas
+pub mod WatchLemmas
+pub mod WatchedLemmas

@@ -1,0 +1,38 @@
+// `attach`, by its plan.
+ghost use Rattle.client_model.specs.Commands.Attach.{attach_plan};
+ghost use Rattle.client_exchange.specs.Exchanges.{reach};
+ghost use Rattle.client_exchange.specs.Walks.{Does};
+
+use crate::asked::show_all;
+use client_model::Fault;
+use client_streams::Showing;
+use engine_client::attach_request;
+use engine_ports::{Link, Sink};
+use std::alloc::Global;
+use std::sync::Wait;
+
+/// It writes what a container wrote and writes.
+pub fn attach_container<W: Wait, L: Link, K: Sink, E: Sink>(
+    rt: &W,
+    alloc: Global,
+    link: &mut L,
+    address: &str,
+    target: &str,
+    out: &mut K,
+    errors: &mut E,
+) -> Result<u8, Fault>
+    ensures { Does (attach_plan target.now) result
+        (reach (L.links link.old) (K.takes out.old) (E.takes errors.old))
+        (reach (L.links link.new) (K.takes out.new) (E.takes errors.new)) }
+{
+    show_all(
+        rt,
+        alloc,
+        link,
+        address,
+        attach_request(alloc, target, false),
+        Showing::Demuxed,
+        out,
+        errors,
+    )
+}

@@ -1,0 +1,39 @@
+// `logs`, by its plan.
+ghost use Rattle.client_model.specs.Commands.Logs.{logs_plan};
+ghost use Rattle.client_exchange.specs.Exchanges.{reach};
+ghost use Rattle.client_exchange.specs.Walks.{Does};
+
+use crate::asked::show_all;
+use client_model::Fault;
+use client_streams::Showing;
+use engine_client::logs_request;
+use engine_ports::{Link, Sink};
+use std::alloc::Global;
+use std::sync::Wait;
+
+/// It writes what a container wrote.
+pub fn write_logs<W: Wait, L: Link, K: Sink, E: Sink>(
+    rt: &W,
+    alloc: Global,
+    link: &mut L,
+    address: &str,
+    target: &str,
+    follow: bool,
+    out: &mut K,
+    errors: &mut E,
+) -> Result<u8, Fault>
+    ensures { Does (logs_plan target.now follow) result
+        (reach (L.links link.old) (K.takes out.old) (E.takes errors.old))
+        (reach (L.links link.new) (K.takes out.new) (E.takes errors.new)) }
+{
+    show_all(
+        rt,
+        alloc,
+        link,
+        address,
+        logs_request(alloc, target, follow),
+        Showing::Demuxed,
+        out,
+        errors,
+    )
+}

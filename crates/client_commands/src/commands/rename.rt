@@ -1,0 +1,38 @@
+// `rename`, by its plan.
+ghost use Rattle.client_model.specs.Commands.Rename.{rename_plan};
+ghost use Rattle.client_exchange.specs.Exchanges.{reach};
+ghost use Rattle.client_exchange.specs.Walks.{Does};
+
+use crate::asked::ask_and_print;
+use client_model::Fault;
+use engine_client::rename_request;
+use engine_ports::{Link, Sink};
+use std::alloc::Global;
+use std::sync::Wait;
+
+/// It gives a container another name.
+pub fn rename_container<W: Wait, L: Link, K: Sink, E: Sink>(
+    rt: &W,
+    alloc: Global,
+    link: &mut L,
+    address: &str,
+    target: &str,
+    name: &str,
+    out: &mut K,
+    errors: &mut E,
+) -> Result<u8, Fault>
+    ensures { Does (rename_plan target.now name.now) result
+        (reach (L.links link.old) (K.takes out.old) (E.takes errors.old))
+        (reach (L.links link.new) (K.takes out.new) (E.takes errors.new)) }
+{
+    ask_and_print(
+        rt,
+        alloc,
+        link,
+        address,
+        rename_request(alloc, target, name),
+        target,
+        out,
+        errors,
+    )
+}

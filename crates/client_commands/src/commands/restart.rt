@@ -1,0 +1,39 @@
+// `restart`, by its plan.
+ghost use Rattle.client_model.specs.Commands.Restart.{restart_plan};
+ghost use Rattle.client_exchange.specs.Exchanges.{reach};
+ghost use Rattle.client_exchange.specs.Walks.{Does};
+
+use crate::asked::ask_and_print;
+use client_model::Fault;
+use engine_client::restart_request;
+use engine_ports::{Link, Sink};
+use engine_text::Text;
+use std::alloc::Global;
+use std::sync::Wait;
+
+/// It restarts a container.
+pub fn restart_container<W: Wait, L: Link, K: Sink, E: Sink>(
+    rt: &W,
+    alloc: Global,
+    link: &mut L,
+    address: &str,
+    target: &str,
+    seconds: &Option<Text>,
+    out: &mut K,
+    errors: &mut E,
+) -> Result<u8, Fault>
+    ensures { Does (restart_plan target.now seconds.now) result
+        (reach (L.links link.old) (K.takes out.old) (E.takes errors.old))
+        (reach (L.links link.new) (K.takes out.new) (E.takes errors.new)) }
+{
+    ask_and_print(
+        rt,
+        alloc,
+        link,
+        address,
+        restart_request(alloc, target, seconds),
+        target,
+        out,
+        errors,
+    )
+}
