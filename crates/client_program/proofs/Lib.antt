@@ -1,0 +1,5 @@
+pub mod InputLemmas
+pub mod RunLemmas
+pub mod CallLemmas
+pub mod MomentLemmas
+pub mod LineLemmas

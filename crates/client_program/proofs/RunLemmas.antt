@@ -1,0 +1,317 @@
+-- What a call says of its outside, by what was done of its plan.
+use Rattle.std.proofs.Common.{◌≡◌, ◌⊎◌, ◌≤◌, inl, inr, ℕ, List, [], ◌∷◌, ◌++◌, map, refl, sym, ap, ◌∙◌, subst, append_assoc, append-nil, Option, Some, None, Bool, true, false, IsFalse}
+use Rattle.std.specs.Prelude.{if◌then◌else◌, ◌||◌}
+use Rattle.std.specs.Bool.{MatchBool}
+use Rattle.std.specs.List.{list_any}
+use Rattle.std.proofs.lemmas.List.{map-append}
+use Rattle.std.proofs.lemmas.List.Folds.{list_any-append}
+use Rattle.engine_ports.specs.Rose.{Rose}
+use Rattle.engine_ports.specs.Source.{SourceView, SourceGave, SourceEnded}
+use Rattle.engine_ports.specs.Sink.{SinkView, SinkTook, IsFront}
+use Rattle.engine_ports.specs.Link.{LinkView}
+use Rattle.engine_ports.proofs.PortLemmas.{sink_on, rose_since, rose_until}
+use Rattle.response_reader.specs.Answers.{Answer}
+use Rattle.history_replay.specs.declared.verdict.Verdict.{Verdict}
+use Rattle.client_model.specs.Requests.{request_bytes}
+use Rattle.client_model.specs.Faults.{fault_line}
+use Rattle.client_model.specs.Lines.{command_names}
+use Rattle.client_model.specs.Plans.{Plan, Ends, Asks, Judges, Asked, Written, Ending, joined}
+use Rattle.client_model.specs.Client.{Said, said, said_by, plan_for, IsJudged, status_at, line_at}
+use Rattle.client_model.specs.Runs.{Outside, Exchange, HaveCome, AreLeft, ByAnswers, SoFar, sent_by, asks_input, ReadsInput, WroteLine, IsEnded, HasFailed, CauseOf, AreSentSoFar, IsBrokenOff}
+use Rattle.client_model.specs.declared.fault.Fault.{Fault}
+use Rattle.client_model.specs.declared.fault.Fault.TheVariants as F
+use Rattle.client_streams.specs.Outputs.{outputs, BothTook, BothBegan, OutputsFail}
+use Rattle.client_streams.proofs.OutputLemmas.{both_on, began_behind, fails_since}
+use Rattle.client_exchange.specs.Exchanges.{Reach, Misses, FailsOn}
+use Rattle.client_exchange.specs.Walks.{said_behind, Walked, StopsBefore, StopsIn, FailsAlone}
+use Rattle.client_exchange.proofs.WalkLemmas.{came_on, left_on}
+use Rattle.client_program.specs.Running.{outside, reach_of, Tells}
+
+-- ---- plans that ask for no verdict
+
+some_none : (ending : Ending) → Some ending ≡ None → ⊥
+some_none ending e = cc
+
+not_judging : (plan : Plan) (answers : List Answer) (input : List ℕ) (asked : List Asked) (w : Written) (ending : Ending)
+    → said asked w (Some ending) ≡ said_by plan None answers → IsJudged plan input None
+not_judging (Ends v e) answers input asked w ending is = refl
+not_judging (Asks v a next) answers input asked w ending is = refl
+not_judging (Judges charter next) answers input asked w ending is = absurd (some_none ending (ap (λ (s : Said). s.end) is))
+
+input_so : (plan : Plan) (answers : List Answer) (input : List ℕ) (asked : List Asked) (w : Written) (ending : Ending) (v v' : SourceView)
+    → said asked w (Some ending) ≡ said_by plan None answers → MatchBool (list_any (λ a. a.input) asked) (SourceEnded v v') (input ≡ [])
+    → ReadsInput plan (said asked w (Some ending)) input v v'
+input_so (Ends u e) answers input asked w ending v v' is reads = reads
+input_so (Asks u a next) answers input asked w ending v v' is reads = reads
+input_so (Judges charter next) answers input asked w ending v v' is reads = absurd (some_none ending (ap (λ (s : Said). s.end) is))
+
+asks_loud : (plan : Plan) (s : Said) → list_any (λ a. a.input) s.asked ≡ true → asks_input plan s ≡ true
+asks_loud (Ends u e) s loud = loud
+asks_loud (Asks u a next) s loud = loud
+asks_loud (Judges charter next) s loud = refl
+
+true_false : true ≡ false → ⊥
+true_false e = cc
+
+-- a plan whose request standard input follows reads it
+pub loud_reads : (plan : Plan) (s : Said) (input : List ℕ) → list_any (λ a. a.input) s.asked ≡ true → IsFalse (asks_input plan s) → input ≡ []
+loud_reads plan s input loud unread = absurd (true_false (sym (asks_loud plan s loud) ∙ unread))
+
+or_true : (t : Bool) → (t || true) ≡ true
+or_true true = refl
+or_true false = refl
+
+pub loud_first : (ms ns : List Asked) → list_any (λ a. a.input) ms ≡ true → list_any (λ a. a.input) (ms ++ ns) ≡ true
+loud_first ms ns loud = list_any-append (λ (x : Asked). x.input) ms ns ∙ ap (λ t. t || list_any (λ (x : Asked). x.input) ns) loud
+
+pub loud_last : (ms ns : List Asked) → list_any (λ a. a.input) ns ≡ true → list_any (λ a. a.input) (ms ++ ns) ≡ true
+loud_last ms ns loud =
+    list_any-append (λ (x : Asked). x.input) ms ns ∙ ap (λ t. list_any (λ (x : Asked). x.input) ms || t) loud ∙ or_true (list_any (λ (x : Asked). x.input) ms)
+
+-- ---- the line of a fault
+
+pub line_since : (e e' e'' : SinkView) (part line : List ℕ) → e.faults ≤ e'.faults → WroteLine e' part line e'' → WroteLine e part line e''
+line_since e e' e'' part line le (inl is) = inl is
+line_since e e' e'' part line le (inr (front, rose)) = inr (front, rose_since e.faults e'.faults e''.faults le rose)
+
+-- ---- ends
+
+pub ended : (words : List (List ℕ)) (input : List ℕ) (next : Plan) (w : Written) (ending : Ending) (status : ℕ) (o o' : Outside) (p : Reach) (e : SinkView) (part : List ℕ)
+    (way : Walked (plan_for words) input (reach_of o) next p) → next ≡ Ends w ending → BothTook p.shown w (outputs o'.out e) → o'.link ≡ p.link
+    → SourceGave o.input input o'.input → MatchBool (list_any (λ a. a.input) way.asked) (SourceEnded o.input o'.input) (input ≡ [])
+    → SinkTook e part o'.err → WroteLine e part (line_at ending) o'.err → status ≡ status_at ending → IsEnded words status o o'
+ended words input next w ending status o o' p e part way next_is took link gave reads told line status_is = record {
+  xs = way.xs;
+  input = input;
+  verdict = None;
+  said = said way.asked all (Some ending);
+  ending = ending;
+  part = part;
+  meets = record {
+    came = subst (λ (l : LinkView). HaveCome o.link.coming (map (λ x. x.came) way.xs) l.coming) (sym link) way.came;
+    left = subst (λ (l : LinkView). AreLeft o.link.past (map (λ x. x.left) way.xs) l.past) (sym link) way.left;
+    input_gave = gave;
+  };
+  judged = not_judging (plan_for words) way.answers input way.asked all ending says;
+  says = (way.answers, way.answered, says);
+  ended = refl;
+  sent = way.sent;
+  input_read = input_so (plan_for words) way.answers input way.asked all ending o.input o'.input says reads;
+  out = both.out;
+  err = sink_on o.err e o'.err all.err part both.err told;
+  line = line_since o.err e o'.err part (line_at ending) both.err.faults line;
+  status_is = status_is;
+}
+  where
+    all : Written
+    all = joined way.written w
+
+    both : BothTook (outputs o.out o.err) (joined way.written w) (outputs o'.out e)
+    both = both_on (outputs o.out o.err) p.shown (outputs o'.out e) way.written w way.took took
+
+    says : said way.asked (joined way.written w) (Some ending) ≡ said_by (plan_for words) None way.answers
+    says =
+        ap (λ l. said l (joined way.written w) (Some ending)) (sym (append-nil way.asked))
+        ∙ ap (λ n. said_behind way.asked way.written (said_by n None [])) (sym next_is) ∙ sym (way.says [])
+        ∙ ap (said_by (plan_for words) None) (append-nil way.answers)
+
+-- ---- what was sent by then
+
+pub sent_all : (l more : List (List ℕ)) → AreSentSoFar l (l ++ more)
+sent_all [] more = tt
+sent_all (x ∷ []) more = ([], append-nil x)
+sent_all (x ∷ y ∷ l) more = (refl, sent_all (y ∷ l) more)
+
+pub sent_last : (l : List (List ℕ)) (s : List ℕ) (more : List (List ℕ)) → AreSentSoFar (s ∷ []) more → AreSentSoFar (l ++ s ∷ []) (l ++ more)
+sent_last [] s more h = h
+sent_last (x ∷ []) s more h = (refl, h)
+sent_last (x ∷ y ∷ l) s more h = (refl, sent_last (y ∷ l) s more h)
+
+-- what is sent without input begins what is sent with it
+front_fed : (a : Asked) (part input : List ℕ) → IsFront part (sent_by [] a) → IsFront part (sent_by input a)
+front_fed a part input = by_flag a.input
+  where
+    by_flag : (t : Bool) → IsFront part (if t then request_bytes a.request ++ [] else request_bytes a.request)
+        → IsFront part (if t then request_bytes a.request ++ input else request_bytes a.request)
+    by_flag true (cut, is) =
+        (cut ++ input, sym (append_assoc part cut input) ∙ ap (λ l. l ++ input) is ∙ ap (λ l. l ++ input) (append-nil (request_bytes a.request)))
+    by_flag false front = front
+
+sent_fed : (sent : List ℕ) (asked : List Asked) (input : List ℕ) → AreSentSoFar (sent ∷ []) (map (sent_by []) asked) → AreSentSoFar (sent ∷ []) (map (sent_by input) asked)
+sent_fed sent [] input h = absurd h
+sent_fed sent (a ∷ asked) input h = front_fed a sent input h
+
+-- an exchange without input, told beside some
+pub stop_fed : (next : Plan) (input : List ℕ) (starved : Type 0) (fault : Fault) (p q : Reach) → StopsIn next [] ⊥ fault p q → StopsIn next input starved fault p q
+stop_fed next input starved fault p q b = record {
+  exchange = b.exchange;
+  answer = b.answer;
+  meets = b.meets;
+  tells = b.tells;
+  sent = sent_fed b.exchange.sent (said_by next None (b.answer ∷ [])).asked input b.sent;
+  began = b.began;
+  cause = by_fault fault b.cause;
+}
+  where
+    by_fault : (fault : Fault) → FailsOn ⊥ fault b.exchange p.shown q.shown → FailsOn starved fault b.exchange p.shown q.shown
+    by_fault F.Input r = absurd r
+    by_fault F.Connection r = r
+    by_fault F.Output r = r
+    by_fault F.Errors r = r
+    by_fault F.NoMemory r = r
+    by_fault F.Words r = r
+    by_fault F.Answer r = r
+    by_fault F.NoCode r = r
+    by_fault F.EventsGone r = r
+    by_fault (F.Refused message) r = r
+    by_fault F.Link r = r
+
+-- ---- causes
+
+failed_last : (xs : List Exchange) (x : Exchange) → HasFailed (x ∷ []) → HasFailed (xs ++ x ∷ [])
+failed_last [] x h = h
+failed_last (y ∷ xs) x h = inr (failed_last xs x h)
+
+-- of an output or memory
+output_cause : (fault : Fault) (o m : Outside) (xs : List Exchange) → OutputsFail fault (outputs o.out o.err) (outputs m.out m.err) → CauseOf fault o m xs
+output_cause F.Output o m xs r = r
+output_cause F.Errors o m xs r = r
+output_cause F.NoMemory o m xs r = tt
+output_cause F.Input o m xs r = absurd r
+output_cause F.Connection o m xs r = absurd r
+output_cause F.Words o m xs r = absurd r
+output_cause F.Answer o m xs r = absurd r
+output_cause F.NoCode o m xs r = absurd r
+output_cause F.EventsGone o m xs r = absurd r
+output_cause (F.Refused message) o m xs r = absurd r
+output_cause F.Link o m xs r = absurd r
+
+-- of a connection that wasn't made
+miss_cause : (fault : Fault) (o m : Outside) (l : LinkView) (xs : List Exchange) → o.link.faults ≤ l.faults → Misses fault l m.link → CauseOf fault o m xs
+miss_cause F.Link o m l xs le r = rose_since o.link.faults l.faults m.link.faults le r
+miss_cause F.NoMemory o m l xs le r = tt
+miss_cause F.Output o m l xs le r = absurd r
+miss_cause F.Errors o m l xs le r = absurd r
+miss_cause F.Input o m l xs le r = absurd r
+miss_cause F.Connection o m l xs le r = absurd r
+miss_cause F.Words o m l xs le r = absurd r
+miss_cause F.Answer o m l xs le r = absurd r
+miss_cause F.NoCode o m l xs le r = absurd r
+miss_cause F.EventsGone o m l xs le r = absurd r
+miss_cause (F.Refused message) o m l xs le r = absurd r
+
+pub alone_cause : (fault : Fault) (o m : Outside) (p : Reach) (w : Written) (xs : List Exchange) → BothTook (outputs o.out o.err) w p.shown → o.link.faults ≤ p.link.faults
+    → FailsAlone fault p (reach_of m) → CauseOf fault o m xs
+alone_cause fault o m p w xs took le (inl r) = output_cause fault o m xs (fails_since fault (outputs o.out o.err) p.shown (outputs m.out m.err) w took r)
+alone_cause fault o m p w xs took le (inr r) = miss_cause fault o m p.link xs le r
+
+pub exchange_cause : (fault : Fault) (starved : Type 0) (o m : Outside) (p : Reach) (w : Written) (xs : List Exchange) (x : Exchange) → BothTook (outputs o.out o.err) w p.shown
+    → (starved → Rose o.input.faults m.input.faults) → FailsOn starved fault x p.shown (outputs m.out m.err) → CauseOf fault o m (xs ++ x ∷ [])
+exchange_cause F.Connection starved o m p w xs x took rose r = failed_last xs x r
+exchange_cause F.Input starved o m p w xs x took rose r = rose r
+exchange_cause F.Output starved o m p w xs x took rose r = rose_since o.out.faults p.shown.out.faults m.out.faults took.out.faults r
+exchange_cause F.Errors starved o m p w xs x took rose r = rose_since o.err.faults p.shown.err.faults m.err.faults took.err.faults r
+exchange_cause F.NoMemory starved o m p w xs x took rose r = tt
+exchange_cause F.Words starved o m p w xs x took rose r = absurd r
+exchange_cause F.Answer starved o m p w xs x took rose r = absurd r
+exchange_cause F.NoCode starved o m p w xs x took rose r = absurd r
+exchange_cause F.EventsGone starved o m p w xs x took rose r = absurd r
+exchange_cause (F.Refused message) starved o m p w xs x took rose r = absurd r
+exchange_cause F.Link starved o m p w xs x took rose r = absurd r
+
+-- what is told behind it doesn't change it
+cause_until : (fault : Fault) (o m : Outside) (e : SinkView) (xs : List Exchange) → m.err.faults ≤ e.faults → CauseOf fault o m xs → CauseOf fault o (outside m.link m.input m.out e) xs
+cause_until F.Errors o m e xs le r = rose_until o.err.faults m.err.faults e.faults r le
+cause_until F.Input o m e xs le r = r
+cause_until F.Output o m e xs le r = r
+cause_until F.NoMemory o m e xs le r = r
+cause_until F.Link o m e xs le r = r
+cause_until F.Connection o m e xs le r = r
+cause_until F.Words o m e xs le r = r
+cause_until F.Answer o m e xs le r = r
+cause_until F.NoCode o m e xs le r = r
+cause_until F.EventsGone o m e xs le r = r
+cause_until (F.Refused message) o m e xs le r = r
+
+-- ---- broken off
+
+pub broken_off : (words : List (List ℕ)) (input : List ℕ) (verdict : Option Verdict) (xs : List Exchange) (s : Said) (fault : Fault) (status : ℕ) (o m : Outside) (e : SinkView)
+    → HaveCome o.link.coming (map (λ x. x.came) xs) m.link.coming → AreLeft o.link.past (map (λ x. x.left) xs) m.link.past → SourceGave o.input input m.input
+    → (verdict ≡ None) ⊎ IsJudged (plan_for words) input verdict → ByAnswers (plan_for words) verdict xs s ⊎ SoFar (plan_for words) verdict xs s
+    → AreSentSoFar (map (λ x. x.sent) xs) (map (sent_by input) s.asked) → (IsFalse (asks_input (plan_for words) s) → input ≡ [])
+    → BothBegan (outputs o.out o.err) s.written (outputs m.out m.err) → CauseOf fault o m xs → Tells fault status m.err e
+    → IsBrokenOff words status o (outside m.link m.input m.out e)
+broken_off words input verdict xs s fault status o m e came left gave judged says sent unread began cause tells = record {
+  xs = xs;
+  input = input;
+  verdict = verdict;
+  said = s;
+  fault = fault;
+  out_part = began.part.out;
+  err_part = began.part.err;
+  part = tells.part;
+  meets = record { came = came; left = left; input_gave = gave };
+  judged = judged;
+  says = says;
+  sent = sent;
+  input_unread = unread;
+  out_front = began.fronts.out;
+  err_front = began.fronts.err;
+  out = began.took.out;
+  err = sink_on o.err m.err e began.part.err tells.part began.took.err tells.took;
+  line = line_since o.err m.err e tells.part (fault_line command_names fault) began.took.err.faults tells.line;
+  cause = cause_until fault o m e xs tells.took.faults cause;
+  status_is = tells.status_is;
+}
+
+-- before anything more was asked
+pub stopped_before : (words : List (List ℕ)) (input : List ℕ) (next : Plan) (fault : Fault) (status : ℕ) (o m : Outside) (p : Reach) (e : SinkView)
+    (way : Walked (plan_for words) input (reach_of o) next p) → StopsBefore next fault p (reach_of m) → SourceGave o.input input m.input
+    → (IsFalse (asks_input (plan_for words) (said_behind way.asked way.written (said_by next None []))) → input ≡ []) → Tells fault status m.err e
+    → IsBrokenOff words status o (outside m.link m.input m.out e)
+stopped_before words input next fault status o m p e way b gave unread tells =
+    broken_off words input None way.xs (said_behind way.asked way.written (said_by next None [])) fault status o m e
+    (subst (HaveCome o.link.coming (map (λ x. x.came) way.xs)) (sym b.missed.coming) way.came)
+    (subst (AreLeft o.link.past (map (λ x. x.left) way.xs)) (sym b.missed.past) way.left)
+    gave (inl refl)
+    (inl (way.answers, way.answered, sym (way.says []) ∙ ap (said_by (plan_for words) None) (append-nil way.answers)))
+    sent unread
+    (began_behind (outputs o.out o.err) p.shown (outputs m.out m.err) way.written (said_by next None []).written way.took b.began)
+    (alone_cause fault o m p way.written way.xs way.took way.faults b.cause)
+    tells
+  where
+    sent : AreSentSoFar (map (λ x. x.sent) way.xs) (map (sent_by input) (way.asked ++ (said_by next None []).asked))
+    sent =
+        subst (λ l. AreSentSoFar l (map (sent_by input) (way.asked ++ (said_by next None []).asked))) (sym way.sent)
+        (subst (AreSentSoFar (map (sent_by input) way.asked)) (sym (map-append (sent_by input) way.asked (said_by next None []).asked))
+        (sent_all (map (sent_by input) way.asked) (map (sent_by input) (said_by next None []).asked)))
+
+-- in its next exchange
+pub stopped_in : (words : List (List ℕ)) (input : List ℕ) (next : Plan) (starved : Type 0) (fault : Fault) (status : ℕ) (o m : Outside) (p : Reach) (e : SinkView)
+    (way : Walked (plan_for words) input (reach_of o) next p) → StopsIn next input starved fault p (reach_of m) → (starved → Rose o.input.faults m.input.faults)
+    → SourceGave o.input input m.input
+    → ((answer : Answer) → IsFalse (asks_input (plan_for words) (said_behind way.asked way.written (said_by next None (answer ∷ [])))) → input ≡ []) → Tells fault status m.err e
+    → IsBrokenOff words status o (outside m.link m.input m.out e)
+stopped_in words input next starved fault status o m p e way b rose gave unread tells =
+    broken_off words input None (way.xs ++ b.exchange ∷ []) (said_behind way.asked way.written last) fault status o m e
+    (came_on o.link.coming p.link.coming m.link.coming way.xs (b.exchange ∷ []) way.came b.meets.came)
+    (left_on o.link.past p.link.past m.link.past way.xs (b.exchange ∷ []) way.left b.meets.left)
+    gave (inl refl)
+    (inr (way.xs, b.exchange, way.answers, b.answer, refl, way.answered, b.tells, sym (way.says (b.answer ∷ []))))
+    sent (unread b.answer)
+    (began_behind (outputs o.out o.err) p.shown (outputs m.out m.err) way.written last.written way.took b.began)
+    (exchange_cause fault starved o m p way.written way.xs b.exchange way.took rose b.cause)
+    tells
+  where
+    last : Said
+    last = said_by next None (b.answer ∷ [])
+
+    asked : List Asked
+    asked = (said_by next None (b.answer ∷ [])).asked
+
+    sent : AreSentSoFar (map (λ x. x.sent) (way.xs ++ b.exchange ∷ [])) (map (sent_by input) (way.asked ++ (said_by next None (b.answer ∷ [])).asked))
+    sent =
+        subst (λ l. AreSentSoFar l (map (sent_by input) (way.asked ++ asked)))
+        (sym (map-append (λ (x : Exchange). x.sent) way.xs (b.exchange ∷ []) ∙ ap (λ l. l ++ b.exchange.sent ∷ []) way.sent))
+        (subst (AreSentSoFar (map (sent_by input) way.asked ++ b.exchange.sent ∷ [])) (sym (map-append (sent_by input) way.asked asked))
+        (sent_last (map (sent_by input) way.asked) b.exchange.sent (map (sent_by input) asked) b.sent))

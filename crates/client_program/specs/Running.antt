@@ -1,0 +1,41 @@
+-- A line, from its words to its end (own).
+use Rattle.std.specs.Prelude.{ℕ, ◌≡◌, ◌⊎◌, ◌≤◌, ⊤, List, Result}
+use Rattle.engine_ports.specs.Source.{SourceView}
+use Rattle.engine_ports.specs.Sink.{SinkView, SinkTook}
+use Rattle.engine_ports.specs.Link.{LinkView}
+use Rattle.machine_model.specs.History.{greatest_moment}
+use Rattle.client_model.specs.Faults.{status_of, fault_line}
+use Rattle.client_model.specs.Lines.{command_names}
+use Rattle.client_model.specs.Plans.{Plan}
+use Rattle.client_model.specs.Runs.{Outside, WroteLine}
+use Rattle.client_model.specs.declared.fault.Fault.{Fault}
+use Rattle.client_model.specs.declared.command.Command.{Command}
+use Rattle.client_model.specs.declared.command.Command.TheVariants as command
+use Rattle.client_exchange.specs.Exchanges.{Reach, reach}
+use Rattle.client_exchange.specs.Feeding.{FedDoes}
+use Rattle.client_program.specs.Replaying.{Judged}
+
+abbrev pub outside : LinkView → SourceView → SinkView → SinkView → Outside
+outside link input out err = record { link = link; input = input; out = out; err = err }
+
+-- what requests reach of it
+abbrev pub reach_of : Outside → Reach
+reach_of o = reach o.link o.out o.err
+
+-- what was done of a plan, before a fault is told
+abbrev pub Ran : Plan → Result ℕ Fault → Outside → Outside → Type 0
+Ran plan result o o' =
+    FedDoes plan result o.input o'.input (reach_of o) (reach_of o')
+    ⊎ Judged plan result o.input o'.input (reach_of o) (reach_of o')
+
+-- a journal's daemon was opened at a moment that has a text
+abbrev pub IsTimed : Command → Type 0
+IsTimed (command.Replay seed moment) = moment ≤ greatest_moment
+IsTimed other = ⊤
+
+-- the fault's line was written, or a front of it; and its status is this
+pub record Tells (fault : Fault) (status : ℕ) (e e' : SinkView) : Type 0 where
+  pub part : List ℕ
+  pub took : SinkTook e part e'
+  pub line : WroteLine e part (fault_line command_names fault) e'
+  pub status_is : status ≡ status_of fault

@@ -1,0 +1,70 @@
+// The program `dockc`.
+ghost use Rattle.client_model.specs.Client.{plan_for};
+ghost use Rattle.client_model.specs.Runs.{Runs};
+ghost use Rattle.client_program.specs.Running.{Ran, Tells, outside};
+
+use crate::dispatch::run_command;
+use client_model::Fault;
+use engine_client::{Unread, read_line, status_of, write_fault};
+use engine_ports::{Link, Sink, Source};
+use engine_text::Text;
+use std::alloc::Global;
+use std::sync::Wait;
+
+/// Runs the command of these words, where they are a line.
+fn run_words<W: Wait, L: Link, N: Source, K: Sink, E: Sink>(
+    rt: &W,
+    alloc: Global,
+    words: &[Text],
+    link: &mut L,
+    input: &mut N,
+    out: &mut K,
+    errors: &mut E,
+) -> Result<u8, Fault>
+    ensures { Ran (plan_for words.now) result
+        (outside (L.links link.old) (N.gives input.old) (K.takes out.old) (E.takes errors.old))
+        (outside (L.links link.new) (N.gives input.new) (K.takes out.new) (E.takes errors.new)) }
+{
+    match read_line(alloc, words) {
+        Ok(line) => run_command(
+            rt,
+            alloc,
+            link,
+            line.address.as_str(),
+            &line.command,
+            input,
+            out,
+            errors,
+        ),
+        Err(Unread::NoForm) => Err(Fault::Words),
+        Err(Unread::NoMemory) => Err(Fault::NoMemory),
+    }
+}
+
+/// Writes the line of a fault, and answers its status. A write that fails isn't told.
+fn tell<E: Sink>(errors: &mut E, fault: &Fault) -> u8
+    ensures { Tells fault.now result (E.takes errors.old) (E.takes errors.new) }
+{
+    let _ = write_fault(errors, fault);
+    status_of(fault)
+}
+
+/// Runs `dockc` with the words after the program's name, and answers its status.
+pub fn run_client<W: Wait, L: Link, N: Source, K: Sink, E: Sink>(
+    rt: &W,
+    alloc: Global,
+    words: &[Text],
+    link: &mut L,
+    input: &mut N,
+    out: &mut K,
+    errors: &mut E,
+) -> u8
+    ensures { Runs words.now result
+        (outside (L.links link.old) (N.gives input.old) (K.takes out.old) (E.takes errors.old))
+        (outside (L.links link.new) (N.gives input.new) (K.takes out.new) (E.takes errors.new)) }
+{
+    match run_words(rt, alloc, words, link, input, out, errors) {
+        Ok(status) => status,
+        Err(fault) => tell(errors, &fault),
+    }
+}
