@@ -1,0 +1,49 @@
+//! The client `dockc`: real standard input, output and error, and a link over TCP, handed to the one
+//! top call.
+#![tactic(auto)]
+
+use client_program::run_client;
+use engine_ports::{ReadSource, TcpLink, WriteSink};
+use engine_text::Text;
+use std::env;
+use std::io::{self, ErrorKind};
+use std::process::ExitCode;
+
+/// The status where memory was refused.
+const NO_MEMORY: u8 = 124;
+
+/// The words after the program's name, or none without memory. Where a word isn't UTF-8 there are
+/// no words, which is no line of the program.
+fn words(rt: &HostRuntime) -> Option<Vec<Text>> {
+    let mut words = Vec::new(rt.alloc());
+    match env::args(rt) {
+        Ok(args) => {
+            for word in args.skip(1) {
+                words.push(Text::from_string(word)).ok()?;
+            }
+            Some(words)
+        }
+        Err(error) if error.kind() == ErrorKind::InvalidData => Some(words),
+        Err(_) => None,
+    }
+}
+
+fn main(rt: HostRuntime) -> ExitCode {
+    let Some(words) = words(&rt) else {
+        return ExitCode::from(NO_MEMORY);
+    };
+    let mut link = TcpLink::new(&rt, rt.alloc());
+    let mut input = ReadSource::new(rt.stdin());
+    let mut out = WriteSink::new(io::writer(&rt));
+    let mut errors = WriteSink::new(rt.stderr());
+    let status = run_client(
+        &rt,
+        rt.alloc(),
+        &words,
+        &mut link,
+        &mut input,
+        &mut out,
+        &mut errors,
+    );
+    ExitCode::from(status)
+}
