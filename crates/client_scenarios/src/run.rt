@@ -1,0 +1,70 @@
+// The client's side: each line run, one behind the other, and told.
+ghost use Rattle.std.specs.Prelude.{◌<◌};
+
+use crate::line::{Line, owned};
+use client_program::run_client;
+use engine_ports::{Link, MemSink, MemSource, NoMemory};
+use engine_text::Text;
+use std::alloc::Global;
+use std::str;
+use std::sync::Wait;
+
+/// Adds each line of what was written, with this before it.
+fn tell_lines(told: &mut Vec<u8>, before: &str, bytes: &[u8]) -> Result<(), NoMemory> {
+    let text = str::from_utf8(bytes).unwrap_or("not UTF-8");
+    for line in text.lines() {
+        told.extend_from_slice(before.as_bytes())?;
+        told.extend_from_slice(line.as_bytes())?;
+        told.push(b'\n')?;
+    }
+    Ok(())
+}
+
+// The words of a command by its line, with the address before them.
+fn words_of(alloc: Global, address: &str, line: &Line) -> Result<Vec<Text>, NoMemory> {
+    let mut words = Vec::new(alloc);
+    words.push(owned(alloc, address)?)?;
+    for word in &line.words {
+        words.push(owned(alloc, word.as_str())?)?;
+    }
+    Ok(words)
+}
+
+/// Runs the client of one line over this link to this address, and tells what it wrote and its
+/// status.
+fn tell_line<W: Wait, L: Link>(
+    rt: &W,
+    alloc: Global,
+    address: &str,
+    line: &Line,
+    link: &mut L,
+    told: &mut Vec<u8>,
+) -> Result<(), NoMemory> {
+    let words = words_of(alloc, address, line)?;
+    let mut input = MemSource::new(alloc, &line.input, 4096, &[])?;
+    let mut out = MemSink::new(alloc, &[])?;
+    let mut errors = MemSink::new(alloc, &[])?;
+    let status = run_client(rt, alloc, &words, link, &mut input, &mut out, &mut errors);
+    tell_lines(told, "$ dockc ", line.text.as_slice())?;
+    tell_lines(told, "", out.bytes())?;
+    tell_lines(told, "! ", errors.bytes())?;
+    let Ok(status) = format!(in alloc; "{status}") else {
+        return Err(NoMemory);
+    };
+    tell_lines(told, "status ", status.as_bytes())
+}
+
+/// Runs and tells all lines.
+pub fn tell_all<W: Wait, L: Link>(
+    rt: &W,
+    alloc: Global,
+    address: &str,
+    lines: &[Line],
+    link: &mut L,
+    told: &mut Vec<u8>,
+) -> Result<(), NoMemory> {
+    for line in lines {
+        tell_line(rt, alloc, address, line, link, told)?;
+    }
+    Ok(())
+}

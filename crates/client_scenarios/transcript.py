@@ -1,0 +1,182 @@
+"""Writes `stdin` and `stdout`: commands of dockc by hand, and what docs/CLI.md and docs/API.md say that they print.
+
+It computes nothing with the client's or the daemon's code: ids and bodies are those of engine_scenarios' exchange.py.
+"""
+import os
+import sys
+
+HERE = os.path.dirname(os.path.abspath(__file__))
+sys.path.insert(0, os.path.join(HERE, "..", "engine_scenarios"))
+from exchange import compact, id_of, shown, volume  # noqa: E402
+
+COMMANDS = ("create|run|start|pause|unpause|stop|restart|kill|rm|rename|ps|inspect|version|logs|attach|exec|wait|events|watch"
+            "|volume|journal|replay")
+USAGE = f"usage: dockc ADDR {COMMANDS} [OPTIONS] [WORD..]\n"
+WEB, GONE, LONG, FLAKY, TRAP = (id_of(n) for n in range(5))
+LINES = []
+
+
+def line(words, out="", err="", status=0, connections=1, given=""):
+    """A command, what it prints on standard output and standard error, its status, and how many requests it makes."""
+    LINES.append((words, out, err, status, connections, given))
+
+
+def names(words, **more):
+    """A command that prints the container or the volume that it was given last."""
+    line(words, words.split(" ")[-1] + "\n", **more)
+
+
+def refused(words, message, **more):
+    line(words, err=message + "\n", status=125, **more)
+
+
+def usage(words):
+    line(words, err=USAGE, status=2, connections=0)
+
+
+def body(answer):
+    return answer.split("\r\n\r\n", 1)[1]
+
+
+def event(action, **more):
+    return compact({"Action": action, "Actor": {"Attributes": {**more, "image": "engine/tools:latest", "name": "web"}, "ID": WEB},
+                    "Type": "container", "scope": "local", "time": 1700000000, "timeNano": 1700000000000000000}) + "\n"
+
+
+def entry(call, conn, dues, reply):
+    return compact({"call": call, "conn": conn, "dues": dues, "moment": 1700000000000, "reply": reply}) + "\n"
+
+
+def told(status, text=""):
+    return {"body": text, "status": status}
+
+
+# ---- a run, told in every way, and its journal
+
+line("create --name web engine/tools exit 7", WEB + "\n")
+names("start web")
+line("wait web", "7\n")
+CREATE = entry({"after": 10, "image": "engine/tools", "labels": {}, "maximum": 0, "mounts": [], "name": "web", "once": False,
+                "op": "create", "policy": "no", "signal": 15, "stdin": False, "words": ["exit", "7"]},
+               0, 0, told(201, compact({"Id": WEB, "Warnings": []})))
+START = {"op": "start", "ref": "web"}
+WAITED = (entry({"condition": "not-running", "op": "wait", "ref": "web"}, 2, 1, {"ticket": 0})
+          + entry({"op": "take", "ticket": 0}, 2, 0, told(200, compact({"StatusCode": 7}))))
+JOURNAL = CREATE + entry(START, 1, 0, told(204)) + WAITED
+line("journal", JOURNAL)
+line("ps")
+line("ps -a", f"{WEB} web exited Exited (7)\n")
+NOW = "2023-11-14T22:13:20.000000000Z"
+line("inspect web", body(shown(0, "web", ["exit", "7"], "exited", code=7, started=NOW, finished=NOW)) + "\n")
+line("events 1700000000 1700000000", event("create") + event("start") + event("die", exitCode="7"))
+
+# ---- what the events tell: of a container that is gone nothing, and of one that lives that it does
+
+WEB_ROW = f"{WEB} web not-live not-paused 7\n"
+line("watch 1700000000", WEB_ROW)
+line("create --name gone engine/tools", GONE + "\n")
+line("watch 1700000000", WEB_ROW + f"{GONE} gone not-live not-paused 0\n")
+names("rm gone")
+line("create --name long --restart on-failure:3 -v data:/d engine/tools deaf", LONG + "\n")
+names("start long")
+line("watch 1700000000", WEB_ROW + f"{LONG} long live not-paused 0\n")
+names("pause long")
+line("watch 1700000000", WEB_ROW + f"{LONG} long live paused 0\n")
+line("ps", f"{LONG} long paused Up (Paused)\n")
+refused("pause long", f"Container {LONG} is already paused")
+names("unpause long")
+line("ps", f"{LONG} long running Up\n")
+
+# ---- volumes
+
+line("volume ls", "data\n")
+names("volume create more")
+line("volume inspect more", compact(volume("more")) + "\n")
+line("volume ls", "data\nmore\n")
+refused("volume rm data", "remove data: volume is in use")
+names("volume rm more")
+
+# ---- both streams, signals
+
+line("create --name flaky engine/tools flaky 1", FLAKY + "\n")
+names("start flaky")
+line("wait flaky", "1\n")
+names("start flaky")
+line("wait flaky", "0\n")
+line("logs flaky", "ok\n", "attempt 1\n")
+line("logs -f flaky", "ok\n", "attempt 1\n")
+line("attach flaky", "ok\n", "attempt 1\n")
+line("create --name trap engine/tools trap", TRAP + "\n")
+names("start trap")
+names("kill -s TERM trap")
+line("wait trap", "0\n")
+line("logs trap", "bye\n")
+names("start trap")
+names("kill trap")
+line("wait trap", "137\n")
+
+# ---- runs and execs
+
+line("run engine/tools", "Hello from engine\n", connections=4)
+line("run engine/tools exit 7", status=7, connections=4)
+line("run --name once engine/tools flaky 1", err="attempt 1\n", status=1, connections=4)
+line("run --rm engine/tools echo hi", "hi\n", connections=5)
+refused("run nope", "No such image: nope")
+refused("run engine/tools frob", "unknown command: frob", connections=2)
+line("exec long exit 3", status=3, connections=3)
+line("exec long echo -i x", "-i x\n", connections=3)
+refused("exec web echo x", f"Container {WEB} is not running")
+line("run -i --name cat engine/tools cat", "abc\n", connections=4, given="abc\n")
+line("logs cat", "abc\n")
+line("exec -i long cat", "two\nlines\n", connections=3, given="two\nlines\n")
+
+# ---- to the end of `long`
+
+names("restart -t 1 long")
+refused("rm long", f"You cannot remove a running container {LONG}. Stop the container before attempting removal or force remove")
+names("stop -t 1 long")
+line("rename long last", "long\n")
+refused("kill last", f"Container {LONG} is not running")
+names("start last")
+names("rm -f last")
+names("volume rm data")
+line("volume ls")
+
+# ---- refusals, and words that are no line
+
+refused("start nobody", "No such container: nobody")
+refused("volume inspect none", "get none: no such volume")
+line("version", compact({"ApiVersion": "1.43", "Arch": "amd64", "MinAPIVersion": "1.24", "Os": "linux", "Version": "1.0.0"}) + "\n")
+usage("frob")
+usage("stop")
+usage("stop -t")
+usage("ps web")
+usage("--help")
+
+# ---- journals: this daemon's, one with another reply, with a line cut, and none
+
+line("replay 1700000000000", "legal 5\n", connections=0, given=JOURNAL)
+line("replay 1700000000000", f"illegal line 2\nkept {compact(told(304))}\nfound {compact(told(204))}\n", status=1, connections=0,
+     given=CREATE + entry(START, 1, 0, told(304)) + WAITED)
+line("replay 1700000000000", "bad line 2\n", status=3, connections=0, given=CREATE + "x\n" + WAITED)
+line("replay 1700000000000", "legal 0\n", connections=0)
+
+
+def marked(before, text):
+    return "".join(f"{before}{row}\n" for row in text.splitlines())
+
+
+def main():
+    lines = [f"connections {sum(connections for *_, connections, _ in LINES)}\n"]
+    wanted = []
+    for words, out, err, status, _, given in LINES:
+        text = words + (" < " + given.replace("\n", "\\n") if given else "")
+        lines.append(text + "\n")
+        wanted.append(f"$ dockc {text}\n{marked('', out)}{marked('! ', err)}status {status}\n")
+    with open(f"{HERE}/stdin", "w", newline="", encoding="utf-8") as file:
+        file.write("".join(lines))
+    with open(f"{HERE}/stdout", "w", newline="", encoding="utf-8") as file:
+        file.write("".join(wanted) + "daemon Closed\n")
+
+
+main()
