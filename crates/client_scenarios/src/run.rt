@@ -1,6 +1,4 @@
 // The client's side: each line run, one behind the other, and told.
-ghost use Rattle.std.specs.Prelude.{◌<◌};
-
 use crate::line::{Line, owned};
 use client_program::run_client;
 use engine_ports::{Link, MemSink, MemSource, NoMemory};
