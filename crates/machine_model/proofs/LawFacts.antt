@@ -6,6 +6,7 @@ use Rattle.rand_core.specs.Steps.{u32_at}
 use Rattle.hex.specs.Hex.{encode_with}
 use Rattle.proc_kernel.specs.Processes.{meet_waiting, meeting_order, is_frozen}
 use Rattle.engine_text.specs.Id.{id_of, key_bytes}
+use Rattle.machine_model.specs.Calls.Attach.{run_of}
 use Rattle.machine_model.specs.Summary.{fold_of, inspect_summary}
 use Rattle.machine_model.specs.LogStream.{is_kept, log_of}
 use Rattle.machine_model.specs.Statuses.{is_status_of}
@@ -150,3 +151,27 @@ looks = refl
 -- "ContainerWait: 200", which its ticket hears when it is taken
 pub waits : map answered (Call.Wait web Until.NotRunning ∷ Call.Take 0 ∷ []) ≡ (400 ∷ 404 ∷ []) ∷ (200 ∷ 204 ∷ 409 ∷ []) ∷ []
 waits = refl
+
+-- ---- an attach never follows run 0
+
+-- the runs that attaches to the containers follow
+abbrev pub followed : List Step → List ℕ
+followed h = map run_of (final_state h).containers
+
+-- one that can't be interrupted yet is being removed
+abbrev pub leaving : List Step
+leaving = create (codes "stuck" ∷ codes "30000" ∷ []) ∷ start 0 ∷ Step.Due ∷ at 0 (Call.Remove web true) ∷ []
+
+-- "You can attach to the same container multiple times"; own: before its first run the first, while it runs that, in a restart's
+-- delay the next, and of an exited, a removing and a dead one the last
+pub followed_runs : map followed (
+    (create (codes "exit" ∷ codes "255" ∷ []) ∷ [])
+    ∷ asleep
+    ∷ (create_with (codes "exit" ∷ codes "3" ∷ []) Policy.Always ∷ start 0 ∷ Step.Due ∷ [])
+    ∷ ended
+    ∷ leaving
+    ∷ (leaving ++ Step.Due ∷ [])
+    ∷ [])
+    ≡ (1 ∷ []) ∷ (1 ∷ []) ∷ (2 ∷ []) ∷ (1 ∷ []) ∷ (1 ∷ []) ∷ (1 ∷ []) ∷ []
+unfolding digits id_of key_bytes encode_with quarter_round column_round diagonal_round double_rounds block_word u32_at meet_waiting meeting_order
+followed_runs = refl

@@ -1,14 +1,15 @@
 -- The laws of every legal history, and what a lawful step keeps.
-use Rattle.std.proofs.Common.{ℕ, ◌≤◌, List, [], ◌∷◌, refl, arith, Some, ◌≡◌}
+use Rattle.std.proofs.Common.{ℕ, ◌≤◌, List, [], ◌∷◌, refl, arith, Some, ◌≡◌, ◌≢◌}
 use Rattle.std.specs.List.{AllByRecursion}
 use Rattle.proc_kernel.specs.Times as proc
 use Rattle.proc_kernel.specs.Tables.{Entry}
 use Rattle.machine_model.specs.State.{State}
-use Rattle.machine_model.specs.Consistency.{IsConsistent}
+use Rattle.machine_model.specs.Calls.Attach.{followed_run, run_of}
+use Rattle.machine_model.specs.Consistency.{IsConsistent, HasStarted}
 use Rattle.machine_model.specs.Due.{due_actions, least_due}
 use Rattle.machine_model.specs.Step.{call_outcome}
 use Rattle.machine_model.specs.History.{Charter, IsCharter, IsLawful, AreLawful, greatest_moment, opening_state, state_from, state_after, after_step}
-use Rattle.machine_model.specs.Laws.{FoldLaw, LogGrowsLaw, PastLaw, StatesLaw, StatusesLaw}
+use Rattle.machine_model.specs.Laws.{AttachLaw, FoldLaw, LogGrowsLaw, PastLaw, StatesLaw, StatusesLaw}
 use Rattle.machine_model.proofs.Fold.HistoryLemmas.{ConsistencyLaw, fold_law as fold_law_by}
 use Rattle.machine_model.proofs.MomentLemmas.{never_fall, call_later}
 use Rattle.machine_model.proofs.Logs.HistoryLemmas.{log_grows_law as logs_grow_law}
@@ -20,6 +21,8 @@ use Rattle.machine_model.proofs.Consistent.FormLemmas.{KeptForm, consistent, tim
 use Rattle.machine_model.proofs.Consistent.BackLemmas.{form_of}
 use Rattle.machine_model.proofs.Consistent.StepLemmas.{form_step, call_opens, due_later, due_low, due_until}
 use Rattle.engine_text.specs.declared.call.Call.{Call}
+use Rattle.engine_text.specs.declared.status.Status.{Status}
+use Rattle.engine_text.specs.declared.status.Status.TheVariants.{Created, Running, Paused, Restarting, Removing, Exited, Dead}
 use Rattle.engine_text.specs.declared.step.Step.{Step}
 use Rattle.engine_text.specs.declared.step.DueAction.{DueAction}
 
@@ -114,3 +117,19 @@ statuses_law = replies_law
 -- the kept logs and moments are the last ones
 pub past_law : PastLaw
 past_law charter h = (removals_tied charter h, (events_counted charter h).0, (events_counted charter h).1)
+
+-- whatever its status, the run that an attach follows isn't 0
+followed_least : (u : Status) (starts : ℕ) → (u ≢ Created → 1 ≤ starts) → 1 ≤ followed_run u starts
+followed_least Created starts started = omega arith
+followed_least Restarting starts started = omega arith
+followed_least Running starts started = started (λ is. absurd (cc))
+followed_least Paused starts started = started (λ is. absurd (cc))
+followed_least Removing starts started = started (λ is. absurd (cc))
+followed_least Exited starts started = started (λ is. absurd (cc))
+followed_least Dead starts started = started (λ is. absurd (cc))
+
+-- an attach never follows run 0
+pub attach_law : AttachLaw
+attach_law charter h legal =
+    all_weaken (λ c. HasStarted c.life) (λ c. 1 ≤ run_of c) (λ c started. followed_least c.life.status c.life.starts started)
+    (state_after charter h).containers (consistency_law charter h legal).counts.started

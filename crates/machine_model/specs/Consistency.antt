@@ -17,6 +17,7 @@ use Rattle.engine_text.specs.declared.owner.Owner.{Owner}
 use Rattle.engine_text.specs.declared.owner.Owner.TheVariants.{Container as OfContainer, Exec as OfExec}
 use Rattle.engine_text.specs.declared.container.Container.{Container}
 use Rattle.engine_text.specs.declared.container.Goal.{Goal}
+use Rattle.engine_text.specs.declared.container.Life.{Life}
 use Rattle.engine_text.specs.declared.exec.Exec.{Exec}
 use Rattle.engine_text.specs.declared.log.OwnedLog.{OwnedLog}
 use Rattle.engine_text.specs.declared.mounts.Mount.{Mount}
@@ -205,11 +206,15 @@ pub record IsWithinLimits (s : State) : Type 0 where
 
 -- ---- counts
 
+-- A container in any status but created has been started: else an attach would follow run 0.
+abbrev pub HasStarted : Life → Type 0
+HasStarted l = l.status ≢ Created → 1 ≤ l.starts
+
 -- The execs that run.
 abbrev pub live_execs : State → List Exec
 live_execs s = filter (λ x. is_live (OfExec x.number) s) s.execs
 
--- Each count is bounded by the count of steps, and no count overflows.
+-- Each count is bounded by the count of steps, and no count overflows; what isn't as created was started.
 pub record HasCounts (s : State) : Type 0 where
   pub tickets : length s.tickets ≤ s.step_count
   pub steps : length s.tickets + s.step_count ≤ 2 ^ 57
@@ -217,6 +222,7 @@ pub record HasCounts (s : State) : Type 0 where
   pub calls : s.call_count ≤ s.step_count
   pub starts : AllByRecursion (λ c. c.life.starts ≤ s.step_count) s.containers
   pub restarts : AllByRecursion (λ c. c.life.restarts ≤ s.step_count) s.containers
+  pub started : AllByRecursion (λ c. HasStarted c.life) s.containers
 
 -- So are the next numbers; and the next process id isn't 0, which says that no process lives.
 pub record HasNumbers (s : State) : Type 0 where

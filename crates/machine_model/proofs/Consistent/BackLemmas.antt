@@ -11,7 +11,7 @@ use Rattle.proc_kernel.specs.Tables.{Entry, process_of}
 use Rattle.proc_kernel.specs.Times as proc
 use Rattle.machine_model.specs.State.{State, container_numbered, exec_numbered, timer_of, is_live, owner_number}
 use Rattle.machine_model.specs.Due.{action_at}
-use Rattle.machine_model.specs.Consistency.{AreDistinct, is_there, HasMain, IsFrozenAs, IsFrozenRight, IsFrozenLike, FollowsMain, HasOwner, HasPid, HasExecPid, HasGoal, TimerStands, HasTimer, HasRemoval, IsConsistent, live_execs, HasProgram, IsUnstarted, HasNoOutput, HasLogRoom, HasOutputRoom, room_left}
+use Rattle.machine_model.specs.Consistency.{AreDistinct, is_there, HasMain, IsFrozenAs, IsFrozenRight, IsFrozenLike, FollowsMain, HasOwner, HasPid, HasExecPid, HasGoal, TimerStands, HasTimer, HasRemoval, IsConsistent, live_execs, HasProgram, IsUnstarted, HasNoOutput, HasLogRoom, HasOutputRoom, room_left, HasStarted}
 use Rattle.machine_model.specs.Effects.Launch.{log_size}
 use Rattle.machine_model.proofs.ListLemmas.{all_front, all_back, all_weaken, all_both, all_of_mapped, distinct_front, distinct_back}
 use Rattle.machine_model.proofs.Fold.RowLemmas.{found_number}
@@ -150,6 +150,7 @@ fine_at s c found h =
         restart = timer;
         program = λ live. program_names c.life.words 1 (program (lives_then (is_live (OfContainer n) s) (is_restarting c.life.status) live));
         again = λ there. program_names c.life.words 1 (program (rests_then (is_live (OfContainer n) s) (is_restarting c.life.status) (sym timer ∙ there)));
+        started = found_all (λ d. HasStarted d.life) (λ d. d.number == n) c s.containers found h.counts.started;
       },
       found_all (HasGoal s) (λ d. d.number == n) c s.containers found h.timers.goals,
     )

@@ -21,7 +21,7 @@ use Rattle.machine_model.specs.Step.{at_moment}
 use Rattle.machine_model.specs.Ready.{is_ready}
 use Rattle.machine_model.specs.Tickets.{ticket_numbered}
 use Rattle.machine_model.specs.History.{greatest_moment, has_steps, IsTimely, has_ticket, is_due}
-use Rattle.machine_model.specs.Consistency.{HasCounts, IsConsistent, live_execs, is_there, HasProgram, IsUnstarted, HasNoOutput, HasLogRoom, HasOutputRoom, HasExecs, CanGoOn, room_left}
+use Rattle.machine_model.specs.Consistency.{HasCounts, IsConsistent, live_execs, is_there, HasProgram, IsUnstarted, HasNoOutput, HasLogRoom, HasOutputRoom, HasExecs, CanGoOn, room_left, HasStarted}
 use Rattle.machine_model.specs.Effects.Launch.{log_size}
 use Rattle.machine_model.proofs.ListLemmas.{all_front, all_back, all_of_mapped, all_weaken, all_both, all_mapped}
 use Rattle.machine_model.proofs.Kept.NameLemmas.{Names, has_names}
@@ -87,6 +87,7 @@ has_counts s mains h = record {
   calls = h.calls;
   starts = h.starts;
   restarts = h.restarts;
+  started = all_weaken (λ c. Fine c.life (parts_of c.number s).main (parts_of c.number s).stop (parts_of c.number s).removal (parts_of c.number s).restart) (λ c. HasStarted c.life) (λ c fine. fine.0.started) s.containers (all_fine s mains);
 }
 
 -- ---- execs and what processes need

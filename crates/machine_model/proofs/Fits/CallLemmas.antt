@@ -116,5 +116,5 @@ up_fine v h = on_weaker Up Fine (λ l p a b c k. k.0) v h
 pub cancelled_up : (v : Parts) → Here Cancelled v → On Fine v
 cancelled_up v h =
     let k = h.2 in
-    let calm = rests h.0 Status.Exited v.main v.stop v.removal v.restart k.2 refl refl refl k.0.0 k.0.1 k.0.2 k.0.3 k.0.4 in
+    let calm = rests h.0 Status.Exited v.main v.stop v.removal v.restart k.2 refl refl refl k.0.0 k.0.1 k.0.2 k.0.3 k.0.4 (λ other. k.3) in
     on_here Fine v (h.0, h.1, (calm.0, subst (GoalStands h.0.goal) (sym (ap is_some k.0.1)) k.1))

@@ -52,6 +52,7 @@ fresh_look p a b c l status pid goal h = (
     restart = h.3 ∙ sym (ap is_restarting status);
     program = λ e. never (is_some p) (ap is_some h.0) e;
     again = λ e. never c h.3 e;
+    started = λ other. absurd (other status);
   },
   subst (λ g. GoalStands g (is_some p)) (sym goal) tt,
 )

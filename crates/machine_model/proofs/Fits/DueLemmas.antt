@@ -14,7 +14,7 @@ use Rattle.machine_model.specs.Effects.Meet.{step_process}
 use Rattle.machine_model.proofs.Processes.PaceLemmas.{due_goes}
 use Rattle.machine_model.proofs.Fits.PartLemmas.{parts_of, Steady, Leads, leads_then, leads_from, leads_to, leads_with, leads_tell, IcyAs, Watch}
 use Rattle.machine_model.proofs.Fits.TimerPartLemmas.{leads_clear_1, leads_clear_2, leads_clear_3}
-use Rattle.machine_model.proofs.Fits.LaunchLemmas.{Fine, Up, Fallen, OnBy, On, Local, on_renew, never, leads_launch}
+use Rattle.machine_model.proofs.Fits.LaunchLemmas.{Fine, Up, Fallen, OnBy, On, Local, on_renew, never, live_started, leads_launch}
 use Rattle.machine_model.proofs.Fits.MeetLemmas.{leads_meet, leads_going, no_process, off_if}
 use Rattle.machine_model.proofs.Processes.LimitLemmas.{due_fits}
 use Rattle.machine_model.proofs.Fits.ExecLoopLemmas.{exec_step_steady}
@@ -37,6 +37,7 @@ unstopped (Some l) p a b c h = (
     restart = h.0.restart;
     program = h.0.program;
     again = h.0.again;
+    started = h.0.started;
   },
   h.1,
 )
@@ -64,6 +65,7 @@ leaves (Some l) p a b c e h = (
       restart = h.0.restart;
       program = h.0.program;
       again = h.0.again;
+      started = h.0.started;
     },
     h.1,
   ),
@@ -82,6 +84,7 @@ dies l p a b c h = (
     restart = h.0.0.restart ∙ ap is_restarting h.1;
     program = h.0.0.program;
     again = h.0.0.again;
+    started = λ other. live_started l (is_some p) (subst (λ u. FitsStatus u (is_some p)) h.1 h.0.0.status) h.0.0.status h.0.0.started;
   },
   h.0.1,
 )

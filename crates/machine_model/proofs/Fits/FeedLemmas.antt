@@ -32,6 +32,7 @@ same_pace f k l (Some q) a b c h = (
     restart = h.0.restart;
     program = h.0.program;
     again = h.0.again;
+    started = h.0.started;
   },
   h.1,
 )

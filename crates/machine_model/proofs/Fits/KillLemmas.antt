@@ -71,6 +71,7 @@ wait_by number n s (Some q) e h =
             restart = fine.0.restart;
             program = fine.0.program;
             again = fine.0.again;
+            started = fine.0.started;
           },
           fine.1,
         ))
@@ -85,7 +86,7 @@ kill_leads : (c : Container) (number : ℕ) (final icy : Bool) → is_paused c.l
     → Leads Local c.number (Stood c (On Fine)) (and_then (tell_of (kill_event number) c.number) (deliver final number c.number)) (On Fine)
 kill_leads c number true icy e paused alive =
     let marks : Leads Local c.number (Here Alive) (renew c.number by_hand) (Here Alive) =
-    here_renew Alive Alive (λ s. by_hand) (λ s pid l p x y z k. marked by_hand (record { status = λ l. refl; pid = λ l. refl; words = λ l. refl; log = λ l. refl }) l p x y z k) (λ s l p x y z k. refl) (λ s l. refl) in
+    here_renew Alive Alive (λ s. by_hand) (λ s pid l p x y z k. marked by_hand (record { status = λ l. refl; pid = λ l. refl; words = λ l. refl; log = λ l. refl; starts = λ l. refl }) l p x y z k) (λ s l p x y z k. refl) (λ s l. refl) in
     leads_then (leads_tell c.number (kill_event number))
     (leads_from alive (leads_then marks (leads_to up_fine (leads_from (λ v h. on_weaker Alive Fine (λ l p x y z k. k.0) v (on_here Alive v h)) (leads_meet number c.number)))))
 kill_leads c number false true e paused alive =

@@ -9,7 +9,7 @@ use Rattle.engine_text.specs.Scripts.{Program}
 use Rattle.machine_model.specs.State.{State}
 use Rattle.machine_model.specs.Chain.{change, with_container, renew}
 use Rattle.machine_model.specs.EventTexts.{plain_event}
-use Rattle.machine_model.specs.Consistency.{is_there, FitsStatus, IsFrozenAs, GoalStands}
+use Rattle.machine_model.specs.Consistency.{is_there, FitsStatus, IsFrozenAs, GoalStands, HasStarted}
 use Rattle.machine_model.specs.Effects.Launch.{spawn, launched, launch_program, launch, launch_by_call, afresh, container_room, log_size}
 use Rattle.machine_model.specs.Effects.Destroy.{without, destroy}
 use Rattle.machine_model.specs.Effects.EndMain.{end_exec}
@@ -41,6 +41,7 @@ pub record Calm (l : Life) (p : Option Process) (a b c : Bool) : Type 0 where
   pub restart : c ≡ is_restarting l.status
   pub program : is_some p ≡ true → Names l.words
   pub again : c ≡ true → Names l.words
+  pub started : HasStarted l
 
 abbrev pub Fine : Life → Option Process → Bool → Bool → Bool → Type 0
 Fine l p a b c = Calm l p a b c × GoalStands l.goal (is_some p)
@@ -128,7 +129,7 @@ Fallen l p a b c = (not (l.pid == 0) ≡ false) × (p ≡ None) × (a ≡ false)
 
 -- its process is to be spawned
 abbrev Launching : Life → Option Process → Bool → Bool → Bool → Type 0
-Launching l p a b c = (not (l.pid == 0) ≡ true) × (p ≡ None) × (a ≡ false) × (b ≡ false) × (c ≡ false) × Names l.words × (l.status ≡ Status.Running)
+Launching l p a b c = (not (l.pid == 0) ≡ true) × (p ≡ None) × (a ≡ false) × (b ≡ false) × (c ≡ false) × Names l.words × (l.status ≡ Status.Running) × (1 ≤ l.starts)
 
 pub pid_lives : (n : ℕ) → 1 ≤ n → not (n == 0) ≡ true
 pid_lives n h = grind (arith, nat_tests, h)
@@ -142,6 +143,10 @@ goal_live Goal.Remove = refl
 pub never : {A : Type 0} (b : Bool) → b ≡ false → b ≡ true → A
 never b e f = let no_way : false ≡ true = sym e ∙ f in absurd (cc)
 
+-- a container whose process lives has been started
+pub live_started : (l : Life) (live : Bool) → live ≡ true → FitsStatus l.status live → HasStarted l → 1 ≤ l.starts
+live_started l live e fits h = h (λ is. never live (subst (λ u. FitsStatus u live) is fits) e)
+
 runs_now : (l : Life) (program : Program) (t : ℕ) (stdin : Bool) (room : ℕ) (a b c : Bool) → Launching l None a b c → Up l (Some (spawned program t stdin room)) a b c
 runs_now l program t stdin room a b c h = (
   (
@@ -154,6 +159,7 @@ runs_now l program t stdin room a b c h = (
       restart = h.4 ∙ sym (ap is_restarting h.6);
       program = λ e. h.5;
       again = λ e. h.5;
+      started = λ other. h.7;
     },
     goal_live l.goal,
   ),
@@ -183,7 +189,7 @@ program_by None c there = absurd (cc)
 program_by (Some program) c there =
     let n : ℕ = c.number in
     let begin : Leads Local n (Here (FallenAs c.life.log)) (λ s. renew n (launched s) s) (Here (LaunchingAs c.life.log)) =
-    here_renew (FallenAs c.life.log) (LaunchingAs c.life.log) launched (λ s pid l p a b c h. ((pid_lives s.next_pid pid, h.0.1, h.0.2, h.0.3, h.0.4, h.0.5, refl), h.1)) (λ s l p a b c h. sym h.0.6) (λ s l. refl) in
+    here_renew (FallenAs c.life.log) (LaunchingAs c.life.log) launched (λ s pid l p a b c h. ((pid_lives s.next_pid pid, h.0.1, h.0.2, h.0.3, h.0.4, h.0.5, refl, omega arith), h.1)) (λ s l p a b c h. sym h.0.6) (λ s l. refl) in
     let spawns : Leads Local n (Here (LaunchingAs c.life.log)) (change (spawn (OfContainer n) program c.life.open_stdin (container_room c))) (Here Up) =
     leads_spawn program c.life.open_stdin (container_room c) (λ v h. h.2.0.1)
     (λ t v h. (h.0, h.1, runs_now h.0 program t c.life.open_stdin (container_room c) v.stop v.removal v.restart (subst (λ q. Launching h.0 q v.stop v.removal v.restart) h.2.0.1 h.2.0)))

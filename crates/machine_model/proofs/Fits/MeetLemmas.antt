@@ -8,7 +8,7 @@ use Rattle.proc_kernel.specs.Tables.{effect_of, process_of}
 use Rattle.machine_model.specs.State.{State, change_process, timer_of, change_life}
 use Rattle.machine_model.specs.Chain.{change, and_then, in_order, renew, tell_of}
 use Rattle.machine_model.specs.EventTexts.{plain_event, kill_event}
-use Rattle.machine_model.specs.Consistency.{FitsStatus, IsFrozenAs, GoalStands}
+use Rattle.machine_model.specs.Consistency.{FitsStatus, IsFrozenAs, GoalStands, HasStarted}
 use Rattle.machine_model.specs.Effects.Cancel.{cancelled, cancel_restart}
 use Rattle.machine_model.specs.Effects.Halt.{lesser, set_deadline, halt}
 use Rattle.machine_model.specs.Effects.Meet.{logged, by_effect, stepped, step_process, running, thaw_execs, wake_parts, thaw_container, send, woken, meet_signal}
@@ -21,7 +21,7 @@ use Rattle.machine_model.proofs.Fits.LogRoomLemmas.{RoomBy, room_in, log_more}
 use Rattle.machine_model.proofs.Processes.LimitLemmas.{IsStep, written, thaw_fits, signal_fits}
 use Rattle.machine_model.proofs.Fits.ExecLoopLemmas.{told_state}
 use Rattle.machine_model.proofs.Fits.ExecPhaseLemmas.{loosen, tighten, renew_loosely, thaw_all}
-use Rattle.machine_model.proofs.Fits.LaunchLemmas.{Names, Fine, Up, Live, OnBy, On, Here, Local, on_weaker, on_none, here_of, on_here, mapped_by, icy_renewed, here_renew, Fallen, goal_live, never}
+use Rattle.machine_model.proofs.Fits.LaunchLemmas.{Names, Fine, Up, Live, OnBy, On, Here, Local, on_weaker, on_none, here_of, on_here, mapped_by, icy_renewed, here_renew, Fallen, goal_live, never, live_started}
 use Rattle.machine_model.proofs.Fits.EndMainLemmas.{leads_end_main}
 use Rattle.engine_text.specs.declared.script.Effect.{Effect as ProcessEffect}
 use Rattle.engine_text.specs.declared.script.Effect.TheVariants.{Lives, Wrote, Ended}
@@ -48,6 +48,7 @@ logs_more stream payload t l p a b c h = (
       restart = h.0.0.0.restart;
       program = h.0.0.0.program;
       again = h.0.0.0.again;
+      started = h.0.0.0.started;
     },
     h.0.0.1,
   ),
@@ -115,7 +116,7 @@ leads_step R step is n some none = record { holds = λ s h. step_by R step is n 
 abbrev pub Loose : Life → Option Process → Bool → Bool → Bool → Type 0
 Loose l p a b c =
     FitsStatus l.status (is_some p) × (not (l.pid == 0) ≡ is_some p) × (a ≡ true → is_some p ≡ true) × (b ≡ true → (is_some p ≡ true) × (l.status ≡ Status.Removing))
-    × (c ≡ is_restarting l.status) × (is_some p ≡ true → Names l.words) × (c ≡ true → Names l.words) × GoalStands l.goal (is_some p) × (is_paused l.status ≡ false)
+    × (c ≡ is_restarting l.status) × (is_some p ≡ true → Names l.words) × (c ≡ true → Names l.words) × GoalStands l.goal (is_some p) × (is_paused l.status ≡ false) × HasStarted l
 
 tight : (l : Life) (q : Process) (p : Process) (a b c : Bool) → Going q → Loose l (Some p) a b c → Live l (Some q) a b c
 tight l q p a b c going h = (
@@ -130,6 +131,7 @@ tight l q p a b c going h = (
         restart = h.4;
         program = h.5;
         again = h.6;
+        started = h.9;
       },
       h.7,
     ),
@@ -150,6 +152,7 @@ tight_none l a b c h = (
       restart = h.4;
       program = h.5;
       again = h.6;
+      started = h.9;
     },
     h.7,
   ),
@@ -158,7 +161,7 @@ tight_none l a b c h = (
 
 pub loose : (l : Life) (p : Option Process) (a b c : Bool) → Up l p a b c → Loose l p a b c
 loose l p a b c h =
-    (h.0.0.status, h.0.0.pid, h.0.0.stop, h.0.0.removal, h.0.0.restart, h.0.0.program, h.0.0.again, h.0.1, h.1)
+    (h.0.0.status, h.0.0.pid, h.0.0.stop, h.0.0.removal, h.0.0.restart, h.0.0.program, h.0.0.again, h.0.1, h.1, h.0.0.started)
 
 -- a step that leaves none frozen
 pub leads_loose : (step : ℕ → Process → ProcessStep) → IsStep step → (n : ℕ) → ((t : ℕ) (q : Process) → Going (step t q).process) → Leads Local n (On Loose) (step_process step (OfContainer n)) (On Up)
@@ -178,7 +181,7 @@ Halted l p a b c = Fine l p a b c × (l.status ≡ Status.Paused)
 wakes : (l : Life) (p : Option Process) (a b c : Bool) → Halted l p a b c → Loose (running l) p a b c
 wakes l p a b c h =
     let live : is_some p ≡ true = subst (λ u. FitsStatus u (is_some p)) h.1 h.0.0.status in
-    (live, h.0.0.pid, h.0.0.stop, λ e. let r = (h.0.0.removal e).1 in absurd (apart (sym h.1 ∙ r)), h.0.0.restart ∙ ap is_restarting h.1, h.0.0.program, h.0.0.again, h.0.1, refl)
+    (live, h.0.0.pid, h.0.0.stop, λ e. let r = (h.0.0.removal e).1 in absurd (apart (sym h.1 ∙ r)), h.0.0.restart ∙ ap is_restarting h.1, h.0.0.program, h.0.0.again, h.0.1, refl, λ other. live_started l (is_some p) live h.0.0.status h.0.0.started)
   where
     apart : Status.Paused ≡ Status.Removing → ⊥
     apart e = let no_way : true ≡ false = ap is_paused e in absurd (cc)
@@ -248,6 +251,7 @@ leads_deadline (pos seconds) n = leads_set_1 (λ s. lesser (timer_of 1 n s) (s.c
         restart = h.2.0.0.restart;
         program = h.2.0.0.program;
         again = h.2.0.0.again;
+        started = h.2.0.0.started;
       },
       h.2.0.1,
     ),
@@ -262,6 +266,7 @@ pub record IsGoalMark (f : Life → Life) : Type 0 where
   pub pid : (l : Life) → (f l).pid ≡ l.pid
   pub words : (l : Life) → (f l).words ≡ l.words
   pub log : (l : Life) → (f l).log ≡ l.log
+  pub starts : (l : Life) → (f l).starts ≡ l.starts
 
 pub marked : (f : Life → Life) → IsGoalMark f → (l : Life) (p : Option Process) (a b c : Bool) → Alive l p a b c → Alive (f l) p a b c
 marked f mark l p a b c h = (
@@ -275,6 +280,7 @@ marked f mark l p a b c h = (
       restart = h.0.0.restart ∙ sym (ap is_restarting (mark.status l));
       program = λ e. subst Names (sym (mark.words l)) (h.0.0.program e);
       again = λ e. subst Names (sym (mark.words l)) (h.0.0.again e);
+      started = λ other. subst (λ n. 1 ≤ n) (sym (mark.starts l)) (live_started l (is_some p) h.1 h.0.0.status h.0.0.started);
     },
     subst (GoalStands (f l).goal) (sym h.1) (goal_live (f l).goal),
   ),
@@ -295,12 +301,12 @@ abbrev pub Resting : Life → Option Process → Bool → Bool → Bool → Type
 Resting l p a b c = Fine l p a b c × (l.status ≡ Status.Restarting)
 
 abbrev pub Cancelled : Life → Option Process → Bool → Bool → Bool → Type 0
-Cancelled l p a b c = Fallen l p a b c × GoalStands l.goal false × (l.status ≡ Status.Exited)
+Cancelled l p a b c = Fallen l p a b c × GoalStands l.goal false × (l.status ≡ Status.Exited) × (1 ≤ l.starts)
 
 -- its timer is gone
 abbrev Untimed : Life → Option Process → Bool → Bool → Bool → Type 0
 Untimed l p a b c =
-    (not (l.pid == 0) ≡ false) × (p ≡ None) × (a ≡ false) × (b ≡ false) × (c ≡ false) × Names l.words × GoalStands l.goal false × (is_paused l.status ≡ false)
+    (not (l.pid == 0) ≡ false) × (p ≡ None) × (a ≡ false) × (b ≡ false) × (c ≡ false) × Names l.words × GoalStands l.goal false × (is_paused l.status ≡ false) × (1 ≤ l.starts)
 
 pub no_process : (p : Option Process) → is_some p ≡ false → p ≡ None
 no_process None e = refl
@@ -321,6 +327,7 @@ untimed l p a b c h =
       h.0.0.again (h.0.0.restart ∙ ap is_restarting h.1),
       subst (GoalStands l.goal) dead h.0.1,
       ap is_paused h.1,
+      h.0.0.started (λ is. let no_way : true ≡ false = ap is_restarting (sym h.1 ∙ is) in absurd (cc)),
     )
 
 pub leads_cancel : (n : ℕ) → Leads Local n (Here Resting) (cancel_restart n) (Here Cancelled)
@@ -328,5 +335,5 @@ leads_cancel n =
     let clears : Leads Local n (Here Resting) (change (λ s. record s { timers = cleared 3 n s.timers })) (Here Untimed) =
     leads_clear_3 (λ v h. (h.0, h.1, untimed h.0 v.main v.stop v.removal v.restart h.2)) in
     let marks : Leads Local n (Here Untimed) (renew n cancelled) (Here Cancelled) =
-    here_renew Untimed Cancelled (λ s. cancelled) (λ s pid l p a b c h. ((h.0, h.1, h.2, h.3, h.4, h.5, refl), h.6, refl)) (λ s l p a b c h. sym h.7) (λ s l. refl) in
+    here_renew Untimed Cancelled (λ s. cancelled) (λ s pid l p a b c h. ((h.0, h.1, h.2, h.3, h.4, h.5, refl), h.6, refl, h.8)) (λ s l p a b c h. sym h.7) (λ s l. refl) in
     leads_then clears marks

@@ -11,7 +11,7 @@ use Rattle.machine_model.specs.Calls.Pause as pause
 use Rattle.machine_model.specs.Calls.Pause.{paused, freeze_process, freeze_execs}
 use Rattle.machine_model.proofs.Fits.PartLemmas.{parts_of, Steady, Leads, leads_from, IcyAs}
 use Rattle.machine_model.proofs.Fits.MainPartLemmas.{leads_process}
-use Rattle.machine_model.proofs.Fits.LaunchLemmas.{Fine, Up, OnBy, On, Local, on_weaker, on_here, never, mapped_by}
+use Rattle.machine_model.proofs.Fits.LaunchLemmas.{Fine, Up, OnBy, On, Local, on_weaker, on_here, never, mapped_by, live_started}
 use Rattle.machine_model.proofs.Fits.MeetLemmas.{Halted, Loose, loose}
 use Rattle.machine_model.proofs.Processes.LimitLemmas.{freeze_fits}
 use Rattle.machine_model.proofs.Fits.ExecLoopLemmas.{told_state}
@@ -59,6 +59,7 @@ pauses l p a b c h =
         restart = k.4 ∙ ap is_restarting h.2;
         program = k.5;
         again = k.6;
+        started = λ other. live_started l (is_some p) (subst (λ u. FitsStatus u (is_some p)) h.2 k.0) k.0 k.9;
       },
       k.7,
     )

@@ -15,7 +15,7 @@ use Rattle.machine_model.specs.Calls.Remove as remove
 use Rattle.machine_model.specs.Calls.Remove.{to_remove, removing, if_it_lives, kill_to_remove, remove_running, remove_restarting, remove_dead}
 use Rattle.machine_model.proofs.Fits.PartLemmas.{Parts, parts_of, life_of, Steady, Leads, leads_then, leads_from, leads_to, leads_tell}
 use Rattle.machine_model.proofs.Fits.TimerPartLemmas.{leads_set_2, timed}
-use Rattle.machine_model.proofs.Fits.LaunchLemmas.{Calm, Fine, Up, Live, Bare, OnBy, On, Here, Local, on_weaker, on_here, here_renew, leads_destroy, goal_live}
+use Rattle.machine_model.proofs.Fits.LaunchLemmas.{Calm, Fine, Up, Live, Bare, OnBy, On, Here, Local, on_weaker, on_here, here_renew, leads_destroy, goal_live, live_started}
 use Rattle.machine_model.proofs.Fits.MeetLemmas.{Alive, marked, leads_meet, leads_cancel}
 use Rattle.machine_model.proofs.Fits.EndMainLemmas.{live_rests}
 use Rattle.machine_model.proofs.Fits.CallLemmas.{PartsFit, whole, mains_found, mains_at, to_bare, to_alive, to_resting, up_fine}
@@ -38,6 +38,7 @@ removes_by l p a b c h =
           restart = live_rests l.status c (subst (FitsStatus l.status) h.1 calm.status) calm.restart;
           program = calm.program;
           again = calm.again;
+          started = λ other. live_started l (is_some p) h.1 calm.status calm.started;
         },
         subst (GoalStands l.goal) (sym h.1) (goal_live l.goal),
       ),
@@ -63,7 +64,7 @@ leads_if_it_lives true n s e h =
 leads_to_remove : (n : ℕ) → Leads Local n (Here Alive) (kill_to_remove n) (On Up)
 leads_to_remove n =
     let marks : Leads Local n (Here Alive) (renew n to_remove) (Here Alive) =
-    here_renew Alive Alive (λ s. to_remove) (λ s pid l p a b c k. marked to_remove (record { status = λ l. refl; pid = λ l. refl; words = λ l. refl; log = λ l. refl }) l p a b c k) (λ s l p a b c k. refl) (λ s l. refl) in
+    here_renew Alive Alive (λ s. to_remove) (λ s pid l p a b c k. marked to_remove (record { status = λ l. refl; pid = λ l. refl; words = λ l. refl; log = λ l. refl; starts = λ l. refl }) l p a b c k) (λ s l p a b c k. refl) (λ s l. refl) in
     let lives : Leads Local n (On Up) (λ s. if_it_lives (is_live (OfContainer n) s) n s) (On Up) = record { holds = λ s h. leads_if_it_lives (is_live (OfContainer n) s) n s refl h } in
     leads_then (leads_tell n (kill_event 9))
     (leads_then marks (leads_then (leads_from (λ v h. on_weaker Alive Fine (λ l p x y z k. k.0) v (on_here Alive v h)) (leads_meet 9 n)) lives))

@@ -25,7 +25,7 @@ stop_halts s connection seconds signal c u found is lives h =
     let t : State = begun connection c.number Asked.Stop s in
     mains_found t c (halt stopping seconds signal c) found
     (leads_from (λ v k. to_alive c u v is (λ fits. lives (is_some v.main) fits) k)
-    (leads_to up_fine (leads_halt stopping seconds signal c (record { status = λ l. refl; pid = λ l. refl; words = λ l. refl; log = λ l. refl })))) h
+    (leads_to up_fine (leads_halt stopping seconds signal c (record { status = λ l. refl; pid = λ l. refl; words = λ l. refl; log = λ l. refl; starts = λ l. refl })))) h
 
 stop_by : (s : State) (connection : ℕ) (seconds : Option ℤ) (signal : Option Signal) (c : Container) (u : Status) → container_numbered c.number s ≡ Some c → c.life.status ≡ u → PartsFit s
     → PartsFit (stop.by_status u connection seconds signal c s).effect.state
