@@ -1,8 +1,10 @@
 // The journal that a daemon keeps (own: each entry has a place, and so has the end of each ticket).
-ghost use Rattle.std.specs.Prelude.{◌≡◌, ◌≤◌, ◌<◌, ◌+◌, ◌^◌, [], ◌∷◌, ◌++◌, IfOk, OnOk, OnErr, IsFalse, length, slice_get, option_copied};
+ghost use Rattle.std.specs.Prelude.{◌≡◌, ◌≤◌, ◌<◌, ◌+◌, ◌^◌, [], ◌∷◌, ◌++◌, All, IfOk, OnOk, OnErr, IsFalse, length, slice_get, option_copied};
 ghost use Rattle.history_replay.specs.Kept as spec;
+ghost use Rattle.history_replay.specs.Texts.{EntryHasTexts};
 
 use super::places::{ends_behind, is_end, places_of};
+use super::reading::entries_texts;
 use engine_text::{Call, Entry, NoMemory};
 use std::alloc::Global;
 use std::marker::Model;
@@ -164,5 +166,12 @@ impl Journal {
         ensures { length self.now.entries + spec.ends_of self.now.entries ≤ self.now.room }
     {
         let _ = &self.items;
+    }
+
+    /// Does nothing: its clause says that each entry is what its types hold.
+    pub fn texts(&self)
+        ensures { All EntryHasTexts self.now.entries }
+    {
+        entries_texts(self.items.as_slice());
     }
 }

@@ -12,4 +12,5 @@ mod options;
 mod parts;
 mod replies;
 
+pub use carried::entries_texts;
 pub use line::{law_line_reads_back, read_line};

@@ -1,5 +1,5 @@
 // What the types of a call and a reply give: texts of UTF-8, numbers of 64 bits, bytes.
-ghost use Rattle.std.specs.Prelude.{◌≡◌, IfSome, IsUtf8};
+ghost use Rattle.std.specs.Prelude.{◌≡◌, All, IfSome, IsUtf8};
 ghost use Rattle.hex.specs.Hex.{IsBytes};
 ghost use Rattle.machine_model.specs.JournalLines.{ended_ticket};
 ghost use Rattle.machine_model.specs.State.{owner_number};
@@ -171,4 +171,13 @@ pub fn entry_texts(entry: &Entry)
     fed_bytes(&entry.call);
     call_texts(&entry.call);
     reply_texts(&entry.reply);
+}
+
+/// Does nothing: its clause says what the types of these entries give.
+pub fn entries_texts(entries: &[Entry])
+    ensures { All spec.EntryHasTexts entries.now }
+{
+    for entry in entries {
+        entry_texts(entry);
+    }
 }
