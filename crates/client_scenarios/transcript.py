@@ -7,7 +7,7 @@ import sys
 
 HERE = os.path.dirname(os.path.abspath(__file__))
 sys.path.insert(0, os.path.join(HERE, "..", "engine_scenarios"))
-from exchange import compact, id_of, shown, volume  # noqa: E402
+from exchange import answer, compact, created, id_of, message, shown, volume  # noqa: E402
 
 COMMANDS = ("create|run|start|pause|unpause|stop|restart|kill|rm|rename|ps|inspect|version|logs|attach|exec|wait|events|watch"
             "|volume|journal|replay")
@@ -18,7 +18,12 @@ LINES = []
 
 def line(words, out="", err="", status=0, connections=1, given=""):
     """A command, what it prints on standard output and standard error, its status, and how many requests it makes."""
-    LINES.append((words, out, err, status, connections, given))
+    LINES.append((words, out, err, status, connections, given, ()))
+
+
+def by(words, *instead, out="", err="", status=0, given=""):
+    """A command that has these connections in the place of the daemon, each what it gives or how it fails."""
+    LINES.append((words, out, err, status, 0, given, instead))
 
 
 def names(words, **more):
@@ -161,16 +166,75 @@ line("replay 1700000000000", f"illegal line 2\nkept {compact(told(304))}\nfound 
 line("replay 1700000000000", "bad line 2\n", status=3, connections=0, given=CREATE + "x\n" + WAITED)
 line("replay 1700000000000", "legal 0\n", connections=0)
 
+# ---- in the place of the daemon: streams whole and cut, answers that are none, and what fails outside
+
+BEGINS = "HTTP/1.1 200 OK\r\nApi-Version: 1.43\r\n"
+CHUNKED = "Server: engined\r\nTransfer-Encoding: chunked\r\n\r\n"
+FRAMES = BEGINS + "Content-Type: application/vnd.docker.multiplexed-stream\r\n" + CHUNKED
+TEXT = BEGINS + "Content-Type: text/plain; charset=utf-8\r\n" + CHUNKED
+LATER = BEGINS + "Content-Type: application/json\r\nServer: engined\r\nTransfer-Encoding: chunked\r\nX-Engine-From: 1\r\n\r\n"
+TAKEN = ("HTTP/1.1 101 UPGRADED\r\nContent-Type: application/vnd.docker.multiplexed-stream\r\nConnection: Upgrade\r\n"
+         "Upgrade: tcp\r\n\r\n")
+HI, LAST = "\1\0\0\0\0\0\0\3hi\n", "0\r\n\r\n"
+NO_ANSWER = "dockc: the answer isn't one of the Engine API's\n"
+NO_CONNECTION, NO_MORE = "dockc: can't connect to the daemon\n", "dockc: the connection to the daemon failed\n"
+
+
+def chunk(data):
+    return f"{len(data):x}\r\n{data}\r\n"
+
+
+def no_answer(words, *instead, out=""):
+    by(words, *instead, out=out, err=NO_ANSWER, status=123)
+
+
+by("logs web", FRAMES + chunk(HI) + LAST, out="hi\n")
+by("logs web", FRAMES + chunk(HI[:5]) + chunk(HI[5:9]) + chunk(HI[9:]) + LAST, out="hi\n")
+no_answer("logs web", FRAMES + chunk(HI + "\1\0\0") + LAST, out="hi\n")
+no_answer("logs web", FRAMES + chunk(HI + "\1\0\0\0\0\0\0\5ab") + LAST, out="hi\nab\n")
+no_answer("logs web", FRAMES + chunk(HI + "\3\0\0\0\0\0\0\3hi\n") + LAST, out="hi\n")
+no_answer("logs web", FRAMES + chunk(HI), out="hi\n")
+no_answer("logs web", FRAMES + chunk(HI)[:-3], out="hi\n")
+by("attach web", TAKEN + HI, out="hi\n")
+no_answer("attach web", TAKEN + HI + HI[:3], out="hi\n")
+no_answer("attach web", TAKEN + HI + HI[:9], out="hi\nh\n")
+no_answer("version", "HTTP/1.0 200 OK\r\n\r\n")
+no_answer("version", answer(200, "{}")[:-20])
+no_answer("version", answer(200, "{}")[:-1])
+no_answer("journal", TEXT + chunk("x\n"), out="x\n")
+no_answer("create engine/tools", answer(201, compact({"Warnings": []})))
+no_answer("wait web", answer(200, compact({"StatusCode": "0"})))
+by("exec web exit 3", created(0), TAKEN, answer(200, compact({"ExitCode": None})), err="dockc: the exec has no exit code\n", status=123)
+by("watch 1700000000", LATER + LAST, err="dockc: the first events are no longer kept\n", status=123)
+by("start web", "nowhere", err=NO_CONNECTION, status=125)
+by("start web", "read fails", err=NO_MORE, status=125)
+by("start web", "write fails", err=NO_MORE, status=125)
+by("run engine/tools", created(0), err=NO_CONNECTION, status=125)
+by("run engine/tools", created(0), message(409, "no"), err="no\n", status=125)
+by("start web", message(404, "no"), "errors fail", status=125)
+by("start web", answer(204), "output fails", err="dockc: standard output can't be written\n", status=122)
+by("logs web", FRAMES + chunk(HI) + LAST, "output fails", err="dockc: standard output can't be written\n", status=122)
+by("logs web", FRAMES + chunk("\2" + HI[1:]) + LAST, "errors fail", status=122)
+by("replay 1700000000000", "input fails", err="dockc: standard input can't be read\n", status=122, given=CREATE)
+by("run -i engine/tools cat", created(0), answer(204), TAKEN, "input fails", err="dockc: standard input can't be read\n", status=122, given="abc\n")
+by("frob", "errors fail", status=2)
+
 
 def marked(before, text):
     return "".join(f"{before}{row}\n" for row in text.splitlines())
 
 
+def escaped(text):
+    for byte, letter in [("\n", "n"), ("\r", "r")] + [(chr(n), str(n)) for n in range(10)]:
+        text = text.replace(byte, "\\" + letter)
+    return text
+
+
 def main():
-    lines = [f"connections {sum(connections for *_, connections, _ in LINES)}\n"]
+    lines = [f"connections {sum(connections for *_, connections, _, _ in LINES)}\n"]
     wanted = []
-    for words, out, err, status, _, given in LINES:
-        text = words + (" < " + given.replace("\n", "\\n") if given else "")
+    for words, out, err, status, _, given, instead in LINES:
+        text = words + "".join(between + escaped(part) for between, part in [(" < ", given)] * bool(given) + [(" ~ ", p) for p in instead])
         lines.append(text + "\n")
         wanted.append(f"$ dockc {text}\n{marked('', out)}{marked('! ', err)}status {status}\n")
     with open(f"{HERE}/stdin", "w", newline="", encoding="utf-8") as file:

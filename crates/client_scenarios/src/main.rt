@@ -5,6 +5,7 @@
 
 mod daemon;
 mod line;
+mod outside;
 mod run;
 
 use engine_ports::{Door, NoMemory, TcpDoor, TcpLink};

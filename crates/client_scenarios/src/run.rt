@@ -1,7 +1,8 @@
 // The client's side: each line run, one behind the other, and told.
 use crate::line::{Line, owned};
+use crate::outside::{Streams, link_of};
 use client_program::run_client;
-use engine_ports::{Link, MemSink, MemSource, NoMemory};
+use engine_ports::{Link, NoMemory};
 use engine_text::Text;
 use std::alloc::Global;
 use std::str;
@@ -39,20 +40,26 @@ fn tell_line<W: Wait, L: Link>(
     told: &mut Vec<u8>,
 ) -> Result<(), NoMemory> {
     let words = words_of(alloc, address, line)?;
-    let mut input = MemSource::new(alloc, &line.input, 4096, &[])?;
-    let mut out = MemSink::new(alloc, &[])?;
-    let mut errors = MemSink::new(alloc, &[])?;
-    let status = run_client(rt, alloc, &words, link, &mut input, &mut out, &mut errors);
+    let mut streams = Streams::of(alloc, line)?;
+    let status = run_client(
+        rt,
+        alloc,
+        &words,
+        link,
+        &mut streams.input,
+        &mut streams.out,
+        &mut streams.errors,
+    );
     tell_lines(told, "$ dockc ", line.text.as_slice())?;
-    tell_lines(told, "", out.bytes())?;
-    tell_lines(told, "! ", errors.bytes())?;
+    tell_lines(told, "", streams.out.bytes())?;
+    tell_lines(told, "! ", streams.errors.bytes())?;
     let Ok(status) = format!(in alloc; "{status}") else {
         return Err(NoMemory);
     };
     tell_lines(told, "status ", status.as_bytes())
 }
 
-/// Runs and tells all lines.
+/// Runs and tells all lines: those that have nothing in the place of the daemon over this link.
 pub fn tell_all<W: Wait, L: Link>(
     rt: &W,
     alloc: Global,
@@ -62,7 +69,12 @@ pub fn tell_all<W: Wait, L: Link>(
     told: &mut Vec<u8>,
 ) -> Result<(), NoMemory> {
     for line in lines {
-        tell_line(rt, alloc, address, line, link, told)?;
+        if line.instead.is_empty() {
+            tell_line(rt, alloc, address, line, link, told)?;
+        } else {
+            let mut link = link_of(alloc, line)?;
+            tell_line(rt, alloc, address, line, &mut link, told)?;
+        }
     }
     Ok(())
 }
