@@ -1,5 +1,5 @@
 //! The laws of every legal history, as contracts of functions that do nothing.
-ghost use Rattle.machine_model.specs.Laws.{FoldLaw, LogGrowsLaw, PastLaw, StatesLaw, StatusesLaw};
+ghost use Rattle.machine_model.specs.Laws.{AttachLaw, FoldLaw, LogGrowsLaw, PastLaw, StatesLaw, StatusesLaw};
 
 /// Every state is consistent, and the moments of events never fall.
 pub fn law_states()
@@ -24,4 +24,9 @@ pub fn law_statuses()
 /// What is kept of the past is its end: the logs of the last 64 removals, the moments of the last 65,536 events.
 pub fn law_past()
     ensures { PastLaw }
+{}
+
+/// Runs are counted from 1: an attach never follows run 0.
+pub fn law_attach()
+    ensures { AttachLaw }
 {}
