@@ -2,6 +2,7 @@ pub mod TimerFacts
 pub mod LeastLemmas
 pub mod PlacedLemmas
 pub mod SearchLemmas
+pub mod SpanLemmas
 pub mod TextLemmas
 pub mod HeldLemmas
 pub mod BoxLemmas

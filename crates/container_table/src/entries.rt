@@ -1,7 +1,9 @@
 // The sorted indexes of containers: numbers by id or by name.
-ghost use Rattle.std.specs.Prelude.{◌≡◌, ◌+◌, ◌<◌, ◌≤◌, [], ◌∷◌, ◌++◌, length, Some, Ok, IsTrue, option_copied, option_map, slice_index, vec_len, vec_capacity};
+ghost use Rattle.std.specs.Prelude.{◌≡◌, ◌+◌, ◌-◌, ◌<◌, ◌≤◌, [], ◌∷◌, ◌++◌, length, take, drop, Some, Ok, IsTrue, nat_lt, option_copied, option_map, slice_index, slice_range, vec_len, vec_capacity};
+ghost use Rattle.container_table.specs.Order.{IsInOrder};
 ghost use Rattle.std.specs.List.{AllByRecursion};
-ghost use Rattle.std.specs.List.Sorted.{IsSearchInRange};
+ghost use Rattle.std.specs.List.Sorted.{IsBinarySearchResult, IsSearchInRange};
+ghost use Rattle.std.specs.Ordering.{nat_cmp};
 ghost use Rattle.container_table.specs.Tables.{numbered, is_above, without, renamed};
 ghost use Rattle.container_table.specs.declared.entries.Key.TheVariants as keys;
 ghost use Rattle.container_table.specs.Logs.{container_in};
@@ -60,13 +62,56 @@ pub fn start_of(text: &str) -> [u8; 8]
     ]
 }
 
-/// Where the container of that number stands, or would stand.
+// So many of rising numbers at least are below the number: as many as it is too low for at their end.
+fn least_place(numbers: &[u64], number: u64) -> usize
+    requires { IsInOrder nat_lt numbers.now }
+    ensures bound { result ≤ length numbers.now }
+    ensures below { AllByRecursion (λ m. m < number) (take result numbers.now) }
+{
+    match numbers.last() {
+        None => 0,
+        Some(last) if *last < number => numbers.len(),
+        Some(last) => (numbers.len() - 1).saturating_sub((*last - number) as usize),
+    }
+}
+
+// The number stands at this place of rising numbers at most: it is so far above the first of them.
+fn last_place(numbers: &[u64], number: u64) -> usize
+    requires { IsInOrder nat_lt numbers.now }
+    ensures bound { result ≤ length numbers.now }
+    ensures above { AllByRecursion (λ m. number < m) (drop result numbers.now) }
+{
+    match numbers.first() {
+        None => 0,
+        Some(first) if number < *first => 0,
+        Some(first) => (numbers.len() - 1).min((number - *first) as usize) + 1,
+    }
+}
+
+// Where the number stands, or would stand, between these two places, counted from the lower.
+fn place_between(numbers: &[u64], low: usize, high: usize, number: u64) -> Result<usize, usize>
+    requires order { low ≤ high }
+    requires bound { high ≤ length numbers.now }
+    ensures bound { IsSearchInRange result (high - low) }
+    ensures place { IsBinarySearchResult (λ m. nat_cmp m number) (slice_range numbers.now low high) result }
+{
+    numbers[low..high].binary_search(&number)
+}
+
+/// Where the container of that number stands, or would stand. Numbers rise, so with few gaps
+/// between them there is little to halve.
 pub fn place_of(held: &Boxes, number: u64) -> Result<usize, usize>
     requires { IsBoxed held.now }
     ensures bound { IsSearchInRange result (length held.now.list.items) }
     ensures place { IsPlaced (contents held.now.list.items) number result }
 {
-    held.numbers.as_slice().binary_search(&number)
+    let numbers = held.numbers.as_slice();
+    let low = least_place(numbers, number);
+    let high = last_place(numbers, number);
+    match place_between(numbers, low, high, number) {
+        Ok(i) => Ok(low + i),
+        Err(i) => Err(low + i),
+    }
 }
 
 /// Whether the number is above those of all.
