@@ -3,7 +3,7 @@ use Rattle.std.proofs.Common.{◌≡◌, ℕ, suc, zero, ◌+◌, ◌<◌, ◌�
 use Rattle.std.specs.Prelude.{◌==◌, ◌-◌, ◌&&◌, nat_lt, slice_get, slice_range}
 use Rattle.std.specs.List.{AllByRecursion, remove}
 use Rattle.std.proofs.Math.ListN.{set}
-use Rattle.std.specs.List.Sorted.{IsBinarySearchResult, IsSearchInRange}
+use Rattle.std.specs.List.Sorted.{IsBinarySearchResult, IsNonDecreasingBy, IsSearchInRange}
 use Rattle.std.specs.Ordering.{nat_cmp, ordering_then, ordering_index, ordering_reverse}
 use Rattle.std.specs.Cmp.{IsStrictWeakOrder}
 use Rattle.std.proofs.lemmas.Cmp.{nat_cmp_total, nat_list_cmp_total}
@@ -17,7 +17,7 @@ use Rattle.std.specs.declared.cmp.Ordering.TheVariants.{Less, Equal, Greater}
 use Rattle.engine_text.specs.declared.container.Container.{Container}
 use Rattle.engine_text.specs.Texts.{same_bytes}
 use Rattle.container_table.specs.Lists.{remove_first, update_first}
-use Rattle.container_table.specs.Order.{IsInOrder}
+use Rattle.container_table.specs.Order.{IsInOrder, AreApart}
 use Rattle.container_table.specs.Search.{HoldsOf, Parts}
 use Rattle.container_table.specs.Starts.{front}
 use Rattle.container_table.specs.Tables.{numbered, is_above}
@@ -27,7 +27,7 @@ use Rattle.container_table.specs.Logs.{container_in}
 use Rattle.container_table.specs.declared.held.Held.{Held}
 use Rattle.container_table.specs.Held.{contents, numbers_of, key_text, entry_of, entry_order, found_text, is_numbered_before, is_sorted_before, sorted_by, IsIndex, IsLocated, IsPlaced}
 use Rattle.container_table.proofs.PlacedLemmas.{AreAlone, all_imp, all_in_order, ordered}
-use Rattle.container_table.proofs.SearchLemmas.{Rises, rises_made, found_place, holds_back, parts_back, find_none, all_of_parts}
+use Rattle.container_table.proofs.SearchLemmas.{Rises, rises_far, rises_made, found_place, holds_back, parts_back, find_none, all_of_parts}
 use Rattle.container_table.proofs.SpanLemmas.{from_place, rises_dropped, rises_taken, holds_within, parts_within}
 use Rattle.container_table.proofs.TextLemmas.{order, level, below, above, whole_order, is_lt-Less, places_rise, same_if_equal}
 
@@ -220,6 +220,14 @@ entries_are key cs text h =
 rises_texts : (key : Key) (text : List ℕ) (c d : Container) → is_sorted_before key c d ≡ true → ordering_index (order (key_text key c) text) ≤ ordering_index (order (key_text key d) text)
 rises_texts key text c d e = places_rise order nat_list_cmp_total (key_text key c) (key_text key d) text (is_lt-Less (order (key_text key c) (key_text key d)) e)
 
+entries_rise : (key : Key) (cs : List Container) (text : List ℕ) → IsInOrder is_numbered_before cs → AreApart (is_sorted_before key) cs
+    → Rises (λ e. ordering_index (entry_order key cs text e)) (map (entry_of key) (sorted_by key cs))
+entries_rise key cs text h apart =
+    rises_made (entry_of key) (λ e. ordering_index (entry_order key cs text e)) (λ c. ordering_index (order (key_text key c) text)) (is_sorted_before key) (sorted_by key cs)
+    (ordered (is_sorted_before key) (text_order key) cs apart)
+    (all_imp (λ c. entry_order key cs text (entry_of key c) ≡ order (key_text key c) text) (λ c. ordering_index (entry_order key cs text (entry_of key c)) ≡ ordering_index (order (key_text key c) text)) (λ c e. ap ordering_index e) (sorted_by key cs) (entries_are key cs text h))
+    (rises_texts key text)
+
 pub located : (key : Key) (cs : List Container) (text : List ℕ) (entries : List Entry) (r : Result ℕ ℕ) → IsInOrder is_numbered_before cs → IsIndex key cs entries
     → IsSearchInRange r (length entries) → IsBinarySearchResult (entry_order key cs text) entries r → IsLocated key cs text r
 located key cs text entries r h index bound found = go r (found_place (entry_order key cs text) (map (entry_of key) l) r up bound' found')
@@ -231,10 +239,7 @@ located key cs text entries r h index bound found = go r (found_place (entry_ord
     are = entries_are key cs text h
 
     up : Rises (λ e. ordering_index (entry_order key cs text e)) (map (entry_of key) l)
-    up = rises_made (entry_of key) (λ e. ordering_index (entry_order key cs text e)) (λ c. ordering_index (order (key_text key c) text)) (is_sorted_before key) l
-        (ordered (is_sorted_before key) (text_order key) cs index.apart)
-        (all_imp (λ c. entry_order key cs text (entry_of key c) ≡ order (key_text key c) text) (λ c. ordering_index (entry_order key cs text (entry_of key c)) ≡ ordering_index (order (key_text key c) text)) (λ c e. ap ordering_index e) l are)
-        (rises_texts key text)
+    up = entries_rise key cs text h index.apart
 
     bound' : IsSearchInRange r (length (map (entry_of key) l))
     bound' = subst (λ (es : List Entry). IsSearchInRange r (length es)) index.is bound
@@ -252,6 +257,11 @@ located key cs text entries r h index bound found = go r (found_place (entry_ord
         (λ c e f. same_if_equal (key_text key c) text (e f)) l (as_whole Equal)) m
     go (Err i) m = parts_back (entry_of key) (λ e. entry_order key cs text e ≡ Less) (λ e. entry_order key cs text e ≡ Greater) (λ c. order (key_text key c) text ≡ Less) (λ c. order (key_text key c) text ≡ Greater) l i
         (as_whole Less) (as_whole Greater) m
+
+-- the orders of an index's entries to a text don't fall
+pub index_rises : (key : Key) (cs : List Container) (text : List ℕ) (entries : List Entry) → IsInOrder is_numbered_before cs → IsIndex key cs entries
+    → IsNonDecreasingBy (λ e. ordering_index (entry_order key cs text e)) entries
+index_rises key cs text entries h index = rises_far (λ e. ordering_index (entry_order key cs text e)) entries (subst (λ (es : List Entry). Rises (λ e. ordering_index (entry_order key cs text e)) es) (sym index.is) (entries_rise key cs text h index.apart))
 
 -- ---- a number above all
 

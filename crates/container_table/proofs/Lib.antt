@@ -4,6 +4,7 @@ pub mod PlacedLemmas
 pub mod SearchLemmas
 pub mod SpanLemmas
 pub mod TextLemmas
+pub mod RowsLemmas
 pub mod HeldLemmas
 pub mod BoxLemmas
 pub mod IndexLemmas

@@ -1,7 +1,8 @@
 -- What a search by halving tells of a list in order.
-use Rattle.std.proofs.Common.{◌≡◌, ℕ, suc, zero, ◌+◌, ◌<◌, ◌≤◌, Bool, true, false, if◌then◌else◌, List, [], ◌∷◌, length, get_or, map, Some, None, Result, Ok, Err, find, refl, sym, ◌∙◌, ap, arith, leb, Ordering, MatchResult}
+use Rattle.std.proofs.lemmas.List.{get_or_read}
+use Rattle.std.proofs.Common.{◌≡◌, ℕ, suc, zero, ◌+◌, ◌<◌, ◌≤◌, Bool, true, false, if◌then◌else◌, List, [], ◌∷◌, length, get_or, map, Some, None, Result, Ok, Err, find, refl, sym, ◌∙◌, subst, ap, arith, leb, Ordering, MatchResult}
 use Rattle.std.proofs.lemmas.Bool.Decides.{nat_tests}
-use Rattle.std.specs.List.{AllByRecursion, HoldsAt, insert, remove}
+use Rattle.std.specs.List.{AllByRecursion, AllWithin, HoldsAt, insert, remove}
 use Rattle.std.specs.List.Sorted.{IsBinarySearchResult, IsSearchInRange, IsNonDecreasingBy, IsPartitionPoint}
 use Rattle.std.specs.Ordering.{ordering_index}
 use Rattle.std.specs.declared.cmp.Ordering.TheVariants.{Less, Equal, Greater}
@@ -15,6 +16,18 @@ use Rattle.container_table.proofs.PlacedLemmas.{AreAlone, all_imp, all_removed}
 abbrev pub Rises : {Y : Type 0} → (Y → ℕ) → List Y → Type 0
 Rises n [] = Unit {0}
 Rises n (y ∷ ys) = AllByRecursion (λ z. n y ≤ n z) ys × Rises n ys
+
+-- ---- an order that is the least or the greatest
+
+is_least : (o : Ordering) → ordering_index o ≤ 0 → o ≡ Less
+is_least Less low = refl
+is_least Equal low = absurd (omega (arith, low))
+is_least Greater low = absurd (omega (arith, low))
+
+is_most : (o : Ordering) → 2 ≤ ordering_index o → o ≡ Greater
+is_most Less high = absurd (omega (arith, high))
+is_most Equal high = absurd (omega (arith, high))
+is_most Greater high = refl
 
 module _ {Y : Type 0} where
   pub all_at : (P : Y → Type 0) (ys : List Y) (k : ℕ) (d : Y) → AllByRecursion P ys → k < length ys → P (get_or ys k d)
@@ -73,6 +86,18 @@ module _ {Y : Type 0} where
       → MatchResult r (HoldsOf (λ y. ord y ≡ Equal) ys) (Parts (λ y. ord y ≡ Less) (λ y. ord y ≡ Greater) ys)
   found_place ord ys (Ok i) up bound h = holds_of (λ y. ord y ≡ Equal) ys i bound h
   found_place ord ys (Err i) up bound h = parts_of (λ y. ord y ≡ Less) (λ y. ord y ≡ Greater) ys i bound (h (rises_far (λ y. ordering_index (ord y)) ys up))
+
+  -- ---- what one look tells of those before or behind it
+
+  pub less_until : (ord : Y → Ordering) (ys : List Y) (m : ℕ) (y : Y) → IsNonDecreasingBy (λ z. ordering_index (ord z)) ys → m < length ys → y ≡ get_or ys m y → ord y ≡ Less
+      → AllWithin (λ z. ord z ≡ Less) ys 0 (m + 1)
+  less_until ord ys m y up within at e =
+      λ k d low high. is_least (ord (get_or ys k d)) (subst (λ (n : ℕ). ordering_index (ord (get_or ys k d)) ≤ n) (ap ordering_index (ap ord (sym (get_or_read ys m y within at d)) ∙ e)) (up k m d (omega arith) within))
+
+  pub greater_from : (ord : Y → Ordering) (ys : List Y) (m : ℕ) (y : Y) → IsNonDecreasingBy (λ z. ordering_index (ord z)) ys → m < length ys → y ≡ get_or ys m y → ord y ≡ Greater
+      → AllWithin (λ z. ord z ≡ Greater) ys m (length ys)
+  greater_from ord ys m y up within at e =
+      λ k d low high. is_most (ord (get_or ys k d)) (subst (λ (n : ℕ). n ≤ ordering_index (ord (get_or ys k d))) (ap ordering_index (ap ord (sym (get_or_read ys m y within at d)) ∙ e)) (up m k d low high))
 
 module _ {X : Type 0} where
   pub none_passes : (p : X → Bool) (l : List X) (i : ℕ) → AllByRecursion (λ y. p y ≡ false) l → HoldsOf (λ y. p y ≡ true) l i → ⊥

@@ -1,5 +1,5 @@
 -- What stands inside of a table's containers (own).
-use Rattle.std.specs.Prelude.{◌≡◌, ℕ, ◌+◌, ◌≤◌, vec_len, vec_capacity}
+use Rattle.std.specs.Prelude.{◌≡◌, ℕ, ◌+◌, ◌≤◌, length, vec_len, vec_capacity}
 use Rattle.container_table.specs.Tables.{Kept}
 use Rattle.container_table.specs.Held.{contents, rooms_of, IsBoxed, IsIndex}
 use Rattle.container_table.specs.declared.entries.Key.TheVariants.{Id, Name}
@@ -13,16 +13,16 @@ boxes a = vec_len a.boxes.list + vec_len a.spare
 abbrev pub kept_of : Inside → Kept
 kept_of a = record { containers = contents a.boxes.list.items; logs = rooms_of a.boxes.list.items; places = boxes a }
 
--- Numbers rise, both indexes are right, and each vector has room for a place of each box.
+-- Numbers rise, both indexes are right, and each list has room for a place of each box.
 pub record IsKept (a : Inside) : Type 0 where
   pub boxed : IsBoxed a.boxes
   pub ids : IsIndex Id (contents a.boxes.list.items) a.ids.items
   pub names : IsIndex Name (contents a.boxes.list.items) a.names.items
   pub numbers_len : vec_len a.boxes.numbers ≡ vec_len a.boxes.list
-  pub ids_len : vec_len a.ids ≡ vec_len a.boxes.list
-  pub names_len : vec_len a.names ≡ vec_len a.boxes.list
+  pub ids_len : length a.ids.items ≡ vec_len a.boxes.list
+  pub names_len : length a.names.items ≡ vec_len a.boxes.list
   pub list_room : boxes a ≤ vec_capacity a.boxes.list
   pub numbers_room : boxes a ≤ vec_capacity a.boxes.numbers
   pub spare_room : boxes a ≤ vec_capacity a.spare
-  pub ids_room : boxes a ≤ vec_capacity a.ids
-  pub names_room : boxes a ≤ vec_capacity a.names
+  pub ids_room : boxes a ≤ a.ids.places
+  pub names_room : boxes a ≤ a.names.places

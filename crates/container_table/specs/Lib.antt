@@ -6,6 +6,8 @@ pub mod Tables
 pub mod Order
 pub mod Search
 pub mod Starts
+pub mod Rows
+pub mod RowsInside
 pub mod Held
 pub mod DueOrders
 pub mod ContainersInside

@@ -7,8 +7,9 @@ ghost use Rattle.container_table.specs.Logs.{container_in, room_in, recorded, ro
 
 use super::blank::blank_life;
 use super::boxes::Boxes;
-use super::entries::{Entry, Key};
+use super::entries::Key;
 use super::held::Held;
+use super::rows::Rows;
 use super::{boxes, entries, lookups};
 use engine_text::{Found, Life, LogRecord, NoMemory, Text};
 use std::alloc::Global;
@@ -19,8 +20,8 @@ use std::marker::Model;
 pub struct Containers {
     boxes: Boxes,
     spare: Vec<Box<Held>>,
-    ids: Vec<Entry>,
-    names: Vec<Entry>,
+    ids: Rows,
+    names: Rows,
 }
 
 impl Model for Containers {
@@ -48,8 +49,8 @@ impl Containers {
                 numbers: Vec::new(alloc),
             },
             spare: Vec::new(alloc),
-            ids: Vec::new(alloc),
-            names: Vec::new(alloc),
+            ids: Rows::new(alloc),
+            names: Rows::new(alloc),
         }
     }
 
@@ -66,19 +67,14 @@ impl Containers {
         ensures { option_map container_in (option_copied result)
             ≡ named name.now self.now.containers }
     {
-        lookups::named_in(self.names.as_slice(), &self.boxes, name)
+        lookups::named_in(&self.names, &self.boxes, name)
     }
 
     /// What the reference names.
     pub fn find(&self, reference: &str) -> Found
         ensures { result ≡ container_by self.now.containers reference.now }
     {
-        lookups::find_in(
-            self.ids.as_slice(),
-            self.names.as_slice(),
-            &self.boxes,
-            reference,
-        )
+        lookups::find_in(&self.ids, &self.names, &self.boxes, reference)
     }
 
     /// How many they are.
@@ -109,8 +105,8 @@ impl Containers {
         if !entries::is_above(&self.boxes, number) {
             return false;
         }
-        lookups::is_new(self.ids.as_slice(), &self.boxes, Key::Id, id)
-            && lookups::is_new(self.names.as_slice(), &self.boxes, Key::Name, name)
+        lookups::is_new(&self.ids, &self.boxes, Key::Id, id)
+            && lookups::is_new(&self.names, &self.boxes, Key::Name, name)
     }
 
     /// Whether there is room for one container more.
@@ -134,8 +130,8 @@ impl Containers {
         };
         self.spare.reserve(places - self.spare.len())?;
         boxes::reserve(&mut self.boxes, wanted)?;
-        self.ids.reserve(wanted)?;
-        self.names.reserve(wanted)?;
+        self.ids.reserve(alloc, wanted)?;
+        self.names.reserve(alloc, wanted)?;
         boxes::fill(&mut self.spare, alloc, wanted)
     }
 

@@ -1,9 +1,9 @@
 // The sorted indexes of containers: numbers by id or by name.
-ghost use Rattle.std.specs.Prelude.{◌≡◌, ◌+◌, ◌-◌, ◌<◌, ◌≤◌, [], ◌∷◌, ◌++◌, length, take, drop, Some, Ok, IsTrue, nat_lt, option_copied, option_map, slice_index, slice_range, vec_len, vec_capacity};
+ghost use Rattle.std.specs.Prelude.{◌≡◌, ◌+◌, ◌-◌, ◌<◌, ◌≤◌, [], ◌∷◌, ◌++◌, length, take, drop, Some, Ok, IsTrue, nat_lt, option_copied, option_map, slice_index, slice_range};
 ghost use Rattle.container_table.specs.Order.{IsInOrder};
-ghost use Rattle.std.specs.List.{AllByRecursion};
-ghost use Rattle.std.specs.List.Sorted.{IsBinarySearchResult, IsSearchInRange};
-ghost use Rattle.std.specs.Ordering.{nat_cmp};
+ghost use Rattle.std.specs.List.{AllByRecursion, AllWithin};
+ghost use Rattle.std.specs.List.Sorted.{IsBinarySearchResult, IsNonDecreasingBy, IsSearchInRange};
+ghost use Rattle.std.specs.Ordering.{nat_cmp, ordering_index};
 ghost use Rattle.container_table.specs.Tables.{numbered, is_above, without, renamed};
 ghost use Rattle.container_table.specs.declared.entries.Key.TheVariants as keys;
 ghost use Rattle.container_table.specs.Logs.{container_in};
@@ -12,6 +12,7 @@ ghost use Rattle.container_table.specs.Held.{contents, key_text, entry_of, entry
 
 use super::boxes::Boxes;
 use super::held::Held;
+use super::rows::Rows;
 use std::cmp::Ordering;
 
 /// The text by which an index is sorted.
@@ -172,15 +173,46 @@ pub fn text_at(held: &Boxes, key: Key, number: u64) -> &str
     }
 }
 
-/// Where the entry of that text stands, or would stand.
-pub fn locate(entries: &[Entry], held: &Boxes, key: Key, text: &str) -> Result<usize, usize>
+// Where the entry of that text, whose start this is, stands between these two places, or would stand.
+fn locate_between(
+    entries: &Rows,
+    held: &Boxes,
+    key: Key,
+    start: &[u8; 8],
+    text: &str,
+    low: usize,
+    high: usize,
+) -> Result<usize, usize>
     requires boxed { IsBoxed held.now }
-    requires index { IsIndex key (contents held.now.list.items) entries.now }
-    ensures bound { IsSearchInRange result (length entries.now) }
+    requires start { start.now ≡ front 8 text.now }
+    requires rises { IsNonDecreasingBy (λ e. ordering_index (entry_order key (contents held.now.list.items) text.now e)) entries.now.items }
+    requires order { low ≤ high }
+    requires bound { high ≤ length entries.now.items }
+    requires below { AllWithin (λ e. entry_order key (contents held.now.list.items) text.now e ≡ Ordering.Less) entries.now.items 0 low }
+    requires above { AllWithin (λ e. entry_order key (contents held.now.list.items) text.now e ≡ Ordering.Greater) entries.now.items high (length entries.now.items) }
+    ensures bound { IsSearchInRange result (length entries.now.items) }
+    ensures place { IsBinarySearchResult (entry_order key (contents held.now.list.items) text.now) entries.now.items result }
+{
+    if high <= low {
+        return Err(low);
+    }
+    let middle = low + (high - low) / 2;
+    match compare(held, key, entries.at(middle), start, text) {
+        Ordering::Less => locate_between(entries, held, key, start, text, middle + 1, high),
+        Ordering::Equal => Ok(middle),
+        Ordering::Greater => locate_between(entries, held, key, start, text, low, middle),
+    }
+}
+
+/// Where the entry of that text stands, or would stand.
+pub fn locate(entries: &Rows, held: &Boxes, key: Key, text: &str) -> Result<usize, usize>
+    requires boxed { IsBoxed held.now }
+    requires index { IsIndex key (contents held.now.list.items) entries.now.items }
+    ensures bound { IsSearchInRange result (length entries.now.items) }
     ensures place { IsLocated key (contents held.now.list.items) text.now result }
 {
     let start = start_of(text);
-    entries.binary_search_by(|e| compare(held, key, e, &start, text))
+    locate_between(entries, held, key, &start, text, 0, entries.len())
 }
 
 // What stands in the index for a container.
@@ -194,61 +226,57 @@ fn entry_of(key: Key, one: &Held) -> Entry
 }
 
 /// Puts a container, which isn't held yet, into the index.
-pub fn file(entries: &mut Vec<Entry>, held: &Boxes, key: Key, one: &Held)
+pub fn file(entries: &mut Rows, held: &Boxes, key: Key, one: &Held)
     requires boxed { IsBoxed held.now }
     requires index { IsIndex key (contents held.now.list.items) entries.old.items }
     requires fresh { IsFresh key (key_text key (container_in one.now)) (contents held.now.list.items) }
-    requires room { vec_len entries.old < vec_capacity entries.old }
+    requires room { length entries.old.items < entries.old.places }
     ensures index { IsIndex key (contents held.now.list.items ++ container_in one.now ∷ []) entries.new.items }
-    ensures len { vec_len entries.new ≡ vec_len entries.old + 1 }
-    ensures capacity { vec_capacity entries.new ≡ vec_capacity entries.old }
+    ensures len { length entries.new.items ≡ length entries.old.items + 1 }
+    ensures places { entries.new.places ≡ entries.old.places }
 {
-    if let Err(i) = locate(entries.as_slice(), held, key, text_of(key, one)) {
-        let _ = entries.insert(i, entry_of(key, one));
+    if let Err(i) = locate(entries, held, key, text_of(key, one)) {
+        entries.insert(i, entry_of(key, one));
     }
 }
 
 /// Takes a container, which is held still, out of the index.
-pub fn unfile(entries: &mut Vec<Entry>, held: &Boxes, key: Key, one: &Held, number: u64)
+pub fn unfile(entries: &mut Rows, held: &Boxes, key: Key, one: &Held, number: u64)
     requires boxed { IsBoxed held.now }
     requires index { IsIndex key (contents held.now.list.items) entries.old.items }
     requires held { numbered number (contents held.now.list.items) ≡ Some (container_in one.now) }
     ensures index { IsIndex key (without number (contents held.now.list.items)) entries.new.items }
-    ensures len { vec_len entries.new + 1 ≡ vec_len entries.old }
-    ensures capacity { vec_capacity entries.new ≡ vec_capacity entries.old }
+    ensures len { length entries.new.items + 1 ≡ length entries.old.items }
+    ensures places { entries.new.places ≡ entries.old.places }
 {
-    if let Ok(i) = locate(entries.as_slice(), held, key, text_of(key, one)) {
-        let _ = entries.remove(i);
+    if let Ok(i) = locate(entries, held, key, text_of(key, one)) {
+        entries.remove(i);
     }
 }
 
 /// Puts a container, which is held still under its old name, at the place of a new one.
-pub fn refile(entries: &mut Vec<Entry>, held: &Boxes, one: &Held, name: &str)
+pub fn refile(entries: &mut Rows, held: &Boxes, one: &Held, name: &str)
     requires boxed { IsBoxed held.now }
     requires index { IsIndex keys.Name (contents held.now.list.items) entries.old.items }
     requires held { numbered one.now.container.number (contents held.now.list.items) ≡ Some (container_in one.now) }
     requires fresh { IsFresh keys.Name name.now (contents held.now.list.items) }
+    requires room { length entries.old.items ≤ entries.old.places }
     ensures index { IsIndex keys.Name (renamed one.now.container.number name.now (contents held.now.list.items)) entries.new.items }
-    ensures len { vec_len entries.new ≡ vec_len entries.old }
-    ensures capacity { vec_capacity entries.new ≡ vec_capacity entries.old }
+    ensures len { length entries.new.items ≡ length entries.old.items }
+    ensures places { entries.new.places ≡ entries.old.places }
 {
-    let Ok(i) = locate(
-        entries.as_slice(),
-        held,
-        Key::Name,
-        one.container.name.as_str(),
-    ) else {
+    let Ok(i) = locate(entries, held, Key::Name, one.container.name.as_str()) else {
         return;
     };
-    let Err(j) = locate(entries.as_slice(), held, Key::Name, name) else {
+    let Err(j) = locate(entries, held, Key::Name, name) else {
         return;
     };
-    let _ = entries.remove(i);
+    entries.remove(i);
     let entry = Entry {
         start: start_of(name),
         number: one.container.number,
     };
-    let _ = entries.insert(place_behind(i, j), entry);
+    entries.insert(place_behind(i, j), entry);
 }
 
 // Where j stands once the item at i is gone.

@@ -7,6 +7,7 @@ mod containers;
 mod entries;
 mod held;
 mod lookups;
+mod rows;
 mod table;
 mod timers;
 

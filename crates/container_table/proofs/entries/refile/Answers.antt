@@ -1,10 +1,10 @@
-use Rattle.std.proofs.Common.{ℕ, ◌∙◌, ap, arith, List}
+use Rattle.std.proofs.Common.{ℕ, ◌∙◌, ap, List}
 use Rattle.std.specs.List.{insert, remove}
 use Rattle.container_table.specs.Held.{contents}
 use Rattle.container_table.specs.Logs.{container_in}
 use Rattle.container_table.specs.declared.entries.Entry.{Entry}
 use Rattle.container_table.specs.declared.entries.Key.TheVariants.{Name}
-use Rattle.container_table.proofs.IndexLemmas.{refiled, held_below, none_fresh, inserted}
+use Rattle.container_table.proofs.IndexLemmas.{refiled, held_below, none_fresh}
 use Rattle.container_table.proofs.entries.refile.Goals as goal
 
 pub returns-clause-index : goal.returns-clause-index
@@ -12,8 +12,7 @@ returns-clause-index c =
     refiled (contents c.args.held.now.list.items) (container_in c.args.one.now) c.args.name.now c.args.entries.now.items c.insert.new.self.items c.in-Ok.i c.in-Err.j c.place_behind.result
     c.requires.boxed.order c.requires.index c.requires.held c.requires.fresh
     (rw c.as_str.ensures at c.in-Ok.ensures.place) c.in-Err.ensures.place c.place_behind.ensures.above c.place_behind.ensures.below
-    (inserted c.insert.result c.insert.new.self.items (insert c.remove.new.self.items c.place_behind.result (record { start = c.start_of.result; number = c.args.one.now.container.number })) c.remove.new.self.items
-    (c.insert.ensures.succeeds (omega arith)) c.insert.ensures.items
+    (c.insert.ensures.items
     ∙ ap (λ (es : List Entry). insert es c.place_behind.result (record { start = c.start_of.result; number = c.args.one.now.container.number })) c.remove.ensures.items
     ∙ ap (λ (s : List ℕ). insert (remove c.args.entries.now.items c.in-Ok.i) c.place_behind.result (record { start = s; number = c.args.one.now.container.number })) c.start_of.ensures)
 

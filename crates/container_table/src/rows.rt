@@ -1,0 +1,173 @@
+// Entries in rows of one length: a change moves what stands behind in its row, and one of each row behind.
+ghost use Rattle.std.specs.Prelude.{◌≡◌, ◌+◌, ◌*◌, ◌^◌, ◌<◌, ◌≤◌, [], ◌∷◌, length, MatchOption, OnOk, slice_index_or, vec_len};
+ghost use Rattle.std.specs.List.{insert, remove};
+ghost use Rattle.container_table.specs.Rows.{joined, AreRows};
+
+use super::entries::Entry;
+use engine_text::NoMemory;
+use std::alloc::Global;
+use std::collections::VecDeque;
+use std::marker::Model;
+
+// How many entries a row holds.
+const ROW: usize = 512;
+
+/// Entries in rows, which are full but for the last one that isn't empty.
+#[derive(Drop)]
+pub struct Rows {
+    rows: Vec<VecDeque<Entry>>,
+    len: usize,
+}
+
+impl Model for Rows {
+    ghost use Rattle.container_table.specs.Rows.{Listed};
+
+    ghost Value = { Listed };
+
+    ghost use Rattle.container_table.specs.RowsInside.{listed_of, IsFilled};
+
+    ghost view = { listed_of };
+
+    ghost invariant = { IsFilled };
+}
+
+// Puts an entry at that place; where its row is full, the last one there goes to the front of the next row.
+fn put(rows: &mut [VecDeque<Entry>], i: usize, entry: Entry)
+    requires rows { AreRows rows.old }
+    requires place { i ≤ length (joined rows.old) }
+    requires room { length (joined rows.old) < 512 * length rows.old }
+    ensures rows { AreRows rows.new }
+    ensures items { joined rows.new ≡ insert (joined rows.old) i entry }
+{
+    let Some((row, rest)) = rows.split_first_mut() else {
+        return;
+    };
+    if ROW <= i {
+        put(rest, i - ROW, entry);
+        return;
+    }
+    if row.len() < ROW {
+        let _ = row.insert(i, entry);
+        return;
+    }
+    if let Some(last) = row.pop_back() {
+        let _ = row.insert(i, entry);
+        put(rest, 0, last);
+    }
+}
+
+// Takes the first entry out; that of each row behind goes to the end of the row before.
+fn take_first(rows: &mut [VecDeque<Entry>]) -> Option<Entry>
+    requires { AreRows rows.old }
+    ensures rows { AreRows rows.new }
+    ensures items { MatchOption result ((joined rows.old ≡ []) × (joined rows.new ≡ []))
+        (λ e. joined rows.old ≡ e ∷ joined rows.new) }
+{
+    let (row, rest) = rows.split_first_mut()?;
+    let first = row.pop_front()?;
+    if let Some(next) = take_first(rest) {
+        row.push_back_reserved(next);
+    }
+    Some(first)
+}
+
+// Takes the entry at that place out; the first of each row behind goes to the end of the row before.
+fn take_out(rows: &mut [VecDeque<Entry>], i: usize)
+    requires rows { AreRows rows.old }
+    requires place { i < length (joined rows.old) }
+    ensures rows { AreRows rows.new }
+    ensures items { joined rows.new ≡ remove (joined rows.old) i }
+{
+    let Some((row, rest)) = rows.split_first_mut() else {
+        return;
+    };
+    if ROW <= i {
+        take_out(rest, i - ROW);
+        return;
+    }
+    let _ = row.remove(i);
+    if let Some(next) = take_first(rest) {
+        row.push_back_reserved(next);
+    }
+}
+
+// Makes empty rows, up to so many.
+fn add_rows(rows: &mut Vec<VecDeque<Entry>>, alloc: Global, count: usize) -> Result<(), NoMemory>
+    requires rows { AreRows rows.old.items }
+    requires few { vec_len rows.old < 2 ^ 55 }
+    requires count { count < 2 ^ 55 }
+    ensures rows { AreRows rows.new.items }
+    ensures items { joined rows.new.items ≡ joined rows.old.items }
+    ensures few { vec_len rows.new < 2 ^ 55 }
+    ensures len { vec_len rows.old ≤ vec_len rows.new }
+    ensures ok { OnOk result (count ≤ vec_len rows.new) }
+{
+    while rows.len() < count {
+        let row = VecDeque::with_capacity(alloc, ROW)?;
+        rows.reserve(1)?;
+        rows.push_reserved(row);
+    }
+    Ok(())
+}
+
+impl Rows {
+    /// No entry; it takes no memory.
+    pub fn new(alloc: Global) -> Rows
+        ensures items { result.items ≡ [] }
+        ensures places { result.places ≡ 0 }
+    {
+        Rows {
+            rows: Vec::new(alloc),
+            len: 0,
+        }
+    }
+
+    /// How many they are.
+    pub fn len(&self) -> usize
+        ensures { result ≡ length self.now.items }
+    {
+        self.len
+    }
+
+    /// The entry at that place.
+    pub fn at(&self, i: usize) -> &Entry
+        requires { i < length self.now.items }
+        ensures { result.now ≡ slice_index_or self.now.items i result.now }
+    {
+        &self.rows[i / ROW][i % ROW]
+    }
+
+    /// Makes room for n entries more.
+    pub fn reserve(&mut self, alloc: Global, n: usize) -> Result<(), NoMemory>
+        ensures items { self.new.items ≡ self.old.items }
+        ensures places { self.old.places ≤ self.new.places }
+        ensures ok { OnOk result (length self.new.items + n ≤ self.new.places) }
+    {
+        let wanted = self.len.saturating_add(n);
+        if wanted > usize::MAX / 2 {
+            return Err(NoMemory);
+        }
+        add_rows(&mut self.rows, alloc, wanted / ROW + 1)
+    }
+
+    /// Puts an entry at that place; it takes no memory.
+    pub fn insert(&mut self, i: usize, entry: Entry)
+        requires place { i ≤ length self.old.items }
+        requires room { length self.old.items < self.old.places }
+        ensures items { self.new.items ≡ insert self.old.items i entry }
+        ensures places { self.new.places ≡ self.old.places }
+    {
+        put(self.rows.as_mut_slice(), i, entry);
+        self.len += 1;
+    }
+
+    /// Takes the entry at that place out.
+    pub fn remove(&mut self, i: usize)
+        requires { i < length self.old.items }
+        ensures items { self.new.items ≡ remove self.old.items i }
+        ensures places { self.new.places ≡ self.old.places }
+    {
+        take_out(self.rows.as_mut_slice(), i);
+        self.len -= 1;
+    }
+}
