@@ -1,9 +1,9 @@
 -- Between which places a number can stand among numbers that rise.
-use Rattle.std.proofs.Common.{◌≡◌, ℕ, suc, zero, ◌+◌, ◌<◌, ◌≤◌, Bool, true, false, List, [], ◌∷◌, length, get_or, take, drop, Some, Result, Ok, Err, refl, sym, ◌∙◌, subst, ap, arith, leb, Ordering, MatchResult}
-use Rattle.std.specs.Prelude.{◌-◌, min, nat_lt, slice_get}
+use Rattle.std.proofs.Common.{◌≡◌, ℕ, suc, zero, ◌+◌, ◌<◌, ◌≤◌, Bool, true, false, List, [], ◌∷◌, length, get_or, take, drop, Some, Result, Ok, Err, refl, sym, subst, arith, leb}
+use Rattle.std.specs.Prelude.{◌-◌, nat_lt, slice_get}
 use Rattle.std.specs.List.{AllByRecursion}
 use Rattle.std.proofs.lemmas.Bool.Decides.{nat_tests}
-use Rattle.std.proofs.lemmas.Option.{slice_get_within, get_or_from_slice_get}
+use Rattle.std.proofs.lemmas.Option.{get_or_from_slice_get}
 use Rattle.container_table.specs.Order.{IsInOrder}
 use Rattle.container_table.specs.Search.{HoldsOf, Parts}
 use Rattle.container_table.proofs.PlacedLemmas.{all_imp}

@@ -1,4 +1,4 @@
-use Rattle.std.proofs.Common.{◌≡◌, ◌∷◌, ◌++◌, [], ◌∙◌, List, sym, subst, ap, arith}
+use Rattle.std.proofs.Common.{◌≡◌, ◌∷◌, ◌++◌, [], ◌∙◌, sym, subst, ap, arith}
 use Rattle.container_table.specs.Rows.{joined, AreRows}
 use Rattle.container_table.proofs.RowsLemmas.{rows_more}
 use Rattle.container_table.proofs.rows.add_rows.Goals as goal

@@ -1,5 +1,5 @@
-use Rattle.std.proofs.Common.{◌≡◌, ◌<◌, ◌∙◌, List, length, sym, subst, ap, arith}
-use Rattle.std.specs.Prelude.{◌/◌, ◌%◌, slice_index_or}
+use Rattle.std.proofs.Common.{◌<◌, ◌∙◌, List, length, sym, subst, ap, arith}
+use Rattle.std.specs.Prelude.{◌%◌, slice_index_or}
 use Rattle.container_table.specs.Rows.{Listed, joined}
 use Rattle.container_table.specs.declared.entries.Entry.{Entry}
 use Rattle.container_table.proofs.RowsLemmas.{row_there, entry_there}
