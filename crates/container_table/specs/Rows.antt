@@ -11,7 +11,7 @@ pub record Listed : Type 0 where
 
 -- How many entries a row holds.
 abbrev pub row_length : ℕ
-row_length = 512
+row_length = 4096
 
 -- The entries of these rows, in order.
 abbrev pub joined : {Z : Type 0} → List (VecDeque Entry Z) → List Entry

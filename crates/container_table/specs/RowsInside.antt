@@ -10,5 +10,5 @@ listed_of a = record { items = joined a.rows.items; places = row_length * vec_le
 -- The rows are such rows, their entries are counted, and all places have numbers.
 pub record IsFilled (a : Inside) : Type 0 where
   pub rows : AreRows a.rows.items
-  pub few : vec_len a.rows < 2 ^ 55
+  pub few : vec_len a.rows < 2 ^ 52
   pub counted : a.len ≡ length (joined a.rows.items)

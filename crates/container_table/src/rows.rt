@@ -10,7 +10,7 @@ use std::collections::VecDeque;
 use std::marker::Model;
 
 // How many entries a row holds.
-const ROW: usize = 512;
+const ROW: usize = 4_096;
 
 /// Entries in rows, which are full but for the last one that isn't empty.
 #[derive(Drop)]
@@ -35,7 +35,7 @@ impl Model for Rows {
 fn put(rows: &mut [VecDeque<Entry>], i: usize, entry: Entry)
     requires rows { AreRows rows.old }
     requires place { i ≤ length (joined rows.old) }
-    requires room { length (joined rows.old) < 512 * length rows.old }
+    requires room { length (joined rows.old) < 4096 * length rows.old }
     ensures rows { AreRows rows.new }
     ensures items { joined rows.new ≡ insert (joined rows.old) i entry }
 {
@@ -94,11 +94,11 @@ fn take_out(rows: &mut [VecDeque<Entry>], i: usize)
 // Makes empty rows, up to so many.
 fn add_rows(rows: &mut Vec<VecDeque<Entry>>, alloc: Global, count: usize) -> Result<(), NoMemory>
     requires rows { AreRows rows.old.items }
-    requires few { vec_len rows.old < 2 ^ 55 }
-    requires count { count < 2 ^ 55 }
+    requires few { vec_len rows.old < 2 ^ 52 }
+    requires count { count < 2 ^ 52 }
     ensures rows { AreRows rows.new.items }
     ensures items { joined rows.new.items ≡ joined rows.old.items }
-    ensures few { vec_len rows.new < 2 ^ 55 }
+    ensures few { vec_len rows.new < 2 ^ 52 }
     ensures len { vec_len rows.old ≤ vec_len rows.new }
     ensures ok { OnOk result (count ≤ vec_len rows.new) }
 {

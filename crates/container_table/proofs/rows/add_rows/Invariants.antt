@@ -7,7 +7,7 @@ invariant-loop-alloc l =
     record {
       rows : AreRows l.rows.items;
       items : joined l.rows.items ≡ joined l.initial.rows.items;
-      few : vec_len l.rows < 2 ^ 55;
+      few : vec_len l.rows < 2 ^ 52;
       len : vec_len l.initial.rows ≤ vec_len l.rows;
     }
 

@@ -16,7 +16,7 @@ index-requires-2 c =
     let rows = c.self.inside.rows.items in
     let within : c.args.i < length (joined rows) = subst (λ (l : List Entry). c.args.i < length l) (sym (ap (λ (l : Listed). l.items) c.self.view_is)) c.requires in
     let there = entry_there rows c.args.i c.index.result.now c.self.invariant.rows within in
-    let low : c.args.i % 512 < length c.index.result.now.items = subst (λ q. c.args.i % 512 < length q.items) (sym c.index.ensures) there.0 in
+    let low : c.args.i % 4096 < length c.index.result.now.items = subst (λ q. c.args.i % 4096 < length q.items) (sym c.index.ensures) there.0 in
     omega (arith, low, c.index.result.now.ok)
 
 pub returns : goal.returns
@@ -26,4 +26,4 @@ returns c =
     let within : c.args.i < length (joined rows) = subst (λ (l : List Entry). c.args.i < length l) (sym is) c.requires in
     let there = entry_there rows c.args.i c.index.result.now c.self.invariant.rows within in
     let d = c.index-2.result.now in
-    c.index-2.ensures ∙ ap (λ q. slice_index_or q.items (c.args.i % 512) d) c.index.ensures ∙ sym (there.1 d) ∙ ap (λ (l : List Entry). slice_index_or l c.args.i d) is
+    c.index-2.ensures ∙ ap (λ q. slice_index_or q.items (c.args.i % 4096) d) c.index.ensures ∙ sym (there.1 d) ∙ ap (λ (l : List Entry). slice_index_or l c.args.i d) is
