@@ -1,12 +1,13 @@
 -- The line of an entry of the journal, as it is told.
-use Rattle.std.proofs.Common.{◌≡◌, ◌≤◌, ◌<◌, ◌+◌, ℕ, zero, suc, List, [], ◌∷◌, ◌++◌, Some, None, refl, sym, ◌∙◌, ap, append-nil, arith, length, drop, take}
-use Rattle.std.specs.Prelude.{slice_get}
+use Rattle.std.proofs.Common.{◌≡◌, ◌≤◌, ◌<◌, ◌+◌, ℕ, zero, suc, List, [], ◌∷◌, ◌++◌, Some, None, refl, sym, ◌∙◌, ap, append-nil, arith, length, drop, take, subst}
+use Rattle.std.specs.Prelude.{All, slice_get}
 use Rattle.std.specs.List.{filter, flat_map}
 use Rattle.std.proofs.lemmas.Bool.{false≢true}
 use Rattle.std.proofs.lemmas.Option.{slice_get_within}
 use Rattle.engine_text.specs.declared.entry.Entry.{Entry}
 use Rattle.engine_text.specs.declared.step.Step.{Step}
 use Rattle.history_replay.specs.Kept.{Kept}
+use Rattle.history_replay.specs.Texts.{EntryHasTexts}
 use Rattle.machine_model.specs.History.{Charter, IsLegal}
 use Rattle.machine_model.specs.JournalLines.{entries_of, journal_line}
 use Rattle.session_model.specs.declared.turned.Part.{Part}
@@ -53,6 +54,13 @@ found_by (x ∷ es) (suc n) none = let le = found_by es n none in omega (arith, 
 
 pub never_missing : (es : List Entry) (n : ℕ) → n < length es → slice_get es n ≡ None → ⊥
 never_missing es n below none = let le = found_by es n none in omega (arith, below, le)
+
+-- ---- all of them
+
+-- a fact about each entry that is kept is one about the history's
+pub texts_of : (ch : Charter) (j : Kept) → HasEntries ch j → All EntryHasTexts j.entries → All EntryHasTexts (entries_of ch (history_of j))
+unfolding told_entries
+texts_of ch j has texts = subst (λ (es : List Entry). All EntryHasTexts es) has texts
 
 -- ---- behind no step
 

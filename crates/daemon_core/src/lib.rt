@@ -17,6 +17,7 @@ mod ready;
 mod room;
 mod stored;
 mod telling;
+mod texts;
 mod turning;
 
 pub use alone::Alone;
