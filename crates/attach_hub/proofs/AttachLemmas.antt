@@ -1,5 +1,5 @@
 -- The stream that an attach or the start of an exec gives can be followed from the state that the call leaves.
-use Rattle.std.specs.Prelude.{is_some, unwrap_or, option_map, not, ◌&&◌, IsTrue}
+use Rattle.std.specs.Prelude.{is_some, unwrap_or, option_map, not, ◌&&◌, IfSome, IsTrue}
 use Rattle.std.specs.Option.{option_map_or, option_or}
 use Rattle.std.proofs.Common.{◌≡◌, ◌≤◌, ◌==◌, ℕ, List, [], ◌∷◌, refl, sym, ◌∙◌, ap, subst, arith, Bool, true, false, if◌then◌else◌, Option, Some, None, find, map, length}
 use Rattle.std.proofs.lemmas.Bool.{eq-eqb, false≢true}
@@ -36,7 +36,7 @@ use Rattle.machine_model.specs.Calls.Start.{if_program}
 use Rattle.machine_model.specs.Consistency.{IsConsistent}
 use Rattle.machine_model.specs.Effects.Launch.{spawn}
 use Rattle.machine_model.specs.History.{after_step, reply_of}
-use Rattle.machine_model.specs.LogStream.{is_kept, kept_log, log_of, log_reach}
+use Rattle.machine_model.specs.LogStream.{is_kept, kept_log, log_of, log_reach, some_if}
 use Rattle.machine_model.proofs.Fold.RowLemmas.{found_number, same_some}
 use Rattle.machine_model.proofs.ObeyLemmas.{found_all}
 use Rattle.attach_hub.specs.Following.{MayFollow}
@@ -65,6 +65,11 @@ first_least : (logs : Bool) (n : ℕ) → (if logs then 0 else n) ≤ n
 first_least true n = omega arith
 first_least false n = omega arith
 
+-- the run that is fed, if one is
+asked_run : (b : Bool) (run : ℕ) → 1 ≤ run → IfSome (some_if b run) (λ n. 1 ≤ n)
+asked_run true run least = least
+asked_run false run least = tt
+
 attach_at : (ask : AttachAsk) (c : Container) (t : State) → HasRuns t → container_numbered c.number t ≡ Some c → MayFollow t (attach_spec ask c)
 attach_at ask c t runs found =
     let kept : IsTrue (is_kept t (OfContainer c.number)) =
@@ -80,7 +85,8 @@ attach_at ask c t runs found =
     let far : log_reach t (attach_spec ask c) ≡ length c.life.log = reach ∙ ap (reach_by stop) log ∙ attached_reach ask.stream c all in
     let logged : (if ask.logs then 0 else length c.life.log) ≤ length (log_of t (OfContainer c.number)) = omega (arith, least, size) in
     let reached : (if ask.logs then 0 else length c.life.log) ≤ log_reach t (attach_spec ask c) = omega (arith, least, far) in
-    record { kept = kept; logged = logged; reached = reached }
+    let least = found_all (λ c. 1 ≤ run_of c) (λ d. d.number == c.number) c t.containers found runs.attached in
+    record { kept = kept; logged = logged; reached = reached; fed = asked_run (ask.stdin && c.life.open_stdin) (run_of c) least }
 
 -- the answer of an attach to the container that was found
 abbrev Attached : AttachAsk → Container → State → Outcome
@@ -153,6 +159,7 @@ exec_at x t consistent stands = record {
   kept = some_kept _ (kept_log (OfExec x.number) t) (some_log _ (output_stands x.number t.execs t.outputs consistent.execs.outputs stands));
   logged = omega arith;
   reached = omega arith;
+  fed = asked_run x.stdin 1 (omega arith);
 }
 
 -- an exec that was found stands under its number, also once it has started

@@ -84,7 +84,7 @@ open_at ask c t found =
     let far : log_reach t (log_spec ask c) ≡ length c.life.log = reach ∙ ap (reach_by stop) log ∙ asked_reach ask.follow c.life.log in
     let logged : first_place ask c.life.log ≤ length (log_of t (OfContainer c.number)) = omega (arith, least, size) in
     let reached : first_place ask c.life.log ≤ log_reach t (log_spec ask c) = omega (arith, least, far) in
-    record { kept = kept; logged = logged; reached = reached }
+    record { kept = kept; logged = logged; reached = reached; fed = tt }
 
 -- of a reply that gives a stream
 abbrev pub Opens : Reply → State → Type 0

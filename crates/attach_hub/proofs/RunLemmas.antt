@@ -19,6 +19,7 @@ use Rattle.engine_text.specs.declared.owner.Owner.TheVariants.{Container as OfCo
 use Rattle.machine_model.specs.State.{State, container_numbered, exec_numbered, is_live}
 use Rattle.machine_model.specs.Chain.{Effect, still}
 use Rattle.machine_model.specs.Call.{outcome_of}
+use Rattle.machine_model.specs.Calls.Attach.{run_of}
 use Rattle.machine_model.specs.Consistency.{IsUnstarted}
 use Rattle.machine_model.specs.Due.{least_due, due_effect}
 use Rattle.machine_model.specs.Effects.Destroy.{is_exec_of}
@@ -30,7 +31,7 @@ use Rattle.machine_model.specs.Streams.{Coming, Over, begun_state, run_state, st
 use Rattle.machine_model.proofs.ChangeLemmas.{all_filtered, all_removed, all_updated}
 use Rattle.machine_model.proofs.ClosureLemmas.{IsClosed, runs_call, runs_due}
 use Rattle.machine_model.proofs.Histories.{legal_front}
-use Rattle.machine_model.proofs.Laws.{consistency_law}
+use Rattle.machine_model.proofs.Laws.{attach_law, consistency_law}
 use Rattle.machine_model.proofs.ListLemmas.{all_append, all_weaken}
 use Rattle.machine_model.proofs.Fold.RowLemmas.{same_some}
 use Rattle.machine_model.proofs.ObeyLemmas.{found_all}
@@ -121,16 +122,17 @@ runs_from : (s : State) (h : List Step) → Kept s → Kept (state_from s h)
 runs_from s [] kept = kept
 runs_from s (x ∷ xs) kept = runs_from (after_step s x) xs (step_runs s x kept)
 
--- no log has a record of a run that hasn't begun, and an exec that hasn't started doesn't live
+-- no log has a record of a run that hasn't begun, an exec that hasn't started doesn't live, and no attach follows run 0
 pub record HasRuns (s : State) : Type 0 where
   pub containers : AllByRecursion (λ c. AreUpTo c.life.starts c.life.log) s.containers
   pub outputs : AllByRecursion (λ o. AreUpTo 1 o.log) s.outputs
   pub unstarted : AllByRecursion (IsUnstarted s) s.execs
+  pub attached : AllByRecursion (λ c. 1 ≤ run_of c) s.containers
 
 pub legal_runs : (ch : Charter) (h : List Step) → IsLegal ch h → HasRuns (state_after ch h)
 legal_runs ch h legal =
     let kept = runs_from (opening_state ch) h (tt, tt) in
-    record { containers = kept.0; outputs = kept.1; unstarted = (consistency_law ch h legal).execs.unstarted }
+    record { containers = kept.0; outputs = kept.1; unstarted = (consistency_law ch h legal).execs.unstarted; attached = attach_law ch h legal }
 
 pub earlier_runs : (ch : Charter) (a b : List Step) → Extends a b → IsLegal ch b → HasRuns (state_after ch a)
 earlier_runs ch a b extends legal = legal_runs ch a (legal_front ch a extends.0 (subst (IsLegal ch) extends.1 legal))

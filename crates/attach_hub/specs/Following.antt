@@ -1,5 +1,5 @@
 -- How following a stream goes on and ends (own: a follower asks for one part after another, and pauses where it is up to date).
-use Rattle.std.specs.Prelude.{ℕ, ◌≡◌, ◌≤◌, Bool, true, false, List, [], ◌∷◌, Some, length, IsTrue}
+use Rattle.std.specs.Prelude.{ℕ, ◌≡◌, ◌≤◌, Bool, true, false, List, [], ◌∷◌, Some, length, IfSome, IsTrue}
 use Rattle.engine_ports.specs.Rose.{Rose}
 use Rattle.engine_ports.specs.Sink.{SinkView, SinkTook, IsFront}
 use Rattle.engine_ports.specs.Clock.{ClockView}
@@ -39,11 +39,12 @@ IsTaken followed part bytes = part ≡ bytes
 
 -- ---- a stream that is followed
 
--- in this state its log is kept, and it begins within its log and before its end
+-- in this state its log is kept, and it begins within its log and before its end; the run that it feeds isn't 0
 pub record MayFollow (s : State) (spec : LogSpec) : Type 0 where
   pub kept : IsTrue (is_kept s spec.owner)
   pub logged : spec.first ≤ length (log_of s spec.owner)
   pub reached : spec.first ≤ log_reach s spec
+  pub fed : IfSome spec.feed (λ run. 1 ≤ run)
 
 -- the stream of a reply can be followed from this history on
 abbrev pub CanFollow : Charter → List Step → Reply → Type 0

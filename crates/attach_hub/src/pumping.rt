@@ -1,5 +1,5 @@
 // Pumping standard input to a run.
-ghost use Rattle.std.specs.Prelude.{◌≡◌, ◌<◌, ◌≤◌, IfOk, IsSome, IsTrue, Some, length};
+ghost use Rattle.std.specs.Prelude.{◌≡◌, ◌<◌, ◌≤◌, IfOk, IsSomeAnd, IsTrue, Some, length};
 ghost use Rattle.call_bounds.specs.Soundness.{IsSound};
 ghost use Rattle.engine_text.specs.declared.call.Call.TheVariants.{Feed};
 ghost use Rattle.engine_text.specs.declared.reply.Reply.TheVariants.{Fed};
@@ -223,15 +223,11 @@ pub fn pump_stdin<W: Wait, T: Turns, S: Source, C: Clock>(
 ) -> PumpEnd
     requires connection { IsConnection conn }
     requires number { IsNumber (T.pass turns.old).number (input_of conn) }
-    requires input { IsSome spec.now.feed }
+    requires input { IsSomeAnd spec.now.feed (λ run. 1 ≤ run) }
     ensures { PumpsInput conn spec.now result (T.pass turns.old) (T.pass turns.new)
         reader.old.ahead (S.gives source.old) (S.gives source.new) (C.times clock.old) (C.times clock.new) }
 {
     let Some(run) = spec.feed else { unreachable!() };
-    // Runs are counted from 1: no stream names another, and no call could feed it.
-    if run == 0 {
-        return PumpEnd::NoMemory;
-    }
     let Ok(mut place) = new_place(alloc) else {
         return PumpEnd::NoMemory;
     };

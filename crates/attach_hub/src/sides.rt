@@ -1,5 +1,5 @@
 // Both sides of a takeover: its input is pumped while its stream is followed.
-ghost use Rattle.std.specs.Prelude.{◌≡◌, IsSome, IsTrue, false};
+ghost use Rattle.std.specs.Prelude.{◌≡◌, ◌≤◌, IsSome, IsSomeAnd, IsTrue, false};
 ghost use Rattle.engine_text.specs.declared.reply.Reply.TheVariants.{LogStream};
 ghost use Rattle.machine_model.specs.History.{input_of, state_after};
 ghost use Rattle.session_model.specs.Pass.{IsConnection, IsNumber};
@@ -61,7 +61,7 @@ fn side_by_side<R: Threads + Wait + Sync, T: Turns + Send, U: Turns, S: Source, 
     requires connection { IsConnection conn }
     requires theirs { IsNumber (T.pass theirs.old).number (input_of conn) }
     requires mine { IsNumber (U.pass mine.old).number conn }
-    requires input { IsSome spec.now.feed }
+    requires input { IsSomeAnd spec.now.feed (λ run. 1 ≤ run) }
     ensures pumped { PumpsInput conn spec.now result.0 (T.pass theirs.old) (T.pass theirs.new)
         reader.old.ahead (S.gives source.old) (S.gives source.new) (C.times twin.old) (C.times twin.new) }
     ensures followed { FollowsSince conn (LogStream spec.now) false result.1
@@ -70,7 +70,7 @@ fn side_by_side<R: Threads + Wait + Sync, T: Turns + Send, U: Turns, S: Source, 
     let mut one = move ||
         requires connection { IsConnection conn }
         requires number { IsNumber (T.pass theirs.now).number (input_of conn) }
-        requires input { IsSome spec.now.feed }
+        requires input { IsSomeAnd spec.now.feed (λ run. 1 ≤ run) }
     { pump_stdin(rt, theirs, alloc, conn, spec, reader, source, twin) };
     let mut two = move ||
         requires { IsNumber (U.pass mine.now).number conn }
