@@ -1,5 +1,5 @@
 -- A log's stream that takes its connection over, alone or beside the pump of its input.
-use Rattle.std.proofs.Common.{◌≡◌, inl, ℕ, List, [], ◌++◌, append-nil, refl, sym, ◌∙◌, ap, subst, Bool, true, false, length, Option, Some, None}
+use Rattle.std.proofs.Common.{◌≡◌, inl, ℕ, List, [], ◌++◌, append-nil, sym, ◌∙◌, ap, subst, Bool, true, false, length, Some, None}
 use Rattle.std.specs.Prelude.{IsTrue, unwrap_or}
 use Rattle.std.proofs.lemmas.Bool.{false≢true}
 use Rattle.engine_ports.specs.Clock.{ClockView}
@@ -16,15 +16,14 @@ use Rattle.machine_model.specs.State.{State}
 use Rattle.session_model.specs.declared.followed.Followed.{Followed}
 use Rattle.session_model.specs.declared.followed.Followed.TheVariants as F
 use Rattle.session_model.specs.declared.followed.PumpEnd.{PumpEnd}
-use Rattle.session_model.specs.declared.followed.PumpEnd.TheVariants as P
-use Rattle.session_model.specs.Exchange.{IsBody, Pumps, is_whole}
+use Rattle.session_model.specs.Exchange.{IsBody, is_whole}
 use Rattle.session_model.specs.Pass.{PassView}
 use Rattle.session_model.specs.Progress.{Moves}
-use Rattle.session_model.specs.Session.{FollowCause, PumpCause}
+use Rattle.session_model.specs.Session.{FollowCause}
 use Rattle.session_model.proofs.HistoryLemmas.{extends_same}
 use Rattle.session_model.proofs.MomentLemmas.{moments_weak}
 use Rattle.session_model.proofs.TurnLemmas.{same_pass}
-use Rattle.attach_hub.specs.Following.{Follows, FollowsSince, HasCause, IsTaken, IsWholeBy, MayFollow}
+use Rattle.attach_hub.specs.Following.{FollowsSince, HasCause, IsTaken, IsWholeBy, MayFollow}
 use Rattle.attach_hub.specs.Sides.{Paired}
 use Rattle.attach_hub.proofs.StillLemmas.{moments_still}
 use Rattle.engine_serve.specs.Overtaking.{GoesOver, RunsOver}
@@ -74,36 +73,23 @@ goes_alone k pumped p q v v' pair moves = record {
   within = λ h b. moves.within h;
 }
 
-runs_alone : (k : ℕ) (spec : LogSpec) (f : Followed) (end : Option PumpEnd) (p q : PassView) (ahead : List ℕ) (s : SourceView) (u u' : SinkView)
-    (v v' : ClockView) → IsTrue p.pair → PumpCause end (outside s u v) (outside s u' v') → Pumps p.charter k spec (ahead ++ []) end p.seen q.seen
-    → Follows k (LogStream spec) false f p q u u' v v' → RunsOver k spec f end p q ahead (outside s u v) (outside s u' v')
-runs_alone k spec f end p q ahead s u u' v v' pair cause pumps sent = record {
-  body = sent.body;
-  part = sent.part;
-  pumps = record { read = []; gave = source_none s; holds = pumps };
-  tells = told_so f sent.whole p.charter spec p.seen q.seen sent.body sent.by_end sent.tells;
-  ends = sent.ends;
-  taken = subst (IsTaken f sent.part) sent.pieces sent.taken;
-  sink = sent.sink;
-  cause = (follow_cause f s s u u' v v' sent.cause, cause);
-  goes = goes_alone k _ p q v v' pair sent.moves;
-}
-
 -- its run takes no input
 pub runs_unfed : (k : ℕ) (spec : LogSpec) (f : Followed) (p q : PassView) (ahead : List ℕ) (s : SourceView) (u u' : SinkView)
     (v v' : ClockView) → IsTrue p.pair → MayFollow (state_after p.charter p.seen) spec → spec.feed ≡ None
     → FollowsSince k (LogStream spec) false f p q u u' v v' → RunsOver k spec f None p q ahead (outside s u v) (outside s u' v')
 runs_unfed k spec f p q ahead s u u' v v' pair may none since =
     let sent = since.since p.seen (extends_same p.seen) may in
-    runs_alone k spec f None p q ahead s u u' v v' pair tt (none, sent.quiet pair) sent
-
--- nothing is fed to it
-pub runs_unpumped : (k n : ℕ) (spec : LogSpec) (f : Followed) (p q : PassView) (ahead : List ℕ) (s : SourceView) (u u' : SinkView)
-    (v v' : ClockView) → IsTrue p.pair → MayFollow (state_after p.charter p.seen) spec → spec.feed ≡ Some n
-    → FollowsSince k (LogStream spec) false f p q u u' v v' → RunsOver k spec f (Some P.NoMemory) p q ahead (outside s u v) (outside s u' v')
-runs_unpumped k n spec f p q ahead s u u' v v' pair may some since =
-    let sent = since.since p.seen (extends_same p.seen) may in
-    runs_alone k spec f (Some P.NoMemory) p q ahead s u u' v v' pair tt (n, some, ([], ahead ++ [], p.seen, refl, refl, sent.quiet pair)) sent
+    record {
+      body = sent.body;
+      part = sent.part;
+      pumps = record { read = []; gave = source_none s; holds = (none, sent.quiet pair) };
+      tells = told_so f sent.whole p.charter spec p.seen q.seen sent.body sent.by_end sent.tells;
+      ends = sent.ends;
+      taken = subst (IsTaken f sent.part) sent.pieces sent.taken;
+      sink = sent.sink;
+      cause = (follow_cause f s s u u' v v' sent.cause, tt);
+      goes = goes_alone k _ p q v v' pair sent.moves;
+    }
 
 -- ---- where its input is pumped
 

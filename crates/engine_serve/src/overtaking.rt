@@ -21,7 +21,7 @@ use daemon_core::{Pairs, Turns};
 use engine_ports::{Clock, Failed, Sink, Source};
 use engine_text::{Call, LogSpec, Reply};
 use http_edge::{Form, Head, RequestReader, RequestView, write_head};
-use session_model::{Ending, PumpEnd, Terms, Turned};
+use session_model::{Ending, Terms, Turned};
 use std::alloc::Global;
 use std::sync::Wait;
 use std::thread::Threads;
@@ -112,11 +112,6 @@ pub(crate) fn overtake<R: Threads + Wait + Sync, T: Pairs, S: Source, K: Sink, C
             None => {
                 let followed = follow_whole(rt, turns, alloc, conn, spec, sink, clock);
                 ending_of(followed, None)
-            }
-            // Runs are counted from 1: nothing can be fed to this one.
-            Some(0) => {
-                let followed = follow_whole(rt, turns, alloc, conn, spec, sink, clock);
-                ending_of(followed, Some(PumpEnd::NoMemory))
             }
             Some(_) => {
                 let (end, followed) = both(

@@ -1,6 +1,5 @@
 use Rattle.std.proofs.Common.{None, Some}
-use Rattle.session_model.specs.declared.followed.PumpEnd.TheVariants.{NoMemory}
-use Rattle.engine_serve.proofs.FollowLemmas.{runs_both, runs_unfed, runs_unpumped}
+use Rattle.engine_serve.proofs.FollowLemmas.{runs_both, runs_unfed}
 use Rattle.engine_serve.proofs.OverLemmas.{head_lost, taken_over}
 use Rattle.engine_serve.proofs.overtaking.overtake.Goals as goal
 
@@ -12,13 +11,6 @@ returns-in-None g c =
     let followed = c.follow_whole-followed.result in
     taken_over c.args.conn c.args.upgrade c.args.spec.now followed None c.ending_of.result _ _ _ _ _ _ _ _ _ _ c.in-Ok.ensures
     (runs_unfed c.args.conn c.args.spec.now followed _ _ _ _ _ _ _ _ c.requires.pair c.requires.may c.in-None.is c.follow_whole-followed.ensures) c.ending_of.ensures
-
-pub returns-in-Some-eq0 : goal.returns-in-Some-eq0
-returns-in-Some-eq0 g c =
-    let followed = c.follow_whole-followed-in-Some-eq0.result in
-    taken_over c.args.conn c.args.upgrade c.args.spec.now followed (Some NoMemory) c.ending_of-in-Some-eq0.result _ _ _ _ _ _ _ _ _ _ c.in-Ok.ensures
-    (runs_unpumped c.args.conn c.in-Some-eq0.field-0 c.args.spec.now followed _ _ _ _ _ _ _ _ c.requires.pair c.requires.may c.in-Some-eq0.is
-    c.follow_whole-followed-in-Some-eq0.ensures) c.ending_of-in-Some-eq0.ensures
 
 pub returns-in-Some : goal.returns-in-Some
 returns-in-Some g c =
