@@ -1,9 +1,7 @@
 -- The report of a drill: what its requests came to (own).
-use Rattle.std.specs.Prelude.{ℕ, zero, suc, ◌≡◌, ◌+◌, List, [], ◌∷◌, ◌++◌, All, length, codes, decimal}
+use Rattle.std.specs.Prelude.{ℕ, zero, suc, ◌≡◌, ◌+◌, List, [], ◌∷◌, ◌++◌, length, codes, decimal}
 use Rattle.engine_text.specs.declared.step.Step.{Step}
 use Rattle.machine_model.specs.History.{Charter, events_of, state_after}
-use Rattle.machine_model.specs.JournalLines.{entries_of}
-use Rattle.history_replay.specs.Texts.{EntryHasTexts}
 use Rattle.history_replay.specs.Verdict.{IsVerdict}
 use Rattle.history_replay.specs.declared.verdict.Verdict.{Verdict}
 use Rattle.history_replay.specs.declared.verdict.Verdict.TheVariants.{Legal, Illegal, BadLine}
@@ -52,9 +50,8 @@ report_by requests counts events containers verdict =
 pub record IsReport (ch : Charter) (requests : ℕ) (written : List ℕ) (h : List Step) (text : List ℕ) : Type 0 where
   pub statuses : List ℕ
   pub answered : HaveStatuses written statuses
-  -- what is said of the history's whole journal; it is legal, with the steps up to the last call, where calls and
-  -- replies are what their types hold
+  -- what is said of the history's whole journal: it is legal, with the steps up to the last call
   pub verdict : Verdict
   pub judged : IsVerdict ch (journal_of ch h) verdict
-  pub legal : All EntryHasTexts (entries_of ch h) → verdict ≡ Legal (steps_told ch h)
+  pub legal : verdict ≡ Legal (steps_told ch h)
   pub text_is : text ≡ report_by requests (counts_of statuses) (length (events_of ch h)) (length (state_after ch h).containers) verdict

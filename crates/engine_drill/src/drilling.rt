@@ -51,6 +51,7 @@ fn report_of(alloc: Global, daemon: &Daemon, drill: Drill, written: &[u8]) -> Re
 {
     law_complete();
     law_one_verdict();
+    daemon.texts();
     let journal = journal_text(alloc, daemon)?;
     let verdict = check(alloc, &journal, drill.seed, drill.opening)?;
     let counts = tally(alloc, written)?;

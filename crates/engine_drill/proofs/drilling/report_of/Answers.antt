@@ -1,5 +1,8 @@
 use Rattle.std.proofs.Common.{◌≡◌, ◌∙◌, ℕ, List, length, ap, subst}
+use Rattle.std.specs.Prelude.{All}
 use Rattle.machine_model.specs.History.{Charter, IsLegal, events_of, state_after}
+use Rattle.machine_model.specs.JournalLines.{entries_of}
+use Rattle.history_replay.specs.Texts.{EntryHasTexts}
 use Rattle.history_replay.specs.Verdict.{IsVerdict}
 use Rattle.history_check.specs.Legal.{journal_of, steps_told}
 use Rattle.history_replay.specs.declared.verdict.Verdict.TheVariants.{Legal}
@@ -22,12 +25,13 @@ returns c =
     let text : c.deref.result.now ≡ journal_of ch h = c.deref.ensures.value ∙ c.in_ok-journal.ensures ∙ ap (λ (x : Charter). journal_of x h) same in
     let judged : IsVerdict ch (journal_of ch h) verdict = subst (λ (l : List ℕ). IsVerdict ch l verdict) text c.in_ok-verdict.ensures in
     let legal : IsLegal ch h = subst (λ (x : Charter). IsLegal x h) same d.legal in
+    let texts : All EntryHasTexts (entries_of ch h) = subst (λ (x : Charter). All EntryHasTexts (entries_of x h)) same c.texts.ensures in
     record {
       statuses = told.0;
       answered = told.1;
       verdict = verdict;
       judged = judged;
-      legal = λ texts. c.law_one_verdict.ensures ch (journal_of ch h) verdict (Legal (steps_told ch h)) judged (c.law_complete.ensures ch h legal texts);
+      legal = c.law_one_verdict.ensures ch (journal_of ch h) verdict (Legal (steps_told ch h)) judged (c.law_complete.ensures ch h legal texts);
       text_is =
           c.from_string.ensures ∙ c.in_ok-text.ensures
           ∙ ap (λ (l : List ℕ). report_by n l c.counts-events.result.0 c.counts-events.result.1 verdict) (c.deref-2.ensures.value ∙ told.2)
