@@ -21,6 +21,7 @@ use Rattle.engine_drill.specs.Source.{Supply, full_source, empty_sink}
 use Rattle.engine_drill.specs.Requests.{drill_requests}
 use Rattle.engine_drill.specs.Running.{Session, Drills}
 use Rattle.engine_drill.specs.declared.drilling.Drilled.{Drilled}
+use Rattle.engine_drill.proofs.UnrefusedLemmas.{IsUnrefused, ends_unrefused}
 
 -- what was served is the session
 module _ (ch c : Charter) (requests : ℕ) (e : Ending) (t t' : ClockView) (h : List Step) (p : PassView) (from to : Supply) (sink : SinkView) (taken : Store)
@@ -88,3 +89,19 @@ no_read_fault ch requests t t' s = never_rose (caused ch requests E.ReadFault t 
 -- it is stopped where the clock's stops rose
 pub stopped_by : (ch : Charter) (requests : ℕ) (t t' : ClockView) → Session ch requests E.Stopped t t' → Rose t.stops t'.stops
 stopped_by ch requests t t' s = caused ch requests E.Stopped t t' s
+
+-- no request of it is refused or cut, and none asks for a stream
+pub unrefused : (ch : Charter) (requests : ℕ) (e : Ending) (t t' : ClockView) → Session ch requests e t t' → IsUnrefused e
+unrefused ch requests e t t' s =
+    let v = s.serves in
+    ends_unrefused ch 0 ch.seed requests s.left e v.pumps
+    (record {
+      read = v.read;
+      written = v.written;
+      handed = v.handed;
+      from = [];
+      to = s.history;
+      old = outside (full_source (concat (drill_requests ch.seed requests)) 0) empty_sink t;
+      new = outside (full_source s.left s.ends) (record { wrote = Some s.written; faults = s.faults }) t';
+    })
+    v.source.gave (λ ended. ended.spent) v.session

@@ -4,4 +4,8 @@ pub mod AnswerLemmas
 pub mod TallyLemmas
 pub mod LineLemmas
 pub mod JournalLemmas
+pub mod SpellingLemmas
+pub mod AskedLemmas
+pub mod ClassLemmas
+pub mod UnrefusedLemmas
 pub mod DrillLemmas
