@@ -1,3 +1,4 @@
 pub mod ListenLemmas
 pub mod SessionLemmas
+pub mod DrillLemmas
 pub mod StandardFacts

@@ -1,5 +1,5 @@
 -- What a run of a line that drills says: of its session, its report and the status (own).
-use Rattle.std.specs.Prelude.{ℕ, ◌≡◌, Option, Some, None, Result, Ok, Err}
+use Rattle.std.specs.Prelude.{ℕ, ◌≡◌, ◌≢◌, Option, Some, None, Result, Ok, Err}
 use Rattle.engine_ports.specs.Clock.{ClockView}
 use Rattle.engine_ports.specs.Sink.{SinkView, WriteSays}
 use Rattle.engine_ports.specs.Door.{Outside}
@@ -41,6 +41,9 @@ pub record RunsDrill (line : Line) (requests status : ℕ) (u u' : SinkView) (t 
   pub drilled : Result Drilled NoMemory
   pub drills : DrillsBy (steps_of line.clock) (charter_by line opening) requests drilled opened t'
   pub tells : TellsDrilled drilled status u u'
+  -- a drill's requests are requests, and none of them asks for a stream: so none is refused or cut, no stream falls behind,
+  -- and no input finds the journal full
+  pub unrefused : status ≢ 3
 
 -- and nothing is read
 abbrev pub DrillSays : ℕ → Line → ℕ → Outside → Outside → Type 0
