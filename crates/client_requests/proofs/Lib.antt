@@ -1,0 +1,9 @@
+pub mod TargetLemmas
+pub mod HeadLemmas
+pub mod SpellingLemmas
+pub mod SizeLemmas
+pub mod WordLemmas
+pub mod RequestLemmas
+pub mod BodyLemmas
+pub mod PlanLemmas
+pub mod CommandLemmas
