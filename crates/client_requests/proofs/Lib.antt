@@ -7,3 +7,6 @@ pub mod RequestLemmas
 pub mod BodyLemmas
 pub mod PlanLemmas
 pub mod CommandLemmas
+pub mod CreatedLemmas
+pub mod TableLemmas
+pub mod SentLemmas

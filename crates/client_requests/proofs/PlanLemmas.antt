@@ -42,10 +42,6 @@ going : {A : Type 0} (next : A → Plan) (read : Option A) → IfSome read (λ x
 going next None is = tt
 going next (Some x) is = is
 
-whole_of : {A : Type 0} (P : A → Type 0) (whole : Bool) (read : Option A) → IfSome read P → IfSome (if_whole whole read) P
-whole_of P true read is = is
-whole_of P false read is = tt
-
 pub answered : (next : Head → List ℕ → Bool → Plan)
     → ((h : Head) (body : List ℕ) (whole : Bool) → HasShortId (Answered h body whole) → AsksSpelled (next h body whole))
     → (answer : Answer) → HasShortId answer → AsksSpelled (by_answer next answer)
@@ -60,19 +56,19 @@ answered next each (Answered h body whole) short = by (nat_lt h.status 400)
 
 -- it asks, and what is read of an answer goes on so
 pub asking : {A : Type 0} (request : Request) (read : List ℕ → Option A) (next : A → Plan) → SpellsItself request
-    → ((h : Head) (body : List ℕ) (whole : Bool) → HasShortId (Answered h body whole) → IfSome (read body) (λ x. AsksSpelled (next x)))
+    → ((h : Head) (body : List ℕ) (whole : Bool) → HasShortId (Answered h body whole) → IfSome (if_whole whole (read body)) (λ x. AsksSpelled (next x)))
     → AsksSpelled (asks request read next)
 asking request read next is each = (
   is,
   answered (λ h body whole. goes_on next (if_whole whole (read body)))
-      (λ h body whole short. going next (if_whole whole (read body)) (whole_of (λ x. AsksSpelled (next x)) whole (read body) (each h body whole short))),
+      (λ h body whole short. going next (if_whole whole (read body)) (each h body whole short)),
 )
 
 -- it goes on so whatever is read
 pub asking_any : {A : Type 0} (request : Request) (read : List ℕ → Option A) (next : A → Plan) → SpellsItself request
     → ((x : A) → AsksSpelled (next x)) → AsksSpelled (asks request read next)
 asking_any request read next is each =
-    asking request read next is (λ h body whole short. IfSome-each (λ x. AsksSpelled (next x)) (read body) each)
+    asking request read next is (λ h body whole short. IfSome-each (λ x. AsksSpelled (next x)) (if_whole whole (read body)) each)
 
 pub asking_prints : (request : Request) (line : List ℕ) → SpellsItself request → AsksSpelled (asks_and_prints request line)
 asking_prints request line is = asking_any request Some (λ body. prints line done) is (λ body. tt)

@@ -5,7 +5,7 @@ use Rattle.history_replay.specs.declared.verdict.Verdict.{Verdict}
 use Rattle.response_reader.specs.Answers.{Answer, NoHead, Answered}
 use Rattle.client_model.specs.Bodies.{id_in}
 use Rattle.client_model.specs.Requests.{request_bytes}
-use Rattle.client_model.specs.Plans.{Asked}
+use Rattle.client_model.specs.Plans.{Asked, if_whole}
 use Rattle.client_model.specs.Client.{plan_for, said_by}
 
 -- the most bytes of a line's words, with one more for each. own: with it each request is within a daemon's limits
@@ -16,10 +16,10 @@ words_limit = 4096
 abbrev pub IsShortLine : List (List ℕ) → Type 0
 IsShortLine words = sum_by (λ word. length word + 1) words ≤ words_limit
 
--- an id that an answer tells has at most so many bytes
+-- an id that an answer tells, if its body came whole, has at most so many bytes
 abbrev pub HasShortId : Answer → Type 0
 HasShortId NoHead = ⊤
-HasShortId (Answered h body whole) = IfSome (id_in body) (λ id. length id ≤ words_limit)
+HasShortId (Answered h body whole) = IfSome (if_whole whole (id_in body)) (λ id. length id ≤ words_limit)
 
 -- the bytes of what is asked are one spelling of it
 abbrev pub IsSpelled : Asked → Type 0

@@ -2,8 +2,16 @@
 #![tactic(auto)]
 
 ghost use Rattle.client_requests.specs.Spelled.{RequestsAreSpelled};
+ghost use Rattle.client_requests.specs.Sent.{EndedCallsSend, BrokenCallsSend};
 
-/// Each request of a short line is spelled by its bytes.
+/// Each request that a short line asks for is spelled by its bytes.
 pub fn law_spelled()
     ensures { RequestsAreSpelled }
+{}
+
+/// What each connection of a call was sent begins with its request, and has input behind it where
+/// that follows.
+pub fn law_sent()
+    ensures ended { EndedCallsSend }
+    ensures broken { BrokenCallsSend }
 {}

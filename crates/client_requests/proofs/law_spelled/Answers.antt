@@ -1,4 +1,4 @@
-use Rattle.client_requests.proofs.CommandLemmas.{spelled_requests}
+use Rattle.client_requests.proofs.TableLemmas.{spelled_requests}
 use Rattle.client_requests.proofs.law_spelled.Goals as goal
 
 pub returns : goal.returns
