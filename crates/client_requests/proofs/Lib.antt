@@ -10,3 +10,4 @@ pub mod CommandLemmas
 pub mod CreatedLemmas
 pub mod TableLemmas
 pub mod SentLemmas
+pub mod ReadLemmas

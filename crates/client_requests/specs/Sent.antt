@@ -1,8 +1,9 @@
 -- What the client's connections are sent, as a daemon reads it (RFC 9112, section 9.3: requests follow one another).
-use Rattle.std.specs.Prelude.{ℕ, List, [], ◌∷◌, map, All, if◌then◌else◌, ⊤}
+use Rattle.std.specs.Prelude.{ℕ, ◌≡◌, IsFalse, List, [], ◌∷◌, map, All, if◌then◌else◌, ⊤}
 use Rattle.std.specs.List.{AllZip}
 use Rattle.engine_ports.specs.Sink.{IsFront}
-use Rattle.http_edge.specs.Spelling.{Begins}
+use Rattle.http_edge.specs.Message.{Request}
+use Rattle.http_edge.specs.Spelling.{Begins, ReadsAll}
 use Rattle.response_reader.specs.Answers.{Answer, IsAnswer}
 use Rattle.client_model.specs.Plans.{Asked}
 use Rattle.client_model.specs.Runs.{Outside, Exchange, has_ended, IsEnded, IsBrokenOff}
@@ -36,3 +37,16 @@ BrokenCallsSend =
     (words : List (List ℕ)) (status : ℕ) (o o' : Outside) (call : IsBrokenOff words status o o')
     → IsShortLine words → All GivesShortId call.xs
     → AreSentUpTo call.input (map (λ x. x.sent) call.xs) call.said.asked
+
+-- what was sent so is read as that request first
+abbrev pub AreReadFirst : Type 0
+AreReadFirst =
+    (input sent rest : List ℕ) (asked : Asked) (requests : List Request)
+    → IsSent input sent asked → ReadsAll sent requests rest
+    → (more : List Request) × (requests ≡ asked.request ∷ more)
+
+-- and where no input follows, as that request alone
+abbrev pub AreReadAlone : Type 0
+AreReadAlone =
+    (input sent : List ℕ) (asked : Asked) → IsFalse asked.input
+    → IsSent input sent asked → ReadsAll sent (asked.request ∷ []) []

@@ -2,7 +2,7 @@
 #![tactic(auto)]
 
 ghost use Rattle.client_requests.specs.Spelled.{RequestsAreSpelled};
-ghost use Rattle.client_requests.specs.Sent.{EndedCallsSend, BrokenCallsSend};
+ghost use Rattle.client_requests.specs.Sent.{EndedCallsSend, BrokenCallsSend, AreReadFirst, AreReadAlone};
 
 /// Each request that a short line asks for is spelled by its bytes.
 pub fn law_spelled()
@@ -14,4 +14,10 @@ pub fn law_spelled()
 pub fn law_sent()
     ensures ended { EndedCallsSend }
     ensures broken { BrokenCallsSend }
+{}
+
+/// What was sent is read as the request that was asked.
+pub fn law_read()
+    ensures first { AreReadFirst }
+    ensures alone { AreReadAlone }
 {}
