@@ -57,6 +57,11 @@ created : result_of (codes "create engine/tools") (answered 201 (codes "{\"Id\":
 unfolding data_of is_utf8 chars encode lex punctuate items members value content short_escape code_unit word after_number number_of scan_numeral digits escape_byte
 created = refl
 
+-- a text without a byte is no id
+no_id : result_of (codes "create engine/tools") (answered 201 (codes "{\"Id\":\"\"}") ∷ []) ≡ ended [] no_answer 123
+unfolding data_of is_utf8 chars encode lex punctuate items members value content short_escape code_unit word after_number number_of scan_numeral digits escape_byte
+no_id = refl
+
 -- of each container its id, its first name without the slash, its state and its status
 listed : result_of (codes "ps") (answered 200 (codes "[{\"Id\":\"1f\",\"Names\":[\"/web\"],\"State\":\"exited\",\"Status\":\"Exited (3)\"}]") ∷ [])
     ≡ ended (codes "1f web exited Exited (3)\n") [] 0

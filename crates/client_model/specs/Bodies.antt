@@ -1,5 +1,5 @@
 -- What the client reads of the bodies of answers (Docker Engine API v1.43, the responses of its operations).
-use Rattle.std.specs.Prelude.{ℕ, ◌++◌, nat_lt, List, [], ◌∷◌, codes, slice_get, Option, Some, None, option_and_then, option_map, if◌then◌else◌}
+use Rattle.std.specs.Prelude.{ℕ, ◌++◌, ◌&&◌, nat_lt, nat_le, List, [], ◌∷◌, length, codes, slice_get, Option, Some, None, option_and_then, option_map, if◌then◌else◌}
 use Rattle.serde_json.specs.Data.{Data, Items, no_items, item}
 use Rattle.serde_json.specs.Find.{get, as_number, as_u64, as_array}
 use Rattle.json_laws.specs.Text.{data_of}
@@ -11,9 +11,17 @@ use Rattle.api_json.specs.Event.{text_at, if_there}
 abbrev pub text_in : List ℕ → List ℕ → Option (List ℕ)
 text_in name body = if_there (data_of body) (text_at name)
 
+-- the most bytes of an id. own: so that each request that names one is within a daemon's limits
+abbrev pub id_limit : ℕ
+id_limit = 4096
+
+-- an id isn't empty, and has at most so many bytes
+abbrev pub if_id : List ℕ → Option (List ℕ)
+if_id text = if nat_lt 0 (length text) && nat_le (length text) id_limit then Some text else None
+
 -- `Id`: what was created
 abbrev pub id_in : List ℕ → Option (List ℕ)
-id_in = text_in (codes "Id")
+id_in body = if_there (text_in (codes "Id") body) if_id
 
 -- `message`: why a request was refused
 abbrev pub message_in : List ℕ → Option (List ℕ)

@@ -153,7 +153,7 @@ watches words short =
     one_within Fit command.Watch words (λ word is. (
       events_spelled (codes "0") word (omega arith),
       answered (λ h body whole. watched (first_in h.form) (if_whole whole (events_in body)))
-          (λ h body whole id. watched_fit (first_in h.form) (if_whole whole (events_in body))),
+          (λ h body whole. watched_fit (first_in h.form) (if_whole whole (events_in body))),
     ))
 
 pub volume_creates : IsFit read_volume_create

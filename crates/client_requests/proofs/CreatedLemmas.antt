@@ -1,7 +1,9 @@
 -- The commands that go on by an id, `create`, `run` and `exec`, ask only what is spelled by its bytes.
 use Rattle.std.proofs.Common.{ℕ, ◌+◌, ◌≤◌, List, [], ◌∷◌, length, Bool, true, false, codes, Option, Some, None, arith}
-use Rattle.std.specs.Prelude.{unwrap_or}
+use Rattle.std.specs.Prelude.{nat_lt, nat_le, ◌&&◌, unwrap_or}
 use Rattle.std.specs.Option.{IfSome, option_map_or}
+use Rattle.std.proofs.lemmas.Bool.{cond_both, and_parts}
+use Rattle.std.proofs.lemmas.Bool.Decides.{nat_tests}
 use Rattle.std.proofs.lemmas.Option.{IfSome_then}
 use Rattle.engine_text.specs.declared.pairs.Pair.{Pair}
 use Rattle.client_model.specs.declared.command.Command.TheVariants as command
@@ -9,8 +11,8 @@ use Rattle.client_model.specs.declared.command.NewContainer.{NewContainer}
 use Rattle.client_model.specs.declared.command.Restart.{Restart}
 use Rattle.client_model.specs.declared.fault.Fault.TheVariants as F
 use Rattle.client_model.specs.Words.{value_of, has_flag}
-use Rattle.client_model.specs.Bodies.{id_in, status_code_in}
-use Rattle.client_model.specs.Plans.{Plan, asks, ends, done, fails, prints, if_whole}
+use Rattle.client_model.specs.Bodies.{text_in, if_id, id_in, status_code_in}
+use Rattle.client_model.specs.Plans.{Plan, asks, ends, done, fails, prints}
 use Rattle.client_model.specs.Streams.{payloads_of, ends_frames, follows}
 use Rattle.client_model.specs.Commands.Container.{container_options, restart_in, container_with, container_of, create_request, restart_of, read_policy}
 use Rattle.client_model.specs.Commands.Create.{create_in, read_create}
@@ -21,11 +23,23 @@ use Rattle.client_model.specs.Commands.Attach.{attach_request}
 use Rattle.client_model.specs.Commands.Exec.{exec_options, exec_in, exec_create_request, exec_start_request, exec_inspect_request, exit_code_in, read_exec}
 use Rattle.client_model.specs.Commands.Wait.{wait_request}
 use Rattle.client_requests.proofs.SizeLemmas.{words_size}
-use Rattle.client_requests.proofs.WordLemmas.{IfSome-map, given_size, value_size, behind_within, length_value, length_values}
+use Rattle.client_requests.proofs.WordLemmas.{IfSome-map, IfSome-and_then, IfSome-each, given_size, value_size, behind_within, length_value, length_values}
 use Rattle.client_requests.proofs.BodyLemmas.{IsShort, IsShortPolicy, policy_short}
 use Rattle.client_requests.proofs.RequestLemmas.{create_spelled, start_spelled, remove_spelled, attach_spelled, exec_create_spelled, exec_start_spelled, exec_inspect_spelled, wait_spelled}
 use Rattle.client_requests.proofs.PlanLemmas.{AsksSpelled, printed, asking, asking_any, streaming}
 use Rattle.client_requests.proofs.CommandLemmas.{Fit, IsFit}
+
+-- ---- ids
+
+short_id : (body : List ℕ) → IfSome (id_in body) (λ id. length id ≤ 4096)
+short_id body =
+    let text = text_in (codes "Id") body in
+    IfSome-and_then (λ id. length id ≤ 4096) if_id text (IfSome-each (λ id. IfSome (if_id id) (λ id. length id ≤ 4096)) text short_text)
+  where
+    short_text : (id : List ℕ) → IfSome (if_id id) (λ id. length id ≤ 4096)
+    short_text id =
+        cond_both (nat_lt 0 (length id) && nat_le (length id) 4096) (Some id) None (λ o. IfSome o (λ id. length id ≤ 4096))
+        (λ both. grind (arith, nat_tests, (and_parts (nat_lt 0 (length id)) (nat_le (length id) 4096) both).1)) (λ none. tt)
 
 -- ---- containers
 
@@ -53,7 +67,7 @@ run_fit c remove is =
     asks (wait_request id) status_code_in (λ code.
     removes remove id (ends code)))) in
     asking (create_request c) id_in next (create_spelled c is)
-    (λ h body whole short. IfSome_then (if_whole whole (id_in body)) short (started c remove))
+    (λ body. IfSome_then (id_in body) (short_id body) (started c remove))
 
 create_fit : (c : NewContainer) → IsShort c → Fit (command.Create c)
 create_fit c is = asking_any (create_request c) id_in (λ id. prints id done) (create_spelled c is) (λ id. printed id done tt)
@@ -109,7 +123,7 @@ exec_fit target words input short few =
     follows (exec_start_request id) input (
     asks (exec_inspect_request id) exit_code_in (λ code. option_map_or ends code (fails F.NoCode))) in
     asking (exec_create_request target words input) id_in next (exec_create_spelled target words input short few)
-    (λ h body whole is. IfSome_then (if_whole whole (id_in body)) is (entered input))
+    (λ body. IfSome_then (id_in body) (short_id body) (entered input))
 
 exec_short : (given : List Pair) (words : List (List ℕ)) → given_size given + words_size words ≤ 4096 → IfSome (exec_in given words) Fit
 exec_short given [] short = tt

@@ -1,8 +1,8 @@
--- Plans that ask only what is spelled by its bytes, as far as the ids that answers tell are short.
+-- Plans that ask only what is spelled by its bytes, whatever the answers are.
 use Rattle.std.proofs.Common.{ℕ, ◌++◌, List, [], ◌∷◌, Bool, true, false, cond, codes, Option, Some, None, All}
 use Rattle.std.specs.Prelude.{⊤, nat_lt, ◌&&◌}
 use Rattle.std.specs.Option.{IfSome}
-use Rattle.std.proofs.lemmas.List.Elements.{All-nil, All-cons, All-head, All-tail}
+use Rattle.std.proofs.lemmas.List.Elements.{All-nil, All-cons}
 use Rattle.http_edge.specs.Message.{Request}
 use Rattle.http_edge.specs.declared.head.Head.{Head}
 use Rattle.history_replay.specs.declared.verdict.Verdict.{Verdict}
@@ -12,14 +12,14 @@ use Rattle.client_model.specs.Bodies.{message_in}
 use Rattle.client_model.specs.Plans.{Plan, Ends, Asks, Judges, Written, to_out, writes, prints, prints_all, fails, done, goes_on, if_whole, by_answer, asks, asks_and_prints, asks_and_shows}
 use Rattle.client_model.specs.Streams.{streams}
 use Rattle.client_model.specs.Client.{said_by}
-use Rattle.client_requests.specs.Spelled.{HasShortId, IsSpelled}
+use Rattle.client_requests.specs.Spelled.{IsSpelled}
 use Rattle.client_requests.proofs.WordLemmas.{IfSome-each}
 use Rattle.client_requests.proofs.RequestLemmas.{SpellsItself}
 
--- each request that the plan asks for is spelled by its bytes, by answers whose ids are short
+-- each request that the plan asks for is spelled by its bytes, by any answers
 abbrev pub AsksSpelled : Plan → Type 0
 AsksSpelled (Ends w ending) = ⊤
-AsksSpelled (Asks w asked next) = IsSpelled asked × ((answer : Answer) → HasShortId answer → AsksSpelled (next answer))
+AsksSpelled (Asks w asked next) = IsSpelled asked × ((answer : Answer) → AsksSpelled (next answer))
 AsksSpelled (Judges charter next) = (verdict : Verdict) → AsksSpelled (next verdict)
 
 -- ---- writing
@@ -42,33 +42,37 @@ going : {A : Type 0} (next : A → Plan) (read : Option A) → IfSome read (λ x
 going next None is = tt
 going next (Some x) is = is
 
+whole_of : {A : Type 0} (P : A → Type 0) (whole : Bool) (read : Option A) → IfSome read P → IfSome (if_whole whole read) P
+whole_of P true read is = is
+whole_of P false read is = tt
+
 pub answered : (next : Head → List ℕ → Bool → Plan)
-    → ((h : Head) (body : List ℕ) (whole : Bool) → HasShortId (Answered h body whole) → AsksSpelled (next h body whole))
-    → (answer : Answer) → HasShortId answer → AsksSpelled (by_answer next answer)
-answered next each NoHead short = tt
-answered next each (Answered h body whole) short = by (nat_lt h.status 400)
+    → ((h : Head) (body : List ℕ) (whole : Bool) → AsksSpelled (next h body whole))
+    → (answer : Answer) → AsksSpelled (by_answer next answer)
+answered next each NoHead = tt
+answered next each (Answered h body whole) = by (nat_lt h.status 400)
   where
     by : (t : Bool) → AsksSpelled (cond t (next h body whole) (goes_on (λ message. fails (F.Refused message)) (if_whole whole (message_in body))))
-    by true = each h body whole short
+    by true = each h body whole
     by false =
         going (λ message. fails (F.Refused message)) (if_whole whole (message_in body))
         (IfSome-each (λ message. AsksSpelled (fails (F.Refused message))) (if_whole whole (message_in body)) (λ message. tt))
 
 -- it asks, and what is read of an answer goes on so
 pub asking : {A : Type 0} (request : Request) (read : List ℕ → Option A) (next : A → Plan) → SpellsItself request
-    → ((h : Head) (body : List ℕ) (whole : Bool) → HasShortId (Answered h body whole) → IfSome (if_whole whole (read body)) (λ x. AsksSpelled (next x)))
+    → ((body : List ℕ) → IfSome (read body) (λ x. AsksSpelled (next x)))
     → AsksSpelled (asks request read next)
 asking request read next is each = (
   is,
   answered (λ h body whole. goes_on next (if_whole whole (read body)))
-      (λ h body whole short. going next (if_whole whole (read body)) (each h body whole short)),
+      (λ h body whole. going next (if_whole whole (read body)) (whole_of (λ x. AsksSpelled (next x)) whole (read body) (each body))),
 )
 
 -- it goes on so whatever is read
 pub asking_any : {A : Type 0} (request : Request) (read : List ℕ → Option A) (next : A → Plan) → SpellsItself request
     → ((x : A) → AsksSpelled (next x)) → AsksSpelled (asks request read next)
 asking_any request read next is each =
-    asking request read next is (λ h body whole short. IfSome-each (λ x. AsksSpelled (next x)) (if_whole whole (read body)) each)
+    asking request read next is (λ body. IfSome-each (λ x. AsksSpelled (next x)) (read body) each)
 
 pub asking_prints : (request : Request) (line : List ℕ) → SpellsItself request → AsksSpelled (asks_and_prints request line)
 asking_prints request line is = asking_any request Some (λ body. prints line done) is (λ body. tt)
@@ -81,7 +85,7 @@ pub streaming : (shows : List ℕ → Written) (may_end : List ℕ → Bool) (re
 streaming shows may_end request input next is behind = (
   is,
   answered (λ h body whole. writes (shows body) (cond (whole && may_end body) next (fails F.Answer)))
-      (λ h body whole short. written (shows body) (cond (whole && may_end body) next (fails F.Answer)) (by (whole && may_end body))),
+      (λ h body whole. written (shows body) (cond (whole && may_end body) next (fails F.Answer)) (by (whole && may_end body))),
 )
   where
     by : (t : Bool) → AsksSpelled (cond t next (fails F.Answer))
@@ -90,12 +94,11 @@ streaming shows may_end request input next is behind = (
 
 -- ---- what is said
 
-pub all_spelled : (plan : Plan) (verdict : Option Verdict) (answers : List Answer) → AsksSpelled plan → All HasShortId answers
+pub all_spelled : (plan : Plan) (verdict : Option Verdict) (answers : List Answer) → AsksSpelled plan
     → All IsSpelled (said_by plan verdict answers).asked
-all_spelled (Ends w ending) verdict answers is short = All-nil IsSpelled
-all_spelled (Asks w asked next) verdict [] is short = All-cons IsSpelled asked [] is.0 (All-nil IsSpelled)
-all_spelled (Asks w asked next) verdict (answer ∷ answers) is short =
-    All-cons IsSpelled asked (said_by (next answer) verdict answers).asked is.0
-    (all_spelled (next answer) verdict answers (is.1 answer (All-head HasShortId answer answers short)) (All-tail HasShortId answer answers short))
-all_spelled (Judges charter next) None answers is short = All-nil IsSpelled
-all_spelled (Judges charter next) (Some verdict) answers is short = all_spelled (next verdict) None answers (is verdict) short
+all_spelled (Ends w ending) verdict answers is = All-nil IsSpelled
+all_spelled (Asks w asked next) verdict [] is = All-cons IsSpelled asked [] is.0 (All-nil IsSpelled)
+all_spelled (Asks w asked next) verdict (answer ∷ answers) is =
+    All-cons IsSpelled asked (said_by (next answer) verdict answers).asked is.0 (all_spelled (next answer) verdict answers (is.1 answer))
+all_spelled (Judges charter next) None answers is = All-nil IsSpelled
+all_spelled (Judges charter next) (Some verdict) answers is = all_spelled (next verdict) None answers (is verdict)

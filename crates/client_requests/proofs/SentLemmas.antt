@@ -1,48 +1,27 @@
 -- What connections were sent, by what was asked.
 use Rattle.std.proofs.Common.{◌≡◌, ℕ, List, [], ◌∷◌, ◌++◌, map, Bool, true, false, cond, Option, All, refl, sym, subst, ⊎_elim, append-nil}
 use Rattle.std.specs.List.{AllZip}
-use Rattle.std.proofs.lemmas.List.Elements.{All-nil, All-cons, All-head, All-tail, All-push}
-use Rattle.response_reader.specs.Answers.{Answer, NoHead, Answered, TellsSoFar}
+use Rattle.std.proofs.lemmas.List.Elements.{All-head, All-tail}
 use Rattle.history_replay.specs.declared.verdict.Verdict.{Verdict}
 use Rattle.client_model.specs.Requests.{request_bytes}
 use Rattle.client_model.specs.Plans.{Asked}
 use Rattle.client_model.specs.Client.{Said, plan_for}
-use Rattle.client_model.specs.Runs.{Exchange, sent_by, AreAnswered, ByAnswers, SoFar, AreSentSoFar}
-use Rattle.client_requests.specs.Spelled.{IsShortLine, HasShortId, IsSpelled}
-use Rattle.client_requests.specs.Sent.{GivesShortId, IsSent, AreSentUpTo, EndedCallsSend, BrokenCallsSend}
+use Rattle.client_model.specs.Runs.{Exchange, sent_by, ByAnswers, SoFar, AreSentSoFar}
+use Rattle.client_requests.specs.Spelled.{IsShortLine, IsSpelled}
+use Rattle.client_requests.specs.Sent.{IsSent, AreSentUpTo, EndedCallsSend, BrokenCallsSend}
 use Rattle.client_requests.proofs.TableLemmas.{spelled_requests}
 
--- ---- answers
+-- ---- what was asked
 
-short_answers : (xs : List Exchange) (answers : List Answer) → AreAnswered xs answers → All GivesShortId xs → All HasShortId answers
-short_answers [] [] are short = All-nil HasShortId
-short_answers [] (answer ∷ answers) are short = absurd are
-short_answers (x ∷ xs) [] are short = absurd are
-short_answers (x ∷ xs) (answer ∷ answers) are short =
-    All-cons HasShortId answer answers (All-head GivesShortId x xs short answer are.0) (short_answers xs answers are.1 (All-tail GivesShortId x xs short))
-
--- an answer of which more may come tells no id yet
-short_so_far : (given : List ℕ) (answer : Answer) → TellsSoFar given answer → HasShortId answer
-short_so_far given NoHead tells = tt
-short_so_far given (Answered h body true) tells = absurd tells
-short_so_far given (Answered h body false) tells = tt
-
-front_short : (xs : List Exchange) (last : Exchange) → All GivesShortId (xs ++ last ∷ []) → All GivesShortId xs
-front_short [] last short = All-nil GivesShortId
-front_short (x ∷ xs) last short =
-    All-cons GivesShortId x xs (All-head GivesShortId x (xs ++ last ∷ []) short) (front_short xs last (All-tail GivesShortId x (xs ++ last ∷ []) short))
-
-by_answers : (words : List (List ℕ)) (verdict : Option Verdict) (xs : List Exchange) (said : Said) → IsShortLine words → All GivesShortId xs
+by_answers : (words : List (List ℕ)) (verdict : Option Verdict) (xs : List Exchange) (said : Said) → IsShortLine words
     → ByAnswers (plan_for words) verdict xs said → All IsSpelled said.asked
-by_answers words verdict xs said line short (answers, are, is) =
-    subst (λ (s : Said). All IsSpelled s.asked) (sym is) (spelled_requests words verdict answers line (short_answers xs answers are short))
+by_answers words verdict xs said line (answers, are, is) =
+    subst (λ (s : Said). All IsSpelled s.asked) (sym is) (spelled_requests words verdict answers line)
 
-so_far : (words : List (List ℕ)) (verdict : Option Verdict) (xs : List Exchange) (said : Said) → IsShortLine words → All GivesShortId xs
+so_far : (words : List (List ℕ)) (verdict : Option Verdict) (xs : List Exchange) (said : Said) → IsShortLine words
     → SoFar (plan_for words) verdict xs said → All IsSpelled said.asked
-so_far words verdict xs said line short (before, last, answers, answer, whole, are, tells, is) =
-    let front = short_answers before answers are (front_short before last (subst (All GivesShortId) whole short)) in
-    let all = All-push HasShortId answers answer front (short_so_far last.given answer tells) in
-    subst (λ (s : Said). All IsSpelled s.asked) (sym is) (spelled_requests words verdict (answers ++ answer ∷ []) line all)
+so_far words verdict xs said line (before, last, answers, answer, whole, are, tells, is) =
+    subst (λ (s : Said). All IsSpelled s.asked) (sym is) (spelled_requests words verdict (answers ++ answer ∷ []) line)
 
 -- ---- bytes
 
@@ -73,12 +52,12 @@ sent_up_to input (sent ∷ other ∷ sents) (asked ∷ more) spells are = (
 -- ---- calls
 
 pub ended_calls : EndedCallsSend
-ended_calls words status o o' call line short =
-    let spells = by_answers words call.verdict call.xs call.said line short call.says in
+ended_calls words status o o' call line =
+    let spells = by_answers words call.verdict call.xs call.said line call.says in
     subst (λ sents. AllZip (IsSent call.input) sents call.said.asked) (sym call.sent) (all_sent call.input call.said.asked spells)
 
 pub broken_calls : BrokenCallsSend
-broken_calls words status o o' call line short =
+broken_calls words status o o' call line =
     let spells =
-    ⊎_elim (by_answers words call.verdict call.xs call.said line short) (so_far words call.verdict call.xs call.said line short) call.says in
+    ⊎_elim (by_answers words call.verdict call.xs call.said line) (so_far words call.verdict call.xs call.said line) call.says in
     sent_up_to call.input (map (λ x. x.sent) call.xs) call.said.asked spells call.sent

@@ -111,5 +111,5 @@ line_fit (address ∷ words) short =
     (λ port. IfSome-map FitLine (line_with address) (read_by commands words) command))
 
 pub spelled_requests : RequestsAreSpelled
-spelled_requests words verdict answers short ids =
-    all_spelled (plan_for words) verdict answers (of_line (line_of words) (line_fit words (omega (arith, short, size_is words)))) ids
+spelled_requests words verdict answers short =
+    all_spelled (plan_for words) verdict answers (of_line (line_of words) (line_fit words (omega (arith, short, size_is words))))

@@ -1,17 +1,12 @@
 -- What the client's connections are sent, as a daemon reads it (RFC 9112, section 9.3: requests follow one another).
-use Rattle.std.specs.Prelude.{ℕ, ◌≡◌, IsFalse, List, [], ◌∷◌, map, All, if◌then◌else◌, ⊤}
+use Rattle.std.specs.Prelude.{ℕ, ◌≡◌, IsFalse, List, [], ◌∷◌, map, if◌then◌else◌, ⊤}
 use Rattle.std.specs.List.{AllZip}
 use Rattle.engine_ports.specs.Sink.{IsFront}
 use Rattle.http_edge.specs.Message.{Request}
 use Rattle.http_edge.specs.Spelling.{Begins, ReadsAll}
-use Rattle.response_reader.specs.Answers.{Answer, IsAnswer}
 use Rattle.client_model.specs.Plans.{Asked}
-use Rattle.client_model.specs.Runs.{Outside, Exchange, has_ended, IsEnded, IsBrokenOff}
-use Rattle.client_requests.specs.Spelled.{IsShortLine, HasShortId}
-
--- the answer that a connection gave has a short id, if any
-abbrev pub GivesShortId : Exchange → Type 0
-GivesShortId x = (answer : Answer) → IsAnswer x.given (has_ended x) answer → HasShortId answer
+use Rattle.client_model.specs.Runs.{Outside, IsEnded, IsBrokenOff}
+use Rattle.client_requests.specs.Spelled.{IsShortLine}
 
 -- the bytes are one spelling of the request, and behind it stands the input where that follows, else nothing
 abbrev pub IsSent : List ℕ → List ℕ → Asked → Type 0
@@ -28,14 +23,14 @@ AreSentUpTo input sents [] = ⊥
 abbrev pub EndedCallsSend : Type 0
 EndedCallsSend =
     (words : List (List ℕ)) (status : ℕ) (o o' : Outside) (call : IsEnded words status o o')
-    → IsShortLine words → All GivesShortId call.xs
+    → IsShortLine words
     → AllZip (IsSent call.input) (map (λ x. x.sent) call.xs) call.said.asked
 
 -- of a call that was broken off: all but the last
 abbrev pub BrokenCallsSend : Type 0
 BrokenCallsSend =
     (words : List (List ℕ)) (status : ℕ) (o o' : Outside) (call : IsBrokenOff words status o o')
-    → IsShortLine words → All GivesShortId call.xs
+    → IsShortLine words
     → AreSentUpTo call.input (map (λ x. x.sent) call.xs) call.said.asked
 
 -- what was sent so is read as that request first

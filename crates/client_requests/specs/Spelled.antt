@@ -1,11 +1,10 @@
 -- What the client's requests are to a daemon (RFC 9112, sections 3 to 6: a request line, fields, and a body by its length).
-use Rattle.std.specs.Prelude.{ℕ, ◌≤◌, ◌+◌, List, length, Option, IfSome, All, sum_by, ⊤}
+use Rattle.std.specs.Prelude.{ℕ, ◌≤◌, ◌+◌, List, length, Option, All, sum_by}
 use Rattle.http_edge.specs.Spelling.{Spells}
 use Rattle.history_replay.specs.declared.verdict.Verdict.{Verdict}
-use Rattle.response_reader.specs.Answers.{Answer, NoHead, Answered}
-use Rattle.client_model.specs.Bodies.{id_in}
+use Rattle.response_reader.specs.Answers.{Answer}
 use Rattle.client_model.specs.Requests.{request_bytes}
-use Rattle.client_model.specs.Plans.{Asked, if_whole}
+use Rattle.client_model.specs.Plans.{Asked}
 use Rattle.client_model.specs.Client.{plan_for, said_by}
 
 -- the most bytes of a line's words, with one more for each. own: with it each request is within a daemon's limits
@@ -16,17 +15,12 @@ words_limit = 4096
 abbrev pub IsShortLine : List (List ℕ) → Type 0
 IsShortLine words = sum_by (λ word. length word + 1) words ≤ words_limit
 
--- an id that an answer tells, if its body came whole, has at most so many bytes
-abbrev pub HasShortId : Answer → Type 0
-HasShortId NoHead = ⊤
-HasShortId (Answered h body whole) = IfSome (if_whole whole (id_in body)) (λ id. length id ≤ words_limit)
-
 -- the bytes of what is asked are one spelling of it
 abbrev pub IsSpelled : Asked → Type 0
 IsSpelled asked = Spells (request_bytes asked.request) asked.request
 
--- each request that a short line asks for, by answers whose ids are short, is spelled by its bytes
+-- each request that a short line asks for, whatever the answers are, is spelled by its bytes
 abbrev pub RequestsAreSpelled : Type 0
 RequestsAreSpelled =
-    (words : List (List ℕ)) (verdict : Option Verdict) (answers : List Answer) → IsShortLine words → All HasShortId answers
+    (words : List (List ℕ)) (verdict : Option Verdict) (answers : List Answer) → IsShortLine words
     → All IsSpelled (said_by (plan_for words) verdict answers).asked

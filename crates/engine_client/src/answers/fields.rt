@@ -40,11 +40,26 @@ fn text_in(alloc: Global, name: &str, body: &[u8]) -> Result<Text, Unread>
     Ok(Text::of(alloc, text)?)
 }
 
+/// The most bytes of an id.
+const ID_LIMIT: usize = 4096;
+
+/// A text that may be an id.
+fn if_id(text: &str) -> Result<&str, Unread>
+    ensures { ReadsAs (λ s. s.now) result (spec.if_id text.now) }
+{
+    if text.is_empty() || text.len() > ID_LIMIT {
+        return Err(Unread::NoForm);
+    }
+    Ok(text)
+}
+
 /// `Id`: what was created.
 pub fn id_in(alloc: Global, body: &[u8]) -> Result<Text, Unread>
     ensures { Reads result (spec.id_in body.now) }
 {
-    text_in(alloc, "Id", body)
+    let value = data_in(alloc, body)?;
+    let id = if_id(text_at(&value, "Id")?)?;
+    Ok(Text::of(alloc, id)?)
 }
 
 /// `message`: why a request was refused.
