@@ -1,5 +1,5 @@
 -- The class of each request with a body.
-use Rattle.std.proofs.Common.{◌≡◌, ℕ, Bool, true, false, List, [], ◌∷◌, All, codes, IsUtf8, Option, Some, None, Result, Ok, Err, refl, ap, ◌∙◌}
+use Rattle.std.proofs.Common.{◌≡◌, ℕ, Bool, true, List, [], ◌∷◌, All, codes, IsUtf8, Option, Some, None, Result, Ok, Err, refl, ap, ◌∙◌}
 use Rattle.std.specs.Prelude.{unwrap_or}
 use Rattle.percent_encoding.proofs.PercentLemmas.{IsByte}
 use Rattle.serde_json.specs.Written.{compact_text}
@@ -33,7 +33,7 @@ use Rattle.client_calls.specs.Classes.{Asked, by_name, policy_in, container_spec
 use Rattle.client_calls.specs.Texts.{IsContainer}
 use Rattle.client_calls.proofs.FormLemmas.{given}
 use Rattle.client_calls.proofs.RowLemmas.{named-class, worded-class, exec-create-row}
-use Rattle.client_calls.proofs.ClassLemmas.{Lookup, looked-up, literal, key-if-texts}
+use Rattle.client_calls.proofs.ClassLemmas.{looked-up, literal, key-if-texts}
 use Rattle.client_calls.proofs.BodyLemmas.{volume-read, exec-read, create-read}
 
 -- what a body says, read a step further

@@ -1,5 +1,5 @@
 -- What the daemon reads of the client's bodies (RFC 8259; Docker Engine API v1.43, ContainerCreate, ContainerExec, VolumeCreate).
-use Rattle.std.proofs.Common.{◌≡◌, ℕ, ◌<◌, ◌^◌, Bool, true, false, List, [], ◌∷◌, cond, codes, IsUtf8, Option, Some, None, Result, Ok, Err, sym, refl, ap, ◌∙◌, arith, ltb}
+use Rattle.std.proofs.Common.{◌≡◌, ℕ, ◌^◌, Bool, true, false, List, [], cond, codes, IsUtf8, Option, Some, None, Result, Ok, Err, refl, ap, ◌∙◌, arith}
 use Rattle.std.specs.Prelude.{pos, unwrap_or, IfSome}
 use Rattle.std.proofs.lemmas.Bool.{lt-ltb}
 use Rattle.serde_json.specs.Data.{Data, object, Members, no_members}
@@ -23,9 +23,7 @@ use Rattle.api_json.specs.HostConfig.{policy_in as policy_read}
 use Rattle.api_json.specs.MountForms.{add_binds, mounts_of}
 use Rattle.api_json.specs.ExecCreate.{exec_of, exec_in, exec_start_of, not_empty}
 use Rattle.api_json.specs.VolumeCreate.{volume_of, volume_in, volume_named}
-use Rattle.api_json.specs.declared.exec_create.ExecSpec.{ExecSpec}
 use Rattle.api_json.specs.declared.host_config.Host.{Host}
-use Rattle.api_json.specs.declared.volume_create.VolumeSpec.{VolumeSpec}
 use Rattle.api_json.specs.declared.fault.BodyKey.TheVariants as Key
 use Rattle.api_json.specs.declared.fault.BodyFault.{BodyFault}
 use Rattle.api_json.specs.declared.fault.BodyFault.TheVariants.{BadField}

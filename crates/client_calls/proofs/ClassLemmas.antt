@@ -1,27 +1,21 @@
 -- The class of each request, by the words of its command.
-use Rattle.std.proofs.Common.{◌≡◌, ℕ, ◌||◌, Bool, true, false, List, [], ◌∷◌, ◌++◌, All, cond, codes, IsUtf8, Option, Some, None, Result, Ok, Err, refl, ap, ◌∙◌}
+use Rattle.std.proofs.Common.{◌≡◌, ℕ, Bool, true, false, List, [], ◌∷◌, All, cond, codes, IsUtf8, Option, Some, None, Ok, Err, refl, ap, ◌∙◌}
 use Rattle.std.specs.Prelude.{unwrap_or, IfSome}
 use Rattle.percent_encoding.proofs.PercentLemmas.{IsByte}
 use Rattle.json.proofs.Printed.Utf8.{are_ascii, IsUtf8-are_ascii}
 use Rattle.engine_text.specs.Name.{is_name}
 use Rattle.engine_text.specs.Query.{query_bool}
-use Rattle.engine_text.specs.declared.call.Call.{Call}
 use Rattle.engine_text.specs.declared.call.Call.TheVariants as call
-use Rattle.api_json.specs.Filters.{filter_of}
 use Rattle.api_routes.specs.Fault.{and_then}
 use Rattle.api_routes.specs.Query.{value_of}
-use Rattle.api_routes.specs.Keys.{optional_name, optional_signal, kill_signal, optional_seconds, optional_limit, optional_time, or_fault, read_condition, read_tail}
-use Rattle.api_routes.specs.Calls.{of_body, list_keys, event_keys, end_of}
+use Rattle.api_routes.specs.Keys.{optional_signal, kill_signal, optional_seconds, or_fault, read_condition}
 use Rattle.api_routes.specs.Class.{class_of, or_refusal}
-use Rattle.api_routes.specs.RouteClass.{ask, in_chunks, takeover}
-use Rattle.api_routes.specs.declared.class.Class.{Class}
-use Rattle.api_routes.specs.declared.class.Class.TheVariants.{Ask, Stream}
-use Rattle.api_routes.specs.declared.class.Takeover.TheVariants as takes
-use Rattle.api_routes.specs.declared.fault.Fault.{Fault}
-use Rattle.api_routes.specs.declared.fault.Fault.TheVariants.{InvalidName, BadCondition, BadTail, LinksLeftOut, NoStream}
+use Rattle.api_routes.specs.RouteClass.{ask}
+use Rattle.api_routes.specs.declared.class.Class.TheVariants.{Ask}
+use Rattle.api_routes.specs.declared.fault.Fault.TheVariants.{InvalidName, BadCondition, LinksLeftOut}
 use Rattle.api_routes.specs.declared.route.Route.TheVariants as to
-use Rattle.client_model.specs.declared.manner.Manner.TheVariants.{Closes, Upgrades}
-use Rattle.client_model.specs.Requests.{Query, key, key_if, key_set, get, delete, post, take_over, container_path, operation_path, exec_path, volume_path}
+use Rattle.client_model.specs.declared.manner.Manner.TheVariants.{Closes}
+use Rattle.client_model.specs.Requests.{Query, key, key_if, key_set}
 use Rattle.client_model.specs.Commands.Start.{start_request}
 use Rattle.client_model.specs.Commands.Pause.{pause_request}
 use Rattle.client_model.specs.Commands.Unpause.{unpause_request}
@@ -35,7 +29,6 @@ use Rattle.client_model.specs.Commands.Wait.{wait_request}
 use Rattle.client_calls.specs.Classes as class
 use Rattle.client_calls.specs.Classes.{Asked, by_name}
 use Rattle.client_calls.proofs.FormLemmas.{form, given, AreTexts, value-read}
-use Rattle.client_calls.proofs.RequestLemmas.{read_by}
 use Rattle.client_calls.proofs.RowLemmas.{named-class, start-row, stop-row, restart-row, kill-row, pause-row, unpause-row, rename-row, wait-row, remove-row, inspect-row}
 
 -- ---- queries

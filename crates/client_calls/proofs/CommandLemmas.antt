@@ -1,9 +1,8 @@
 -- The classes of what each command asks are those of the table.
-use Rattle.std.proofs.Common.{◌≡◌, ℕ, zero, suc, Bool, true, false, List, [], ◌∷◌, map, All, cond, codes, decimal, IsUtf8, Option, Some, None, refl, ap, ◌∙◌}
+use Rattle.std.proofs.Common.{◌≡◌, ℕ, zero, suc, Bool, true, false, List, [], map, All, cond, codes, decimal, IsUtf8, Option, Some, None, refl, ◌∙◌}
 use Rattle.std.specs.Prelude.{nat_lt}
 use Rattle.std.specs.Option.{option_map_or}
 use Rattle.percent_encoding.proofs.PercentLemmas.{IsByte}
-use Rattle.http_edge.specs.declared.head.Head.{Head}
 use Rattle.response_reader.specs.Answers.{Answer, NoHead, Answered}
 use Rattle.response_reader.specs.Heads.{first_in}
 use Rattle.history_replay.specs.declared.verdict.Verdict.{Verdict}
@@ -12,7 +11,7 @@ use Rattle.engine_text.specs.declared.event.Event.{Event}
 use Rattle.event_ring.specs.Fold.{fold_of}
 use Rattle.json_laws.specs.Pairs.{AreWordsUtf8}
 use Rattle.client_model.specs.Bodies.{id_in, status_code_in, container_lines_in, volume_names_in, message_in}
-use Rattle.client_model.specs.Plans.{Plan, Asks, nothing, to_out, prints, prints_all, done, ends, fails, goes_on, if_whole, by_answer, asks}
+use Rattle.client_model.specs.Plans.{Plan, nothing, to_out, prints, prints_all, done, ends, fails, goes_on, if_whole, by_answer, asks}
 use Rattle.client_model.specs.Streams.{payloads_of, ends_frames, ends_text, events_in, follows}
 use Rattle.client_model.specs.Client.{plan_of}
 use Rattle.client_model.specs.Commands.Container.{create_request}

@@ -1,10 +1,10 @@
 -- The values of a query's keys, read back (URL Standard, section 5).
-use Rattle.std.proofs.Common.{◌≡◌, ℕ, Bool, true, false, List, [], ◌∷◌, map, All, IsUtf8, cond, Option, Some, None, sym, refl, ap, ◌∙◌, subst, arith}
+use Rattle.std.proofs.Common.{◌≡◌, ℕ, List, [], ◌∷◌, map, All, IsUtf8, cond, Option, Some, None, refl, ap, ◌∙◌}
 use Rattle.std.specs.Str.Lossy.{utf8_lossy}
 use Rattle.std.proofs.lemmas.Str.{utf8_lossy-IsUtf8}
 use Rattle.std.proofs.lemmas.List.Elements.{All-nil, All-cons}
 use Rattle.engine_text.specs.Texts.{same_bytes}
-use Rattle.form_urlencoded.specs.Form.{decode, raw_pairs, parse, extend_pairs}
+use Rattle.form_urlencoded.specs.Form.{decode, raw_pairs, extend_pairs}
 use Rattle.form_urlencoded.proofs.FormLemmas.{IsBytePair, round_trip}
 use Rattle.api_json.specs.Values.{pairs_of}
 use Rattle.api_routes.specs.Query.{first_value, value_of}

@@ -17,7 +17,7 @@ use Rattle.api_json.specs.Event.{text_at}
 use Rattle.client_model.specs.Bodies.{id_in}
 use Rattle.client_calls.proofs.ByteLemmas.{utf8-bytes}
 use Rattle.client_calls.proofs.JsonByteLemmas.{Bytes, then-good, map-good}
-use Rattle.client_calls.proofs.TokenLemmas.{IsToken, AreTokens, tokens-good, IsJson, AreItems, AreMembers, Read, value-good}
+use Rattle.client_calls.proofs.TokenLemmas.{tokens-good, IsJson, AreItems, AreMembers, Read, value-good}
 
 -- each text of the data is bytes
 abbrev mutual

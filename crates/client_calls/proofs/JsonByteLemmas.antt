@@ -1,9 +1,8 @@
 -- The texts of data that a text of bytes is read as are bytes (RFC 8259, section 7).
-use Rattle.std.proofs.Common.{◌≡◌, ℕ, zero, suc, ◌+◌, ◌*◌, ◌<◌, ◌≤◌, List, [], ◌∷◌, ◌++◌, length, All, IsUtf8, Bool, true, false, cond, ◌==◌, ◌&&◌, Option, Some, None, refl, arith, Ordering, Less, Equal, Greater}
+use Rattle.std.proofs.Common.{◌≡◌, ℕ, ◌+◌, ◌*◌, ◌<◌, List, [], ◌∷◌, ◌++◌, All, Bool, true, false, cond, ◌==◌, ◌&&◌, Option, Some, None, refl, arith}
 use Rattle.std.specs.Prelude.{IfSome, option_map, option_and_then, nat_lt, ⊤}
 use Rattle.std.specs.Char.{encode_utf8, is_digit, digit_value}
-use Rattle.std.specs.Str.{is_utf8}
-use Rattle.std.proofs.lemmas.Bool.{cond_both, and_parts}
+use Rattle.std.proofs.lemmas.Bool.{and_parts}
 use Rattle.std.proofs.lemmas.Bool.Decides.{nat_tests}
 use Rattle.std.proofs.lemmas.List.Elements.{All-nil, All-cons, All-head, All-tail, All-append}
 use Rattle.percent_encoding.proofs.PercentLemmas.{IsByte}

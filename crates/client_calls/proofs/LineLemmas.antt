@@ -1,14 +1,14 @@
 -- The commands of lines of texts have texts, so that the classes of what a line asks are those of the table.
-use Rattle.std.proofs.Common.{◌≡◌, ℕ, Bool, true, false, List, [], ◌∷◌, cond, codes, IsUtf8, Option, Some, None, refl}
+use Rattle.std.proofs.Common.{◌≡◌, ℕ, Bool, true, false, List, [], ◌∷◌, cond, codes, Option, Some, None, refl, ap, ◌∙◌, ◌++◌, ◌⊎◌, inl, inr, ⊎_elim}
 use Rattle.std.specs.Prelude.{IfSome, option_map, option_and_then, find, ⊤}
-use Rattle.std.specs.Option.{option_map_or, option_flatten}
+use Rattle.std.specs.Option.{option_map_or}
 use Rattle.engine_line.specs.Lines.{port_in, seed_of, moment_in}
 use Rattle.engine_text.specs.Texts.{same_bytes}
 use Rattle.engine_text.specs.declared.pairs.Pair.{Pair}
 use Rattle.history_replay.specs.declared.verdict.Verdict.{Verdict}
 use Rattle.json_laws.specs.Pairs.{AreWordsUtf8}
 use Rattle.response_reader.specs.Answers.{Answer}
-use Rattle.client_model.specs.Words.{one_word, has_flag, value_of}
+use Rattle.client_model.specs.Words.{has_flag, value_of}
 use Rattle.client_model.specs.Plans.{fails}
 use Rattle.client_model.specs.Lines.{Table, read_by, volume_commands, commands, line_with, line_of}
 use Rattle.client_model.specs.Client.{plan_of, plan_for}
@@ -29,8 +29,10 @@ use Rattle.client_model.specs.declared.command.Line.{Line}
 use Rattle.client_model.specs.declared.fault.Fault.TheVariants as F
 use Rattle.client_calls.specs.Table.{calls_of, calls_for}
 use Rattle.client_calls.specs.Texts.{IsContainer, HasTexts}
-use Rattle.client_calls.specs.Laws.{RequestsAreCalls}
-use Rattle.client_calls.proofs.JsonByteLemmas.{then-good, map-good}
+use Rattle.client_model.specs.Runs.{AreAnswered, ByAnswers, SoFar}
+use Rattle.client_calls.specs.Laws.{classes_of, AsksCalls, EndsByCalls, AreToldSoFar, BreaksOffByCalls}
+use Rattle.engine_text.specs.Words.{AreUtf8}
+use Rattle.client_calls.proofs.JsonByteLemmas.{map-good}
 use Rattle.client_calls.proofs.WordLemmas.{Gives, gives-none, gives-one, gives-two, gives-behind, AreValues, value-good, container-good}
 use Rattle.client_calls.proofs.PlanLemmas.{classes}
 use Rattle.client_calls.proofs.CommandLemmas.{plan-calls}
@@ -137,5 +139,24 @@ line-calls None verdict answers h = refl
 line-calls (Some line) verdict answers h = plan-calls line.command h verdict answers
 
 -- what a line asks is what the table names
-pub requests-are-calls : RequestsAreCalls
-requests-are-calls words verdict answers texts = line-calls (line_of words) verdict answers (line-good words texts)
+pub asks-calls : (words : List (List ℕ)) → AreUtf8 words → AsksCalls words
+asks-calls words texts verdict answers = line-calls (line_of words) verdict answers (line-good words texts)
+
+-- and so is what a call of the client asked
+pub ends-by-calls : (words : List (List ℕ)) → AreUtf8 words → EndsByCalls words
+ends-by-calls words texts status o o' run =
+    let says = run.says in
+    (says.0, says.1, ap (λ said. classes_of said.asked) says.2 ∙ asks-calls words texts run.verdict says.0)
+
+pub breaks-off-by-calls : (words : List (List ℕ)) → AreUtf8 words → BreaksOffByCalls words
+breaks-off-by-calls words texts status o o' run = ⊎_elim by_answers so_far run.says
+  where
+    by_answers : ByAnswers (plan_for words) run.verdict run.xs run.said
+        → (answers : List Answer) × (AreAnswered run.xs answers ⊎ AreToldSoFar run.xs answers) × (classes_of run.said.asked ≡ calls_for words answers)
+    by_answers says = (says.0, inl says.1, ap (λ said. classes_of said.asked) says.2 ∙ asks-calls words texts run.verdict says.0)
+
+    so_far : SoFar (plan_for words) run.verdict run.xs run.said
+        → (answers : List Answer) × (AreAnswered run.xs answers ⊎ AreToldSoFar run.xs answers) × (classes_of run.said.asked ≡ calls_for words answers)
+    so_far says =
+        let answers = says.2 ++ says.3 ∷ [] in
+        (answers, inr (says.0, says.1, says.2, says.3, says.4, refl, says.5, says.6), ap (λ said. classes_of said.asked) says.7 ∙ asks-calls words texts run.verdict answers)

@@ -1,17 +1,14 @@
 -- A target's path and query, and the path's segments, read back (RFC 3986, section 3.3; RFC 9112, section 3.2.1).
-use Rattle.std.proofs.Common.{◌≡◌, ◌≢◌, ℕ, Bool, true, false, List, [], ◌∷◌, ◌++◌, map, All, ◌==◌, codes, sym, refl, ap, ◌∙◌, subst, append-nil, append_assoc, arith}
-use Rattle.std.specs.List.{slice_split}
+use Rattle.std.proofs.Common.{◌≡◌, ◌≢◌, ℕ, false, List, [], ◌∷◌, ◌++◌, map, All, ◌==◌, refl, ap, ◌∙◌, append-nil, arith}
 use Rattle.std.proofs.lemmas.Bool.{ne_eqb}
 use Rattle.std.proofs.lemmas.List.Elements.{All-nil, All-cons, All-append, All-weaker}
 use Rattle.std.proofs.lemmas.List.Splits.{slice_split_none, slice_split_at}
-use Rattle.form_urlencoded.specs.Form.{extend_pairs}
 use Rattle.form_urlencoded.proofs.FormLemmas.{split_once_before_at, split_once_after_at, split_once_before_none, split_once_after_none}
 use Rattle.route_laws.specs.Segments.{pieces, segments}
 use Rattle.api_routes.specs.Path.{path_of, query_of}
 use Rattle.client_model.specs.Requests.{path_text, query_text, Query}
 use Rattle.client_calls.proofs.EscapeLemmas.{escaped, IsInside, escaped-inside}
 use Rattle.client_calls.proofs.FormLemmas.{form}
-use Rattle.api_json.specs.Values.{pairs_of}
 
 abbrev IsNoSlash : ℕ → Type 0
 IsNoSlash b = (b == 47) ≡ false

@@ -3,13 +3,12 @@ use Rattle.std.proofs.Common.{◌≡◌, ℕ, ◌&&◌, Bool, true, false, List,
 use Rattle.std.specs.Prelude.{nat_lt}
 use Rattle.std.specs.Option.{option_map_or}
 use Rattle.http_edge.specs.Message.{Request}
-use Rattle.http_edge.specs.declared.head.Head.{Head}
 use Rattle.history_replay.specs.declared.verdict.Verdict.{Verdict}
 use Rattle.response_reader.specs.Answers.{Answer, NoHead, Answered}
 use Rattle.api_routes.specs.Class.{class_of, or_refusal}
 use Rattle.api_routes.specs.declared.class.Class.{Class}
 use Rattle.client_model.specs.Bodies.{message_in}
-use Rattle.client_model.specs.Plans.{Plan, Ends, Asks, Judges, Written, Asked, nothing, to_out, writes, prints, prints_all, done, fails, goes_on, if_whole, by_answer, asks}
+use Rattle.client_model.specs.Plans.{Plan, Ends, Asks, Judges, Written, Asked, nothing, to_out, writes, prints_all, done, fails, goes_on, if_whole, by_answer, asks}
 use Rattle.client_model.specs.Streams.{streams}
 use Rattle.client_model.specs.Client.{said_by}
 use Rattle.client_model.specs.declared.fault.Fault.TheVariants as F

@@ -1,20 +1,16 @@
 -- The class of a request by its route, its path's parameter, its query and its body.
-use Rattle.std.proofs.Common.{◌≡◌, ℕ, Bool, true, false, List, [], ◌∷◌, ◌++◌, map, All, cond, codes, IsUtf8, Option, Some, None, Result, Ok, Err, refl, ap, ◌∙◌}
+use Rattle.std.proofs.Common.{◌≡◌, ℕ, Bool, true, false, List, [], ◌∷◌, ◌++◌, map, All, cond, codes, IsUtf8, Option, Some, None, Ok, Err, refl, ap, ◌∙◌}
 use Rattle.std.specs.Str.{is_utf8}
 use Rattle.std.proofs.lemmas.Str.{is_utf8-from_IsUtf8}
-use Rattle.percent_encoding.specs.Percent.{percent_decode}
 use Rattle.percent_encoding.proofs.PercentLemmas.{IsByte}
-use Rattle.http_edge.specs.Message.{Request}
 use Rattle.http_edge.specs.Asks.{asks_upgrade}
 use Rattle.route_laws.specs.Segments.{segments}
 use Rattle.api_routes.specs.Fault.{and_then}
 use Rattle.api_routes.specs.Routes.{method_of, route_for}
-use Rattle.api_routes.specs.Path.{path_of, query_of, escapes_well, segment_text, parameter_of}
+use Rattle.api_routes.specs.Path.{query_of, segment_text, parameter_of}
 use Rattle.api_routes.specs.Version.{behind_version}
 use Rattle.api_routes.specs.RouteClass.{route_class}
 use Rattle.api_routes.specs.Class.{class_of, or_not_found, or_refusal}
-use Rattle.api_routes.specs.declared.class.Class.{Class}
-use Rattle.api_routes.specs.declared.fault.Fault.{Fault}
 use Rattle.api_routes.specs.declared.fault.Fault.TheVariants.{BadPath}
 use Rattle.api_routes.specs.declared.method.Method.{Method}
 use Rattle.api_routes.specs.declared.route.Route.{Route}

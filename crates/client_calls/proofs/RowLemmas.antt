@@ -1,5 +1,5 @@
 -- The rows of the daemon's table that the client's paths with a name fit.
-use Rattle.std.proofs.Common.{◌≡◌, ℕ, Bool, true, false, List, [], ◌∷◌, map, All, cond, ◌&&◌, codes, IsUtf8, Option, Some, None, refl, ap, ◌∙◌}
+use Rattle.std.proofs.Common.{◌≡◌, ℕ, Bool, true, false, List, [], ◌∷◌, map, All, cond, ◌&&◌, codes, IsUtf8, Option, Some, refl, ap, ◌∙◌}
 use Rattle.percent_encoding.proofs.PercentLemmas.{IsByte}
 use Rattle.http_edge.specs.Asks.{asks_upgrade}
 use Rattle.matchit.specs.Seek.{same_text}

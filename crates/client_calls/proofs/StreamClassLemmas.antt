@@ -1,14 +1,11 @@
 -- The class of each request whose answer is a stream, and of those of execs and volumes by their names.
-use Rattle.std.proofs.Common.{◌≡◌, ℕ, ◌||◌, Bool, true, false, List, [], ◌∷◌, ◌++◌, All, cond, codes, IsUtf8, Option, Some, None, Result, Ok, Err, refl, ap, ◌∙◌}
+use Rattle.std.proofs.Common.{◌≡◌, ℕ, ◌||◌, Bool, true, false, List, [], ◌∷◌, ◌++◌, All, cond, codes, IsUtf8, Ok, Err, refl, ap, ◌∙◌}
 use Rattle.std.specs.Prelude.{unwrap_or}
 use Rattle.percent_encoding.proofs.PercentLemmas.{IsByte}
 use Rattle.httparse.specs.Grammar.{trim_ows}
 use Rattle.http_edge.specs.Asks.{asks_upgrade}
 use Rattle.engine_text.specs.Query.{query_bool}
-use Rattle.engine_text.specs.declared.call.AttachAsk.{AttachAsk}
-use Rattle.engine_text.specs.declared.call.LogAsk.{LogAsk}
 use Rattle.engine_text.specs.declared.filter.FilterKey.TheVariants as filterkey
-use Rattle.engine_text.specs.declared.call.Call.{Call}
 use Rattle.engine_text.specs.declared.call.Call.TheVariants as call
 use Rattle.api_json.specs.ExecCreate.{exec_start_of}
 use Rattle.api_json.specs.Filters.{filter_of}
@@ -17,9 +14,8 @@ use Rattle.api_routes.specs.Keys.{optional_limit, optional_time, or_fault, read_
 use Rattle.api_routes.specs.Calls.{of_body, list_keys, event_keys, end_of}
 use Rattle.api_routes.specs.Class.{class_of, or_refusal}
 use Rattle.api_routes.specs.RouteClass.{ask, in_chunks, takeover, exec_start_class}
-use Rattle.api_routes.specs.declared.class.Class.TheVariants.{Ask, Stream}
+use Rattle.api_routes.specs.declared.class.Class.TheVariants.{Stream}
 use Rattle.api_routes.specs.declared.class.Takeover.TheVariants as takes
-use Rattle.api_routes.specs.declared.fault.Fault.{Fault}
 use Rattle.api_routes.specs.declared.fault.Fault.TheVariants.{BadTail, NoStream}
 use Rattle.api_routes.specs.declared.route.Route.TheVariants as to
 use Rattle.client_model.specs.declared.manner.Manner.TheVariants.{Closes, Upgrades}

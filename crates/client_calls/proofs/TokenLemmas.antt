@@ -1,7 +1,7 @@
 -- The texts of the tokens, and of the value, that a text of bytes is read as are bytes.
-use Rattle.std.proofs.Common.{◌≡◌, ℕ, zero, suc, List, [], ◌∷◌, length, All, Bool, true, false, cond, ◌==◌, Option, Some, None, refl}
-use Rattle.std.specs.Prelude.{IfSome, option_map, option_and_then, ⊤}
-use Rattle.std.proofs.lemmas.List.Elements.{All-head, All-tail}
+use Rattle.std.proofs.Common.{ℕ, zero, suc, List, [], ◌∷◌, length, Bool, true, false, ◌==◌, Option, Some, None}
+use Rattle.std.specs.Prelude.{IfSome, ⊤}
+use Rattle.std.proofs.lemmas.List.Elements.{All-tail}
 use Rattle.percent_encoding.proofs.PercentLemmas.{IsByte}
 use Rattle.json.specs.Token.{Token}
 use Rattle.json.specs.Text.{plain, content}
@@ -10,7 +10,7 @@ use Rattle.json.specs.Lex.{Lexeme, token, comma, colon, Class, quote, backslash,
 use Rattle.json.specs.Json as json
 use Rattle.json.specs.Json.{Json, Items, Members, Parse, parse_map, after_end_array, read_key, items_step, members_step, items, members, value_with, value}
 use Rattle.json.specs.Ascii as ascii
-use Rattle.client_calls.proofs.JsonByteLemmas.{Bytes, cond-good, then-good, map-good, content-good}
+use Rattle.client_calls.proofs.JsonByteLemmas.{Bytes, cond-good, then-good, content-good}
 
 -- ---- tokens
 

@@ -1,7 +1,6 @@
 -- What a line of texts asks for has texts.
-use Rattle.std.proofs.Common.{◌≡◌, ℕ, ◌==◌, ◌<◌, ◌≤◌, ◌^◌, Bool, true, false, List, [], ◌∷◌, map, filter, length, get_or, cond, not, codes, IsUtf8, Option, Some, None, refl, arith}
-use Rattle.std.specs.Prelude.{IfSome, option_map, option_and_then, find, ⊤}
-use Rattle.std.specs.Option.{option_map_or, option_flatten}
+use Rattle.std.proofs.Common.{◌≡◌, ℕ, ◌==◌, ◌<◌, ◌^◌, Bool, true, false, List, [], ◌∷◌, map, filter, get_or, cond, not, codes, IsUtf8, Option, Some, None, refl, arith}
+use Rattle.std.specs.Prelude.{IfSome, option_map, find, ⊤}
 use Rattle.std.specs.List.{before_first, after_first, position_or_len, list_any, list_all}
 use Rattle.std.specs.Str.{IsCharBoundary}
 use Rattle.std.proofs.lemmas.Bool.{eqb-true}
@@ -12,12 +11,11 @@ use Rattle.engine_text.specs.declared.pairs.Pair.{Pair}
 use Rattle.json_laws.specs.Pairs.{AreWordsUtf8}
 use Rattle.api_routes.specs.Numeral.{number_of}
 use Rattle.api_routes.proofs.NumeralLemmas.{number-small}
-use Rattle.client_model.specs.Words.{no_word, one_word, two_words, Options, kind_of, given_first, with_option, split_word, split_behind, is_sound_option, if_sound, split_options, behind_options, has_flag, value_of, values_of}
+use Rattle.client_model.specs.Words.{no_word, one_word, two_words, Options, kind_of, given_first, with_option, split_word, split_behind, is_sound_option, if_sound, split_options, behind_options, value_of, values_of}
 use Rattle.client_model.specs.Commands.Container.{restart_of, read_policy, restart_in, container_with, container_of}
 use Rattle.client_model.specs.declared.words.Split.{Split}
 use Rattle.client_model.specs.declared.words.Kind.{Kind}
 use Rattle.client_model.specs.declared.words.Kind.TheVariants.{Flag, Valued, Repeated}
-use Rattle.client_model.specs.declared.command.NewContainer.{NewContainer}
 use Rattle.client_model.specs.declared.command.Restart.{Restart}
 use Rattle.client_model.specs.declared.command.Command.{Command}
 use Rattle.client_calls.specs.Texts.{IsRestart, IsContainer, HasTexts}

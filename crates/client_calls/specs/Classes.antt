@@ -4,7 +4,6 @@ use Rattle.std.specs.Prelude.{ℕ, pos, List, [], ◌∷◌, Bool, true, false, 
 use Rattle.std.specs.Str.{is_utf8}
 use Rattle.engine_text.specs.Name.{is_name}
 use Rattle.engine_text.specs.Policy.{read_policy}
-use Rattle.engine_text.specs.declared.call.Call.{Call}
 use Rattle.engine_text.specs.declared.call.Call.TheVariants as call
 use Rattle.engine_text.specs.declared.call.CreateSpec.{CreateSpec}
 use Rattle.engine_text.specs.declared.call.LogAsk.{LogAsk}

@@ -1,12 +1,13 @@
 -- What the client's requests are for the daemon (own).
-use Rattle.std.specs.Prelude.{ℕ, ◌≡◌, List, map, Option}
-use Rattle.json_laws.specs.Pairs.{AreWordsUtf8}
+use Rattle.std.specs.Prelude.{ℕ, ◌≡◌, ◌⊎◌, List, [], ◌∷◌, ◌++◌, map, Option}
+use Rattle.engine_text.specs.Words.{AreUtf8}
 use Rattle.history_replay.specs.declared.verdict.Verdict.{Verdict}
-use Rattle.response_reader.specs.Answers.{Answer}
+use Rattle.response_reader.specs.Answers.{Answer, TellsSoFar}
 use Rattle.api_routes.specs.Class.{class_of}
 use Rattle.api_routes.specs.declared.class.Class.{Class}
 use Rattle.client_model.specs.Plans.{Asked}
 use Rattle.client_model.specs.Client.{plan_for, said_by}
+use Rattle.client_model.specs.Runs.{Outside, Exchange, AreAnswered, IsEnded, IsBrokenOff}
 use Rattle.client_calls.specs.Table.{calls_for}
 
 -- the daemon's classes of what is asked
@@ -15,6 +16,28 @@ classes_of asked = map (λ a. class_of a.request) asked
 
 -- The daemon classifies the requests that a line asks, in order, as the table names them, by the line's words and by the
 -- answers before each; so there are as many as the table has up to the first answer that ends the command.
-abbrev pub RequestsAreCalls : Type 0
-RequestsAreCalls = (words : List (List ℕ)) (verdict : Option Verdict) (answers : List Answer) → AreWordsUtf8 words
+abbrev pub AsksCalls : List (List ℕ) → Type 0
+AsksCalls words = (verdict : Option Verdict) (answers : List Answer)
     → classes_of (said_by (plan_for words) verdict answers).asked ≡ calls_for words answers
+
+-- so of all words that are texts
+abbrev pub RequestsAreCalls : Type 0
+RequestsAreCalls = (words : List (List ℕ)) → AreUtf8 words → AsksCalls words
+
+-- ---- of one call of the client
+
+-- one that came to its end asked the calls of the answers that its connections gave
+abbrev pub EndsByCalls : List (List ℕ) → Type 0
+EndsByCalls words = (status : ℕ) (o o' : Outside) (run : IsEnded words status o o')
+    → (answers : List Answer) × AreAnswered run.xs answers × (classes_of run.said.asked ≡ calls_for words answers)
+
+-- each but the last gave its answer, and the last tells as much of one as has come
+abbrev pub AreToldSoFar : List Exchange → List Answer → Type 0
+AreToldSoFar xs answers =
+    (before : List Exchange) × (last : Exchange) × (whole : List Answer) × (answer : Answer)
+    × (xs ≡ before ++ last ∷ []) × (answers ≡ whole ++ answer ∷ []) × AreAnswered before whole × TellsSoFar last.given answer
+
+-- and so did one that was broken off, as far as they had come
+abbrev pub BreaksOffByCalls : List (List ℕ) → Type 0
+BreaksOffByCalls words = (status : ℕ) (o o' : Outside) (run : IsBrokenOff words status o o')
+    → (answers : List Answer) × (AreAnswered run.xs answers ⊎ AreToldSoFar run.xs answers) × (classes_of run.said.asked ≡ calls_for words answers)

@@ -1,6 +1,6 @@
 -- The words of a command are texts, and its number is one that the table takes (own: words are UTF-8).
-use Rattle.std.specs.Prelude.{ℕ, ◌^◌, ◌<◌, List, Option, IsUtf8, IfSome, ⊤}
-use Rattle.json_laws.specs.Pairs.{AreWordsUtf8}
+use Rattle.std.specs.Prelude.{◌^◌, ◌<◌, IsUtf8, IfSome, ⊤}
+use Rattle.engine_text.specs.Words.{AreUtf8}
 use Rattle.client_model.specs.declared.command.NewContainer.{NewContainer}
 use Rattle.client_model.specs.declared.command.Restart.{Restart}
 use Rattle.client_model.specs.declared.command.Command.{Command}
@@ -11,7 +11,7 @@ IsRestart restart = IsUtf8 restart.policy × (restart.most < 10 ^ 10)
 
 abbrev pub IsContainer : NewContainer → Type 0
 IsContainer c =
-    IfSome c.name IsUtf8 × IfSome c.restart IsRestart × AreWordsUtf8 c.binds × IsUtf8 c.image × AreWordsUtf8 c.words
+    IfSome c.name IsUtf8 × IfSome c.restart IsRestart × AreUtf8 c.binds × IsUtf8 c.image × AreUtf8 c.words
 
 abbrev pub HasTexts : Command → Type 0
 HasTexts (command.Create c) = IsContainer c
@@ -29,7 +29,7 @@ HasTexts (command.Inspect target) = IsUtf8 target
 HasTexts command.Version = ⊤
 HasTexts (command.Logs target follow) = IsUtf8 target
 HasTexts (command.Attach target) = IsUtf8 target
-HasTexts (command.Exec target words input) = IsUtf8 target × AreWordsUtf8 words
+HasTexts (command.Exec target words input) = IsUtf8 target × AreUtf8 words
 HasTexts (command.Wait target) = IsUtf8 target
 HasTexts (command.Events since until) = IsUtf8 since × IsUtf8 until
 HasTexts (command.Watch until) = IsUtf8 until

@@ -1,10 +1,31 @@
 //! What the client's requests are for the daemon.
 #![tactic(auto)]
 
-ghost use Rattle.client_calls.specs.Laws.{RequestsAreCalls};
+ghost use Rattle.engine_text.specs.Words.{AreUtf8};
+ghost use Rattle.client_calls.specs.Laws.{RequestsAreCalls, AsksCalls, EndsByCalls, BreaksOffByCalls};
 
-/// The daemon classifies each request that a line asks as the table of commands names it: as the
-/// call that the line's words mean, or as the answer that refuses one of them.
+use engine_text::Text;
+
+/// The daemon classifies each request that a line of texts asks as the table of commands names it:
+/// as the call that the line's words mean, or as the answer that refuses one of them.
 pub fn law_requests_are_calls()
     ensures { RequestsAreCalls }
 {}
+
+// Does nothing: its clause says that the words are UTF-8.
+fn words_are_texts(words: &[Text])
+    ensures { AreUtf8 words.now }
+{
+    'words: for word in words {
+        word.utf8();
+    }
+}
+
+/// So of every line of a program's words, and of every run of the client.
+pub fn law_runs_ask_calls(words: &[Text])
+    ensures asks { AsksCalls words.now }
+    ensures ended { EndsByCalls words.now }
+    ensures broken_off { BreaksOffByCalls words.now }
+{
+    words_are_texts(words);
+}
