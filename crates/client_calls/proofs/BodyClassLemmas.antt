@@ -29,7 +29,7 @@ use Rattle.client_model.specs.Commands.Container.{container_data, create_request
 use Rattle.client_model.specs.Commands.Exec.{exec_data, exec_create_request}
 use Rattle.client_model.specs.Commands.VolumeCreate.{volume_data, volume_create_request}
 use Rattle.client_calls.specs.Classes as class
-use Rattle.client_calls.specs.Classes.{Asked, by_name, policy_in, container_spec}
+use Rattle.client_calls.specs.Classes.{Meaning, by_name, policy_in, container_spec}
 use Rattle.client_calls.specs.Texts.{IsContainer}
 use Rattle.client_calls.proofs.FormLemmas.{given}
 use Rattle.client_calls.proofs.RowLemmas.{named-class, worded-class, exec-create-row}
@@ -63,9 +63,9 @@ pub exec-create-class : (target : List ℕ) (words : List (List ℕ)) (input : B
 exec-create-class target words input bytes utf8 =
     named-class (codes "POST") Closes (codes "containers") (codes "exec" ∷ []) [] (compact_text (exec_data words input)) to.ExecCreate target exec-create-row bytes
     ∙ ap (λ r. or_refusal (by_name target (ask (and_then (of_body r) (λ exec. Ok (call.ExecCreate target exec.words exec.stdin exec.out exec.err))))))
-        (exec-read words input utf8)
+    (exec-read words input utf8)
     ∙ ap (λ r. or_refusal (by_name target (ask r)))
-        (body-then (not_empty words) (both_outputs input) (λ exec. Ok (call.ExecCreate target exec.words exec.stdin exec.out exec.err)))
+    (body-then (not_empty words) (both_outputs input) (λ exec. Ok (call.ExecCreate target exec.words exec.stdin exec.out exec.err)))
 
 -- ---- create
 
@@ -89,8 +89,8 @@ create-class c h =
     let text = compact_text (container_data c) in
     worded-class (codes "POST") Closes (codes "containers") (codes "create") query text to.Create refl (literal (codes "create") refl)
     ∙ ap (λ found. or_refusal (ask (and_then (of_body (create_of None text)) (with_name (found (codes "name"))))))
-        (looked-up query (key-if-texts (codes "name") c.name refl h.0))
+    (looked-up query (key-if-texts (codes "name") c.name refl h.0))
     ∙ ap (λ name. or_refusal (ask (and_then (of_body (create_of None text)) (with_name name)))) (name-given c.name)
     ∙ ap (λ r. or_refusal (ask (and_then (of_body r) (with_name c.name)))) (create-read c h)
     ∙ ap (λ r. or_refusal (ask r))
-        (create-told (add_binds [] c.binds) (policy_in c.restart) (λ mounts policy. container_spec c mounts policy None) (with_name c.name))
+    (create-told (add_binds [] c.binds) (policy_in c.restart) (λ mounts policy. container_spec c mounts policy None) (with_name c.name))

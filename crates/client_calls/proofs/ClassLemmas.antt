@@ -27,7 +27,7 @@ use Rattle.client_model.specs.Commands.Rename.{rename_request}
 use Rattle.client_model.specs.Commands.Inspect.{inspect_request}
 use Rattle.client_model.specs.Commands.Wait.{wait_request}
 use Rattle.client_calls.specs.Classes as class
-use Rattle.client_calls.specs.Classes.{Asked, by_name}
+use Rattle.client_calls.specs.Classes.{Meaning, by_name}
 use Rattle.client_calls.proofs.FormLemmas.{form, given, AreTexts, value-read}
 use Rattle.client_calls.proofs.RowLemmas.{named-class, start-row, stop-row, restart-row, kill-row, pause-row, unpause-row, rename-row, wait-row, remove-row, inspect-row}
 
@@ -75,7 +75,7 @@ inspect-class target bytes = named-class (codes "GET") Closes (codes "containers
 
 -- ---- stop and restart
 
-abbrev stop_by : List ℕ → Lookup → Asked
+abbrev stop_by : List ℕ → Lookup → Meaning
 stop_by target found =
     ask (and_then (optional_seconds (found (codes "t"))) (λ wait.
     and_then (optional_signal (unwrap_or (found (codes "signal")) [])) (λ signal.
@@ -94,7 +94,7 @@ stop-class target seconds bytes utf8 =
     ∙ ap (λ found. or_refusal (by_name target (stop_by target found))) (looked-up query (key-if-texts (codes "t") seconds refl utf8))
     ∙ ap (λ asked. or_refusal (by_name target asked)) (stop-given target seconds)
 
-abbrev restart_by : List ℕ → Lookup → Asked
+abbrev restart_by : List ℕ → Lookup → Meaning
 restart_by target found =
     ask (and_then (optional_seconds (found (codes "t"))) (λ wait.
     and_then (optional_signal (unwrap_or (found (codes "signal")) [])) (λ signal.
@@ -115,7 +115,7 @@ restart-class target seconds bytes utf8 =
 
 -- ---- kill
 
-abbrev kill_by : List ℕ → Lookup → Asked
+abbrev kill_by : List ℕ → Lookup → Meaning
 kill_by target found =
     ask (and_then (optional_signal (unwrap_or (found (codes "signal")) [])) (λ signal. Ok (call.Kill target (unwrap_or signal kill_signal))))
 
@@ -135,7 +135,7 @@ kill-class target signal bytes utf8 =
 
 -- ---- rename
 
-abbrev rename_by : List ℕ → Lookup → Asked
+abbrev rename_by : List ℕ → Lookup → Meaning
 rename_by target found =
     let name = unwrap_or (found (codes "name")) [] in
     ask (and_then (cond (is_name name) (Ok name) (Err (InvalidName name))) (λ name. Ok (call.Rename target name)))
@@ -156,7 +156,7 @@ rename-class target name bytes utf8 =
 
 -- ---- wait
 
-abbrev wait_by : List ℕ → Lookup → Asked
+abbrev wait_by : List ℕ → Lookup → Meaning
 wait_by target found =
     ask (and_then (or_fault BadCondition (read_condition (unwrap_or (found (codes "condition")) []))) (λ until. Ok (call.Wait target until)))
 
@@ -165,14 +165,14 @@ wait-class target bytes =
     let query = key (codes "condition") (codes "not-running") in
     named-class (codes "POST") Closes (codes "containers") (codes "wait" ∷ []) query [] to.Wait target wait-row bytes
     ∙ ap (λ found. or_refusal (by_name target (wait_by target found)))
-        (looked-up query (literal (codes "condition") refl, literal (codes "not-running") refl, tt))
+    (looked-up query (literal (codes "condition") refl, literal (codes "not-running") refl, tt))
 
 -- ---- remove
 
 abbrev is_set : List ℕ → Lookup → Bool
 is_set name found = query_bool (unwrap_or (found name) [])
 
-abbrev remove_by : List ℕ → Lookup → Asked
+abbrev remove_by : List ℕ → Lookup → Meaning
 remove_by target found =
     ask (cond (is_set (codes "link") found) (Err LinksLeftOut) (Ok (call.Remove target (is_set (codes "force") found))))
 

@@ -93,34 +93,82 @@ table-gives table h [] w = tt
 table-gives table h (name ∷ words) w = by-row table name words h w.1
 
 volumes-give : AreGiving volume_commands
-volumes-give =
-    (gives-one command.VolumeCreate (λ word u. u), (gives-one command.VolumeInspect (λ word u. u), (gives-one command.VolumeRemove (λ word u. u),
-    (gives-none command.VolumeList tt, tt))))
+volumes-give = (
+  gives-one command.VolumeCreate (λ word u. u),
+  (
+    gives-one command.VolumeInspect (λ word u. u),
+    (
+      gives-one command.VolumeRemove (λ word u. u),
+      (gives-none command.VolumeList tt, tt),
+    ),
+  ),
+)
 
 commands-give : AreGiving commands
-commands-give =
-    (gives-behind container_options create_in create-gives,
-    (gives-behind run_options run_in run-gives,
-    (gives-one command.Start (λ word u. u),
-    (gives-one command.Pause (λ word u. u),
-    (gives-one command.Unpause (λ word u. u),
-    (gives-behind stop_options stop_in (λ given h. gives-one (λ target. command.Stop target (value_of (codes "-t") given)) (λ word u. (u, value-good (codes "-t") given h))),
-    (gives-behind restart_options restart_in (λ given h. gives-one (λ target. command.Restart target (value_of (codes "-t") given)) (λ word u. (u, value-good (codes "-t") given h))),
-    (gives-behind kill_options kill_in (λ given h. gives-one (λ target. command.Kill target (value_of (codes "-s") given)) (λ word u. (u, value-good (codes "-s") given h))),
-    (gives-behind remove_options remove_in (λ given h. gives-one (λ target. command.Remove target (has_flag (codes "-f") given)) (λ word u. u)),
-    (gives-two command.Rename (λ word other u v. (u, v)),
-    (gives-behind list_options list_in (λ given h. gives-none (command.List (has_flag (codes "-a") given)) tt),
-    (gives-one command.Inspect (λ word u. u),
-    (gives-none command.Version tt,
-    (gives-behind logs_options logs_in (λ given h. gives-one (λ target. command.Logs target (has_flag (codes "-f") given)) (λ word u. u)),
-    (gives-one command.Attach (λ word u. u),
-    (gives-behind exec_options exec_in exec-gives,
-    (gives-one command.Wait (λ word u. u),
-    (gives-two command.Events (λ word other u v. (u, v)),
-    (gives-one command.Watch (λ word u. u),
-    (table-gives volume_commands volumes-give,
-    (gives-none command.Journal tt,
-    (gives-behind replay_options replay_in replay-gives, tt))))))))))))))))))))))
+commands-give = (
+  gives-behind container_options create_in create-gives,
+  (
+    gives-behind run_options run_in run-gives,
+    (
+      gives-one command.Start (λ word u. u),
+      (
+        gives-one command.Pause (λ word u. u),
+        (
+          gives-one command.Unpause (λ word u. u),
+          (
+            gives-behind stop_options stop_in (λ given h. gives-one (λ target. command.Stop target (value_of (codes "-t") given)) (λ word u. (u, value-good (codes "-t") given h))),
+            (
+              gives-behind restart_options restart_in (λ given h. gives-one (λ target. command.Restart target (value_of (codes "-t") given)) (λ word u. (u, value-good (codes "-t") given h))),
+              (
+                gives-behind kill_options kill_in (λ given h. gives-one (λ target. command.Kill target (value_of (codes "-s") given)) (λ word u. (u, value-good (codes "-s") given h))),
+                (
+                  gives-behind remove_options remove_in (λ given h. gives-one (λ target. command.Remove target (has_flag (codes "-f") given)) (λ word u. u)),
+                  (
+                    gives-two command.Rename (λ word other u v. (u, v)),
+                    (
+                      gives-behind list_options list_in (λ given h. gives-none (command.List (has_flag (codes "-a") given)) tt),
+                      (
+                        gives-one command.Inspect (λ word u. u),
+                        (
+                          gives-none command.Version tt,
+                          (
+                            gives-behind logs_options logs_in (λ given h. gives-one (λ target. command.Logs target (has_flag (codes "-f") given)) (λ word u. u)),
+                            (
+                              gives-one command.Attach (λ word u. u),
+                              (
+                                gives-behind exec_options exec_in exec-gives,
+                                (
+                                  gives-one command.Wait (λ word u. u),
+                                  (
+                                    gives-two command.Events (λ word other u v. (u, v)),
+                                    (
+                                      gives-one command.Watch (λ word u. u),
+                                      (
+                                        table-gives volume_commands volumes-give,
+                                        (
+                                          gives-none command.Journal tt,
+                                          (gives-behind replay_options replay_in replay-gives, tt),
+                                        ),
+                                      ),
+                                    ),
+                                  ),
+                                ),
+                              ),
+                            ),
+                          ),
+                        ),
+                      ),
+                    ),
+                  ),
+                ),
+              ),
+            ),
+          ),
+        ),
+      ),
+    ),
+  ),
+)
 
 abbrev IsLine : Line → Type 0
 IsLine line = HasTexts line.command

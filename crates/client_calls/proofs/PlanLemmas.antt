@@ -43,7 +43,7 @@ all-printed (line ∷ lines) verdict answers = writes-asks (to_out (line ++ code
 abbrev GoesBy : {A : Type 0} → (Answer → Plan) → Option Verdict → (Answer → Option A) → (A → List Answer → List Class) → Type 0
 GoesBy next verdict read after = (answer : Answer) (answers : List Answer) → classes (next answer) verdict answers ≡ option_map_or (λ x. after x answers) (read answer) []
 
-pub asked-first : {A : Type 0} (w : Written) (asked : Asked) (next : Answer → Plan) (verdict : Option Verdict) (says : class.Asked)
+pub asked-first : {A : Type 0} (w : Written) (asked : Asked) (next : Answer → Plan) (verdict : Option Verdict) (says : class.Meaning)
     (read : Answer → Option A) (after : A → List Answer → List Class) → class_of asked.request ≡ or_refusal says → GoesBy next verdict read after
     → (answers : List Answer) → classes (Asks w asked next) verdict answers ≡ then_by says read after answers
 asked-first w asked next verdict says read after same on [] = ap (λ c. c ∷ []) same
@@ -82,7 +82,7 @@ body-goes-by {A = A} read next verdict after on (Answered h body whole) answers 
     by false = refused whole body verdict answers
 
 -- it asks, and goes on by what is read of the body
-pub asks-calls : {A : Type 0} (request : Request) (read : List ℕ → Option A) (next : A → Plan) (verdict : Option Verdict) (says : class.Asked)
+pub asks-calls : {A : Type 0} (request : Request) (read : List ℕ → Option A) (next : A → Plan) (verdict : Option Verdict) (says : class.Meaning)
     (after : A → List Answer → List Class) → class_of request ≡ or_refusal says
     → ((x : A) (body : List ℕ) → read body ≡ Some x → (answers : List Answer) → classes (next x) verdict answers ≡ after x answers)
     → (answers : List Answer) → classes (asks request read next) verdict answers ≡ then_by says (body_by read) after answers
@@ -116,7 +116,7 @@ stream-goes-by shows may_end next verdict after on (Answered h body whole) answe
 
 -- it asks, writes what comes, and goes on behind it
 pub streams-calls : (shows : List ℕ → Written) (may_end : List ℕ → Bool) (request : Request) (input : Bool) (next : Plan) (verdict : Option Verdict)
-    (says : class.Asked) (after : List Answer → List Class) → class_of request ≡ or_refusal says
+    (says : class.Meaning) (after : List Answer → List Class) → class_of request ≡ or_refusal says
     → ((answers : List Answer) → classes next verdict answers ≡ after answers)
     → (answers : List Answer) → classes (streams shows may_end request input next) verdict answers ≡ then_by says (body_by (if_ended may_end)) (λ body. after) answers
 streams-calls shows may_end request input next verdict says after same on =
@@ -127,7 +127,7 @@ streams-calls shows may_end request input next verdict says after same on =
 -- ---- one request
 
 -- nothing is asked behind it
-pub none-behind : {A : Type 0} (says : class.Asked) (read : Answer → Option A) (answers : List Answer) → then_by says read (λ x answers. []) answers ≡ once says
+pub none-behind : {A : Type 0} (says : class.Meaning) (read : Answer → Option A) (answers : List Answer) → then_by says read (λ x answers. []) answers ≡ once says
 none-behind {A = A} says read [] = refl
 none-behind {A = A} says read (answer ∷ answers) = by (read answer)
   where
@@ -135,14 +135,14 @@ none-behind {A = A} says read (answer ∷ answers) = by (read answer)
     by None = refl
     by (Some x) = refl
 
-pub asks-once : {A : Type 0} (request : Request) (read : List ℕ → Option A) (next : A → Plan) (verdict : Option Verdict) (says : class.Asked)
+pub asks-once : {A : Type 0} (request : Request) (read : List ℕ → Option A) (next : A → Plan) (verdict : Option Verdict) (says : class.Meaning)
     → class_of request ≡ or_refusal says → ((x : A) → AsksNone (next x))
     → (answers : List Answer) → classes (asks request read next) verdict answers ≡ once says
 asks-once request read next verdict says same none answers =
     asks-calls request read next verdict says (λ x answers. []) same (λ x body found. none x verdict) answers ∙ none-behind says (body_by read) answers
 
 pub streams-once : (shows : List ℕ → Written) (may_end : List ℕ → Bool) (request : Request) (input : Bool) (next : Plan) (verdict : Option Verdict)
-    (says : class.Asked) → class_of request ≡ or_refusal says → AsksNone next
+    (says : class.Meaning) → class_of request ≡ or_refusal says → AsksNone next
     → (answers : List Answer) → classes (streams shows may_end request input next) verdict answers ≡ once says
 streams-once shows may_end request input next verdict says same none answers =
     streams-calls shows may_end request input next verdict says (λ answers. []) same (none verdict) answers ∙ none-behind says (body_by (if_ended may_end)) answers

@@ -16,18 +16,18 @@ use Rattle.api_routes.specs.declared.method.Method.{Method}
 use Rattle.api_routes.specs.declared.route.Route.{Route}
 use Rattle.client_model.specs.declared.manner.Manner.{Manner}
 use Rattle.client_model.specs.Requests.{path_text, query_text, Query, request_of}
-use Rattle.client_calls.specs.Classes.{Asked, by_name}
+use Rattle.client_calls.specs.Classes.{Meaning, by_name}
 use Rattle.client_calls.proofs.ByteLemmas.{utf8-bytes}
 use Rattle.client_calls.proofs.EscapeLemmas.{escaped, escaped-well, escaped-decoded, escaped-full}
 use Rattle.client_calls.proofs.FormLemmas.{form}
 use Rattle.client_calls.proofs.PathLemmas.{path-segments, target-path, target-query}
 
 -- what a route reads of a request, by the name in its path
-abbrev pub read_by : Query → List ℕ → Bool → Route → List ℕ → Asked
+abbrev pub read_by : Query → List ℕ → Bool → Route → List ℕ → Meaning
 read_by query body upgrade route name = route_class route (record { name = name; query = form query; body = body; upgrade = upgrade })
 
 -- what the route of these segments reads
-abbrev routed : Option Method → (Route → List ℕ → Asked) → List (List ℕ) → Asked
+abbrev routed : Option Method → (Route → List ℕ → Meaning) → List (List ℕ) → Meaning
 routed m read ss = and_then (or_not_found (route_for m ss)) (λ route. and_then (parameter_of ss) (read route))
 
 -- the class of a request is what the route of its segments reads, each escaped
@@ -55,12 +55,12 @@ pub record IsRow (m : Option Method) (front : List ℕ) (behind : List (List ℕ
   pub none : route_for m (front ∷ [] ∷ behind) ≡ None
   pub some : (c : ℕ) (rest : List ℕ) → route_for m (front ∷ (c ∷ rest) ∷ behind) ≡ Some route
 
-by-text : (b : Bool) (name : List ℕ) (read : List ℕ → Asked) → and_then (cond b (Ok name) (Err BadPath)) read ≡ cond b (read name) (Err BadPath)
+by-text : (b : Bool) (name : List ℕ) (read : List ℕ → Meaning) → and_then (cond b (Ok name) (Err BadPath)) read ≡ cond b (read name) (Err BadPath)
 by-text true name read = refl
 by-text false name read = refl
 
 pub routed-by-name : (m : Option Method) (front : List ℕ) (behind : List (List ℕ)) (route : Route) (name : List ℕ)
-    (read : Route → List ℕ → Asked) → IsRow m front behind route → All IsByte name
+    (read : Route → List ℕ → Meaning) → IsRow m front behind route → All IsByte name
     → routed m read (front ∷ escaped name ∷ behind) ≡ by_name name (read route name)
 routed-by-name m front behind route [] read row bytes =
     ap (λ found. and_then (or_not_found found) (λ r. and_then (parameter_of (front ∷ [] ∷ behind)) (read r))) row.none
@@ -74,7 +74,7 @@ routed-by-name m front behind route (b ∷ s) read row bytes =
 -- ---- a path whose second segment is a word of the table
 
 pub routed-by-word : (m : Option Method) (front : List ℕ) (behind : List (List ℕ)) (route : Route) (word : List ℕ)
-    (read : Route → List ℕ → Asked) → route_for m (front ∷ escaped word ∷ behind) ≡ Some route → IsUtf8 word
+    (read : Route → List ℕ → Meaning) → route_for m (front ∷ escaped word ∷ behind) ≡ Some route → IsUtf8 word
     → routed m read (front ∷ escaped word ∷ behind) ≡ read route word
 routed-by-word m front behind route word read found utf8 =
     ap (λ r. and_then (or_not_found r) (λ r. and_then (parameter_of (front ∷ escaped word ∷ behind)) (read r))) found

@@ -23,7 +23,7 @@ named-class method manner front behind query body route name row bytes =
     let path = front ∷ name ∷ behind in
     class-routed method manner path query body
     ∙ ap or_refusal (routed-by-name (method_of method) (escaped front) (map escaped behind) route name
-        (read_by query body (asks_upgrade (request_of method manner path query body))) row bytes)
+    (read_by query body (asks_upgrade (request_of method manner path query body))) row bytes)
 
 -- the class of a request whose path has words of the table alone
 pub worded-class : (method : List ℕ) (manner : Manner) (front word : List ℕ) (query : Query) (body : List ℕ) (route : Route)
@@ -34,7 +34,7 @@ worded-class method manner front word query body route found utf8 =
     let path = front ∷ word ∷ [] in
     class-routed method manner path query body
     ∙ ap or_refusal (routed-by-word (method_of method) (escaped front) [] route word
-        (read_by query body (asks_upgrade (request_of method manner path query body))) found utf8)
+    (read_by query body (asks_upgrade (request_of method manner path query body))) found utf8)
 
 -- a row that is shorter fits no more
 shorter : (v : Bool) (to : Route) (o : Option Route) → cond (v && false) (Some to) o ≡ o

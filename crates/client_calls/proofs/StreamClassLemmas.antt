@@ -31,7 +31,7 @@ use Rattle.client_model.specs.Commands.VolumeInspect.{volume_inspect_request}
 use Rattle.client_model.specs.Commands.VolumeRemove.{volume_remove_request}
 use Rattle.client_model.specs.Commands.VolumeList.{volume_list_request}
 use Rattle.client_calls.specs.Classes as class
-use Rattle.client_calls.specs.Classes.{Asked, by_name}
+use Rattle.client_calls.specs.Classes.{Meaning, by_name}
 use Rattle.client_calls.proofs.FormLemmas.{AreTexts}
 use Rattle.client_calls.proofs.RequestLemmas.{class-routed}
 use Rattle.client_calls.proofs.RowLemmas.{named-class, worded-class, logs-row, attach-row, exec-start-row, exec-inspect-row, volume-inspect-row, volume-remove-row}
@@ -51,22 +51,22 @@ one = literal (codes "1") refl
 
 -- ---- logs
 
-abbrev logs_by : List ℕ → Lookup → Asked
+abbrev logs_by : List ℕ → Lookup → Meaning
 logs_by target found =
     in_chunks (and_then (cond (is_set (codes "stdout") found || is_set (codes "stderr") found)
-        (and_then (optional_time (found (codes "since"))) (λ since.
-        and_then (optional_time (found (codes "until"))) (λ until.
-        and_then (or_fault BadTail (read_tail (unwrap_or (found (codes "tail")) []))) (λ tail.
-        Ok (record {
-          follow = is_set (codes "follow") found;
-          out = is_set (codes "stdout") found;
-          err = is_set (codes "stderr") found;
-          stamps = is_set (codes "timestamps") found;
-          tail = tail;
-          least = unwrap_or since 0;
-          greatest = end_of until;
-        })))))
-        (Err NoStream))
+    (and_then (optional_time (found (codes "since"))) (λ since.
+    and_then (optional_time (found (codes "until"))) (λ until.
+    and_then (or_fault BadTail (read_tail (unwrap_or (found (codes "tail")) []))) (λ tail.
+    Ok (record {
+      follow = is_set (codes "follow") found;
+      out = is_set (codes "stdout") found;
+      err = is_set (codes "stderr") found;
+      stamps = is_set (codes "timestamps") found;
+      tail = tail;
+      least = unwrap_or since 0;
+      greatest = end_of until;
+    })))))
+    (Err NoStream))
     (λ ask. Ok (call.Logs target ask)))
 
 logs-given : (target : List ℕ) (follow : Bool)
@@ -88,7 +88,7 @@ logs-class target follow bytes =
 
 -- ---- attach
 
-abbrev attach_by : List ℕ → Bool → Lookup → Asked
+abbrev attach_by : List ℕ → Bool → Lookup → Meaning
 attach_by target upgrade found = Ok (Stream (call.Attach target (record {
   logs = is_set (codes "logs") found;
   stream = is_set (codes "stream") found;
@@ -103,9 +103,19 @@ attach-given target true = refl
 attach-given target false = refl
 
 attach-texts : (input : Bool) → AreTexts (attach_query ++ key_set (codes "stdin") input)
-attach-texts true =
-    (literal (codes "logs") refl, one, (literal (codes "stream") refl, one, (literal (codes "stdout") refl, one,
-    (literal (codes "stderr") refl, one, (literal (codes "stdin") refl, one, tt)))))
+attach-texts true = (
+  literal (codes "logs") refl,
+  one,
+  (
+    literal (codes "stream") refl,
+    one,
+    (
+      literal (codes "stdout") refl,
+      one,
+      (literal (codes "stderr") refl, one, (literal (codes "stdin") refl, one, tt)),
+    ),
+  ),
+)
 attach-texts false =
     (literal (codes "logs") refl, one, (literal (codes "stream") refl, one, (literal (codes "stdout") refl, one, (literal (codes "stderr") refl, one, tt))))
 
@@ -124,7 +134,7 @@ pub exec-start-class : (id : List ℕ) → All IsByte id → class_of (exec_star
 exec-start-class id bytes =
     named-class (codes "POST") Upgrades (codes "exec") (codes "start" ∷ []) [] [] to.ExecStart id exec-start-row bytes
     ∙ ap (λ upgrade. or_refusal (by_name id (and_then (of_body (exec_start_of [])) (λ detach. Ok (exec_start_class id upgrade detach)))))
-        (upgrades (exec_path id (codes "start")) [])
+    (upgrades (exec_path id (codes "start")) [])
     ∙ ap (λ r. or_refusal (by_name id (and_then (of_body r) (λ detach. Ok (exec_start_class id true detach))))) exec-start-read
 
 pub exec-inspect-class : (id : List ℕ) → All IsByte id → class_of (exec_inspect_request id) ≡ or_refusal (class.exec_inspect id)
@@ -153,7 +163,7 @@ volume-list-class =
 pub journal-class : class_of journal_request ≡ or_refusal class.journal
 journal-class = worded-class (codes "GET") Closes (codes "engine") (codes "journal") [] [] to.Journal refl (literal (codes "journal") refl)
 
-abbrev list_by : Lookup → Asked
+abbrev list_by : Lookup → Meaning
 list_by found =
     ask (and_then (optional_limit (found (codes "limit"))) (λ limit.
     and_then (of_body (filter_of list_keys (unwrap_or (found (codes "filters")) []))) (λ filter.
@@ -171,7 +181,7 @@ list-class all =
     ∙ ap (λ found. or_refusal (list_by found)) (looked-up query (key-set-texts (codes "all") all refl))
     ∙ ap or_refusal (list-given all)
 
-abbrev events_by : Lookup → Asked
+abbrev events_by : Lookup → Meaning
 events_by found =
     in_chunks (and_then (optional_time (found (codes "since"))) (λ since.
     and_then (optional_time (found (codes "until"))) (λ until.

@@ -110,8 +110,11 @@ is_colon b = b == 58
 before-good : (word : List ℕ) → IsUtf8 word → IsUtf8 (before_first is_colon word)
 before-good word u =
     let place = position_or_len is_colon word in
-    let boundary : IsCharBoundary word place = (prefix_len-le-length (λ b. not (is_colon b)) word, λ inside high.
-      let colon : get_or word place 0 ≡ 58 = eqb-true (get_or word place 0) 58 (passes_at_first is_colon word 0 inside) in omega arith) in
+    let boundary : IsCharBoundary word place = (
+      prefix_len-le-length (λ b. not (is_colon b)) word,
+      λ inside high.
+          let colon : get_or word place 0 ≡ 58 = eqb-true (get_or word place 0) 58 (passes_at_first is_colon word 0 inside) in omega arith,
+    ) in
     IsUtf8-take word place u boundary
 
 policy-good : (word : List ℕ) → IsUtf8 word → IfSome (read_policy word) IsRestart

@@ -33,13 +33,13 @@ use Rattle.client_model.specs.declared.command.NewContainer.{NewContainer}
 use Rattle.client_model.specs.declared.command.Restart.{Restart}
 
 -- a call, or the fault of a word
-abbrev pub Asked : Type 0
-Asked = Result Class Fault
+abbrev pub Meaning : Type 0
+Meaning = Result Class Fault
 
 -- what is asked by the name of a container, an exec or a volume: the empty word names nothing, and a name is a text
-abbrev pub by_name : List ℕ → Asked → Asked
-by_name [] asked = Err PageNotFound
-by_name (b ∷ bs) asked = if is_utf8 (b ∷ bs) then asked else Err BadPath
+abbrev pub by_name : List ℕ → Meaning → Meaning
+by_name [] meaning = Err PageNotFound
+by_name (b ∷ bs) meaning = if is_utf8 (b ∷ bs) then meaning else Err BadPath
 
 -- ---- create
 
@@ -64,7 +64,7 @@ container_spec c mounts policy name = record {
 }
 
 -- the volumes, then the policy, then the name must be ones that are taken
-abbrev pub create : NewContainer → Asked
+abbrev pub create : NewContainer → Meaning
 create c =
     ask (and_then (of_body (add_binds [] c.binds)) (λ mounts.
     and_then (of_body (policy_in c.restart)) (λ policy.
@@ -73,42 +73,42 @@ create c =
 
 -- ---- one container
 
-abbrev pub start : List ℕ → Asked
+abbrev pub start : List ℕ → Meaning
 start target = by_name target (Ok (Ask (call.Start target)))
 
-abbrev pub pause : List ℕ → Asked
+abbrev pub pause : List ℕ → Meaning
 pause target = by_name target (Ok (Ask (call.Pause target)))
 
-abbrev pub unpause : List ℕ → Asked
+abbrev pub unpause : List ℕ → Meaning
 unpause target = by_name target (Ok (Ask (call.Unpause target)))
 
 -- N is -1 or a number of seconds
-abbrev pub stop : List ℕ → Option (List ℕ) → Asked
+abbrev pub stop : List ℕ → Option (List ℕ) → Meaning
 stop target seconds =
     by_name target (ask (and_then (optional_seconds seconds) (λ wait. Ok (call.Stop target wait None))))
 
-abbrev pub restart : List ℕ → Option (List ℕ) → Asked
+abbrev pub restart : List ℕ → Option (List ℕ) → Meaning
 restart target seconds =
     by_name target (ask (and_then (optional_seconds seconds) (λ wait. Ok (call.Restart target wait None))))
 
 -- SIG is a signal's number or name; SIGKILL where it isn't given
-abbrev pub kill : List ℕ → Option (List ℕ) → Asked
+abbrev pub kill : List ℕ → Option (List ℕ) → Meaning
 kill target signal =
     by_name target (ask (and_then (optional_signal (unwrap_or signal [])) (λ given.
     Ok (call.Kill target (unwrap_or given kill_signal)))))
 
-abbrev pub remove : List ℕ → Bool → Asked
+abbrev pub remove : List ℕ → Bool → Meaning
 remove target force = by_name target (Ok (Ask (call.Remove target force)))
 
-abbrev pub rename : List ℕ → List ℕ → Asked
+abbrev pub rename : List ℕ → List ℕ → Meaning
 rename target name =
     by_name target (if is_name name then Ok (Ask (call.Rename target name)) else Err (InvalidName name))
 
-abbrev pub inspect : List ℕ → Asked
+abbrev pub inspect : List ℕ → Meaning
 inspect target = by_name target (Ok (Ask (call.Inspect target)))
 
 -- until it runs no more
-abbrev pub wait : List ℕ → Asked
+abbrev pub wait : List ℕ → Meaning
 wait target = by_name target (Ok (Ask (call.Wait target NotRunning)))
 
 -- ---- output of a container
@@ -116,61 +116,67 @@ wait target = by_name target (Ok (Ask (call.Wait target NotRunning)))
 -- all records of both streams
 abbrev pub all_records : Bool → LogAsk
 all_records follow = record {
-  follow = follow; out = true; err = true; stamps = false; tail = None; least = 0; greatest = far;
+  follow = follow;
+  out = true;
+  err = true;
+  stamps = false;
+  tail = None;
+  least = 0;
+  greatest = far;
 }
 
-abbrev pub logs : List ℕ → Bool → Asked
+abbrev pub logs : List ℕ → Bool → Meaning
 logs target follow = by_name target (Ok (Stream (call.Logs target (all_records follow)) takes.None))
 
 -- both streams, what was written and what is written until the end
 abbrev pub both_streams : Bool → AttachAsk
 both_streams input = record { logs = true; stream = true; stdin = input; out = true; err = true }
 
-abbrev pub attach : List ℕ → Bool → Asked
+abbrev pub attach : List ℕ → Bool → Meaning
 attach target input = by_name target (Ok (Stream (call.Attach target (both_streams input)) takes.Upgrade))
 
 -- ---- exec
 
 -- both outputs are attached
-abbrev pub exec_create : List ℕ → List (List ℕ) → Bool → Asked
+abbrev pub exec_create : List ℕ → List (List ℕ) → Bool → Meaning
 exec_create target words input =
     by_name target (ask (and_then (of_body (not_empty words)) (λ given.
     Ok (call.ExecCreate target given input true true))))
 
-abbrev pub exec_start : List ℕ → Asked
+abbrev pub exec_start : List ℕ → Meaning
 exec_start id = by_name id (Ok (Stream (call.ExecStart id false) takes.Upgrade))
 
-abbrev pub exec_inspect : List ℕ → Asked
+abbrev pub exec_inspect : List ℕ → Meaning
 exec_inspect id = by_name id (Ok (Ask (call.ExecInspect id)))
 
 -- ---- volumes
 
-abbrev pub volume_create : List ℕ → Asked
+abbrev pub volume_create : List ℕ → Meaning
 volume_create name = ask (and_then (of_body (volume_named name)) (λ given. Ok (call.VolumeCreate given [])))
 
-abbrev pub volume_inspect : List ℕ → Asked
+abbrev pub volume_inspect : List ℕ → Meaning
 volume_inspect name = by_name name (Ok (Ask (call.VolumeInspect name)))
 
-abbrev pub volume_remove : List ℕ → Asked
+abbrev pub volume_remove : List ℕ → Meaning
 volume_remove name = by_name name (Ok (Ask (call.VolumeRemove name)))
 
-abbrev pub volume_list : Asked
+abbrev pub volume_list : Meaning
 volume_list = Ok (Ask (call.VolumeList []))
 
 -- ---- the daemon
 
-abbrev pub containers : Bool → Asked
+abbrev pub containers : Bool → Meaning
 containers all = Ok (Ask (call.List all None []))
 
-abbrev pub version : Asked
+abbrev pub version : Meaning
 version = Ok (fixed version_body Json)
 
 -- SINCE and UNTIL are times
-abbrev pub events : List ℕ → List ℕ → Asked
+abbrev pub events : List ℕ → List ℕ → Meaning
 events since until =
     in_chunks (and_then (optional_time (Some since)) (λ from.
     and_then (optional_time (Some until)) (λ to.
     Ok (call.Events from to []))))
 
-abbrev pub journal : Asked
+abbrev pub journal : Meaning
 journal = Ok (Stream call.JournalRead takes.None)

@@ -12,7 +12,7 @@ use Rattle.client_model.specs.declared.command.NewContainer.{NewContainer}
 use Rattle.client_model.specs.declared.command.Command.{Command}
 use Rattle.client_model.specs.declared.command.Command.TheVariants as command
 use Rattle.client_calls.specs.Classes as class
-use Rattle.client_calls.specs.Classes.{Asked}
+use Rattle.client_calls.specs.Classes.{Meaning}
 
 -- ---- by which answers a command goes on
 
@@ -32,14 +32,14 @@ frames = body_by (λ body. if ends_frames body then Some body else None)
 -- ---- requests in order
 
 -- one request
-abbrev pub once : Asked → List Class
-once asked = or_refusal asked ∷ []
+abbrev pub once : Meaning → List Class
+once meaning = or_refusal meaning ∷ []
 
 -- a request, and then, once its answer came and the command goes on by it, those behind it
-abbrev pub then_by : {A : Type 0} → Asked → (Answer → Option A) → (A → List Answer → List Class) → List Answer → List Class
-then_by asked read next [] = or_refusal asked ∷ []
-then_by asked read next (answer ∷ answers) =
-    or_refusal asked ∷ option_map_or (λ x. next x answers) (read answer) []
+abbrev pub then_by : {A : Type 0} → Meaning → (Answer → Option A) → (A → List Answer → List Class) → List Answer → List Class
+then_by meaning read next [] = or_refusal meaning ∷ []
+then_by meaning read next (answer ∷ answers) =
+    or_refusal meaning ∷ option_map_or (λ x. next x answers) (read answer) []
 
 -- create, start, attach, wait, and with `--rm` remove
 abbrev pub run_calls : NewContainer → Bool → List Answer → List Class
