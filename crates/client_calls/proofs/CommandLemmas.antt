@@ -43,21 +43,20 @@ use Rattle.client_model.specs.declared.command.NewContainer.{NewContainer}
 use Rattle.client_model.specs.declared.command.Command.{Command}
 use Rattle.client_model.specs.declared.command.Command.TheVariants as command
 use Rattle.client_model.specs.declared.fault.Fault.TheVariants as F
-use Rattle.api_routes.specs.declared.class.Class.{Class}
 use Rattle.client_calls.specs.Classes as class
-use Rattle.client_calls.specs.Table.{body_by, any_body, frames, once, then_by, run_calls, exec_calls, calls_of}
+use Rattle.client_calls.specs.Table.{Entry, alone, fed, body_by, any_body, frames, once, then_by, run_calls, exec_calls, calls_of}
 use Rattle.client_calls.specs.Texts.{IsContainer, HasTexts}
 use Rattle.client_calls.proofs.ByteLemmas.{utf8-bytes}
 use Rattle.client_calls.proofs.IdLemmas.{id-bytes}
 use Rattle.client_calls.proofs.ClassLemmas.{literal, start-class, pause-class, unpause-class, stop-class, restart-class, kill-class, remove-class, rename-class, inspect-class, wait-class}
 use Rattle.client_calls.proofs.StreamClassLemmas.{logs-class, attach-class, exec-start-class, exec-inspect-class, events-class, journal-class, list-class, version-class, volume-inspect-class, volume-remove-class, volume-list-class}
 use Rattle.client_calls.proofs.BodyClassLemmas.{create-class, exec-create-class, volume-create-class}
-use Rattle.client_calls.proofs.PlanLemmas.{classes, AsksNone, all-printed, asked-first, asks-calls, streams-calls, none-behind, asks-once, streams-once, refused}
+use Rattle.client_calls.proofs.PlanLemmas.{entries, AsksNone, all-printed, asked-first, asks-calls, streams-calls, none-behind, asks-once, streams-once, refused, same-entry}
 
 -- ---- run
 
 removed : (remove : Bool) (id : List ℕ) (code : ℕ) (verdict : Option Verdict) (answers : List Answer) → All IsByte id
-    → classes (removes remove id (ends code)) verdict answers ≡ cond remove (once (class.remove id false)) []
+    → entries (removes remove id (ends code)) verdict answers ≡ cond remove (once (class.remove id false)) []
 removed true id code verdict answers bytes =
     asks-once (remove_request id false) Some (λ body. ends code) verdict (class.remove id false) (remove-class id false bytes) (λ body v a. refl) answers
 removed false id code verdict answers bytes = refl
@@ -66,41 +65,41 @@ removed false id code verdict answers bytes = refl
 abbrev waits : Bool → List ℕ → Plan
 waits remove id = asks (wait_request id) status_code_in (λ code. removes remove id (ends code))
 
-abbrev wait_calls : Bool → List ℕ → List Answer → List Class
-wait_calls remove id = then_by (class.wait id) (body_by status_code_in) (λ code answers. cond remove (once (class.remove id false)) [])
+abbrev wait_calls : Bool → List ℕ → List Answer → List Entry
+wait_calls remove id = then_by (alone (class.wait id)) (body_by status_code_in) (λ code answers. cond remove (once (class.remove id false)) [])
 
 abbrev attaches : Bool → Bool → List ℕ → Plan
 attaches input remove id = follows (attach_request id input) input (waits remove id)
 
-abbrev attach_calls : Bool → Bool → List ℕ → List Answer → List Class
-attach_calls input remove id = then_by (class.attach id input) frames (λ streams. wait_calls remove id)
+abbrev attach_calls : Bool → Bool → List ℕ → List Answer → List Entry
+attach_calls input remove id = then_by (fed input (class.attach id input)) frames (λ streams. wait_calls remove id)
 
 abbrev starts : Bool → Bool → List ℕ → Plan
 starts input remove id = asks (start_request id) Some (λ body. attaches input remove id)
 
-abbrev start_calls : Bool → Bool → List ℕ → List Answer → List Class
-start_calls input remove id = then_by (class.start id) any_body (λ body. attach_calls input remove id)
+abbrev start_calls : Bool → Bool → List ℕ → List Answer → List Entry
+start_calls input remove id = then_by (alone (class.start id)) any_body (λ body. attach_calls input remove id)
 
 waited : (remove : Bool) (id : List ℕ) (verdict : Option Verdict) → All IsByte id → (answers : List Answer)
-    → classes (waits remove id) verdict answers ≡ wait_calls remove id answers
+    → entries (waits remove id) verdict answers ≡ wait_calls remove id answers
 waited remove id verdict bytes =
     asks-calls (wait_request id) status_code_in (λ code. removes remove id (ends code)) verdict (class.wait id)
     (λ code answers. cond remove (once (class.remove id false)) []) (wait-class id bytes) (λ code body found answers. removed remove id code verdict answers bytes)
 
 attached : (input remove : Bool) (id : List ℕ) (verdict : Option Verdict) → All IsByte id → (answers : List Answer)
-    → classes (attaches input remove id) verdict answers ≡ attach_calls input remove id answers
+    → entries (attaches input remove id) verdict answers ≡ attach_calls input remove id answers
 attached input remove id verdict bytes =
     streams-calls payloads_of ends_frames (attach_request id input) input (waits remove id) verdict (class.attach id input)
     (wait_calls remove id) (attach-class id input bytes) (waited remove id verdict bytes)
 
 started : (input remove : Bool) (id : List ℕ) (verdict : Option Verdict) → All IsByte id → (answers : List Answer)
-    → classes (starts input remove id) verdict answers ≡ start_calls input remove id answers
+    → entries (starts input remove id) verdict answers ≡ start_calls input remove id answers
 started input remove id verdict bytes =
     asks-calls (start_request id) Some (λ body. attaches input remove id) verdict (class.start id)
     (λ body. attach_calls input remove id) (start-class id bytes) (λ body text found. attached input remove id verdict bytes)
 
 run-calls : (c : NewContainer) (remove : Bool) (verdict : Option Verdict) → IsContainer c → (answers : List Answer)
-    → classes (run_plan c remove) verdict answers ≡ run_calls c remove answers
+    → entries (run_plan c remove) verdict answers ≡ run_calls c remove answers
 run-calls c remove verdict h =
     asks-calls (create_request c) id_in (starts c.input remove) verdict (class.create c) (start_calls c.input remove) (create-class c h)
     (λ id body found. started c.input remove id verdict (id-bytes body id found))
@@ -111,7 +110,7 @@ abbrev inspects : List ℕ → Plan
 inspects id = asks (exec_inspect_request id) exit_code_in (λ code. option_map_or ends code (fails F.NoCode))
 
 inspected : (id : List ℕ) (verdict : Option Verdict) → All IsByte id → (answers : List Answer)
-    → classes (inspects id) verdict answers ≡ once (class.exec_inspect id)
+    → entries (inspects id) verdict answers ≡ once (class.exec_inspect id)
 inspected id verdict bytes =
     asks-once (exec_inspect_request id) exit_code_in (λ code. option_map_or ends code (fails F.NoCode)) verdict (class.exec_inspect id)
     (exec-inspect-class id bytes) none
@@ -123,19 +122,19 @@ inspected id verdict bytes =
 abbrev executes : Bool → List ℕ → Plan
 executes input id = follows (exec_start_request id) input (inspects id)
 
-abbrev execute_calls : List ℕ → List Answer → List Class
-execute_calls id = then_by (class.exec_start id) frames (λ streams answers. once (class.exec_inspect id))
+abbrev execute_calls : Bool → List ℕ → List Answer → List Entry
+execute_calls input id = then_by (fed input (class.exec_start id)) frames (λ streams answers. once (class.exec_inspect id))
 
 executed : (input : Bool) (id : List ℕ) (verdict : Option Verdict) → All IsByte id → (answers : List Answer)
-    → classes (executes input id) verdict answers ≡ execute_calls id answers
+    → entries (executes input id) verdict answers ≡ execute_calls input id answers
 executed input id verdict bytes =
     streams-calls payloads_of ends_frames (exec_start_request id) input (inspects id) verdict (class.exec_start id)
     (λ answers. once (class.exec_inspect id)) (exec-start-class id bytes) (inspected id verdict bytes)
 
 exec-calls : (target : List ℕ) (words : List (List ℕ)) (input : Bool) (verdict : Option Verdict) → IsUtf8 target → AreWordsUtf8 words
-    → (answers : List Answer) → classes (exec_plan target words input) verdict answers ≡ exec_calls target words input answers
+    → (answers : List Answer) → entries (exec_plan target words input) verdict answers ≡ exec_calls target words input answers
 exec-calls target words input verdict t w =
-    asks-calls (exec_create_request target words input) id_in (executes input) verdict (class.exec_create target words input) execute_calls
+    asks-calls (exec_create_request target words input) id_in (executes input) verdict (class.exec_create target words input) (execute_calls input)
     (exec-create-class target words input (utf8-bytes target t) w) (λ id body found. executed input id verdict (id-bytes body id found))
 
 -- ---- watch
@@ -151,7 +150,7 @@ watch-on : (answer : Answer) → AsksNone (by_answer (λ h body whole. watched (
 watch-on NoHead verdict answers = refl
 watch-on (Answered h body whole) verdict answers = by (nat_lt h.status 400)
   where
-    by : (t : Bool) → classes (cond t (watched (first_in h.form) (if_whole whole (events_in body))) (goes_on (λ message. fails (F.Refused message)) (if_whole whole (message_in body)))) verdict answers ≡ []
+    by : (t : Bool) → entries (cond t (watched (first_in h.form) (if_whole whole (events_in body))) (goes_on (λ message. fails (F.Refused message)) (if_whole whole (message_in body)))) verdict answers ≡ []
     by true = watched-none (first_in h.form) (if_whole whole (events_in body)) verdict answers
     by false = refused whole body verdict answers
 
@@ -160,11 +159,11 @@ abbrev nothing_read : Answer → Option (List ℕ)
 nothing_read answer = None
 
 watch-calls : (until : List ℕ) (verdict : Option Verdict) → IsUtf8 until → (answers : List Answer)
-    → classes (watch_plan until) verdict answers ≡ once (class.events (codes "0") until)
+    → entries (watch_plan until) verdict answers ≡ once (class.events (codes "0") until)
 watch-calls until verdict utf8 answers =
     asked-first nothing (record { request = events_request (codes "0") until; input = false })
-    (by_answer (λ h body whole. watched (first_in h.form) (if_whole whole (events_in body)))) verdict (class.events (codes "0") until)
-    nothing_read (λ x answers. []) (events-class (codes "0") until (literal (codes "0") refl) utf8) (λ answer answers. watch-on answer verdict answers) answers
+    (by_answer (λ h body whole. watched (first_in h.form) (if_whole whole (events_in body)))) verdict (alone (class.events (codes "0") until))
+    nothing_read (λ x answers. []) (same-entry (events_request (codes "0") until) false (class.events (codes "0") until) (events-class (codes "0") until (literal (codes "0") refl) utf8)) (λ answer answers. watch-on answer verdict answers) answers
     ∙ none-behind (class.events (codes "0") until) nothing_read answers
 
 -- ---- replay
@@ -181,7 +180,7 @@ replay-none seed moment (Some verdict) answers = judged-none verdict None answer
 -- ---- the table
 
 pub plan-calls : (c : Command) → HasTexts c → (verdict : Option Verdict) (answers : List Answer)
-    → classes (plan_of c) verdict answers ≡ calls_of c answers
+    → entries (plan_of c) verdict answers ≡ calls_of c answers
 plan-calls (command.Create c) h verdict =
     asks-once (create_request c) id_in (λ id. prints id done) verdict (class.create c) (create-class c h) (λ id v a. refl)
 plan-calls (command.Run c remove) h verdict = run-calls c remove verdict h
@@ -213,17 +212,17 @@ plan-calls (command.Inspect target) h verdict =
 plan-calls command.Version h verdict =
     asks-once version_request Some (λ body. prints body done) verdict class.version version-class (λ body v a. refl)
 plan-calls (command.Logs target follow) h verdict =
-    streams-once payloads_of ends_frames (logs_request target follow) false done verdict (class.logs target follow)
+    streams-once payloads_of ends_frames (logs_request target follow) done verdict (class.logs target follow)
     (logs-class target follow (utf8-bytes target h)) (λ v a. refl)
 plan-calls (command.Attach target) h verdict =
-    streams-once payloads_of ends_frames (attach_request target false) false done verdict (class.attach target false)
+    streams-once payloads_of ends_frames (attach_request target false) done verdict (class.attach target false)
     (attach-class target false (utf8-bytes target h)) (λ v a. refl)
 plan-calls (command.Exec target words input) h verdict = exec-calls target words input verdict h.0 h.1
 plan-calls (command.Wait target) h verdict =
     asks-once (wait_request target) status_code_in (λ code. prints (decimal code) done) verdict (class.wait target)
     (wait-class target (utf8-bytes target h)) (λ code v a. refl)
 plan-calls (command.Events since until) h verdict =
-    streams-once to_out ends_text (events_request since until) false done verdict (class.events since until)
+    streams-once to_out ends_text (events_request since until) done verdict (class.events since until)
     (events-class since until h.0 h.1) (λ v a. refl)
 plan-calls (command.Watch until) h verdict = watch-calls until verdict h
 plan-calls (command.VolumeCreate name) h verdict =
@@ -237,5 +236,5 @@ plan-calls (command.VolumeRemove name) h verdict =
 plan-calls command.VolumeList h verdict =
     asks-once volume_list_request volume_names_in (λ names. prints_all names done) verdict class.volume_list volume-list-class all-printed
 plan-calls command.Journal h verdict =
-    streams-once to_out ends_text journal_request false done verdict class.journal journal-class (λ v a. refl)
+    streams-once to_out ends_text journal_request done verdict class.journal journal-class (λ v a. refl)
 plan-calls (command.Replay seed moment) h verdict = replay-none seed moment verdict

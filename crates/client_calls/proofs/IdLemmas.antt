@@ -14,7 +14,7 @@ use Rattle.serde_json.specs.Read.{number_of, of_json, of_items, of_members, max_
 use Rattle.serde_json.specs.Find.{get, get_member, as_str}
 use Rattle.json_laws.specs.Text.{data_of}
 use Rattle.api_json.specs.Event.{text_at}
-use Rattle.client_model.specs.Bodies.{id_in}
+use Rattle.client_model.specs.Bodies.{text_in, id_in}
 use Rattle.client_calls.proofs.ByteLemmas.{utf8-bytes}
 use Rattle.client_calls.proofs.JsonByteLemmas.{Bytes, then-good, map-good}
 use Rattle.client_calls.proofs.TokenLemmas.{tokens-good, IsJson, AreItems, AreMembers, Read, value-good}
@@ -116,8 +116,12 @@ data-good text = by (is_utf8 text) refl
     by true e = read-good text (utf8-bytes text (IsUtf8-from_is_utf8 text e))
     by false e = tt
 
+-- the text that a body tells at a key
+text-good : (name body : List ℕ) → IfSome (text_in name body) Bytes
+text-good name body =
+    then-good IsData Bytes (data_of body) (text_at name) (data-good body)
+    (λ d h. then-good IsData Bytes (get name d) as_str (member-good name d h) str-good)
+
 -- the id that a body tells
 pub id-bytes : (body id : List ℕ) → id_in body ≡ Some id → All IsByte id
-id-bytes body id found = subst (λ o. IfSome o Bytes) found
-    (then-good IsData Bytes (data_of body) (text_at (codes "Id")) (data-good body)
-    (λ d h. then-good IsData Bytes (get (codes "Id") d) as_str (member-good (codes "Id") d h) str-good))
+id-bytes body id found = subst (λ o. IfSome o Bytes) found (text-good (codes "Id") body)

@@ -30,11 +30,11 @@ use Rattle.client_model.specs.declared.fault.Fault.TheVariants as F
 use Rattle.client_calls.specs.Table.{calls_of, calls_for}
 use Rattle.client_calls.specs.Texts.{IsContainer, HasTexts}
 use Rattle.client_model.specs.Runs.{AreAnswered, ByAnswers, SoFar}
-use Rattle.client_calls.specs.Laws.{classes_of, AsksCalls, EndsByCalls, AreToldSoFar, BreaksOffByCalls}
+use Rattle.client_calls.specs.Laws.{entries_of, AsksCalls, EndsByCalls, AreToldSoFar, BreaksOffByCalls}
 use Rattle.engine_text.specs.Words.{AreUtf8}
 use Rattle.client_calls.proofs.JsonByteLemmas.{map-good}
 use Rattle.client_calls.proofs.WordLemmas.{Gives, gives-none, gives-one, gives-two, gives-behind, AreValues, value-good, container-good}
-use Rattle.client_calls.proofs.PlanLemmas.{classes}
+use Rattle.client_calls.proofs.PlanLemmas.{entries}
 use Rattle.client_calls.proofs.CommandLemmas.{plan-calls}
 
 -- ---- options
@@ -182,7 +182,7 @@ line-good (address ∷ words) w = by (port_in address)
     by (Some port) = map-good HasTexts IsLine (read_by commands words) (line_with address) (table-gives commands commands-give words w.1) (λ c h. h)
 
 line-calls : (line : Option Line) (verdict : Option Verdict) (answers : List Answer) → IfSome line IsLine
-    → classes (option_map_or (λ l. plan_of l.command) line (fails F.Words)) verdict answers ≡ option_map_or (λ l. calls_of l.command answers) line []
+    → entries (option_map_or (λ l. plan_of l.command) line (fails F.Words)) verdict answers ≡ option_map_or (λ l. calls_of l.command answers) line []
 line-calls None verdict answers h = refl
 line-calls (Some line) verdict answers h = plan-calls line.command h verdict answers
 
@@ -194,17 +194,17 @@ asks-calls words texts verdict answers = line-calls (line_of words) verdict answ
 pub ends-by-calls : (words : List (List ℕ)) → AreUtf8 words → EndsByCalls words
 ends-by-calls words texts status o o' run =
     let says = run.says in
-    (says.0, says.1, ap (λ said. classes_of said.asked) says.2 ∙ asks-calls words texts run.verdict says.0)
+    (says.0, says.1, ap (λ said. entries_of said.asked) says.2 ∙ asks-calls words texts run.verdict says.0)
 
 pub breaks-off-by-calls : (words : List (List ℕ)) → AreUtf8 words → BreaksOffByCalls words
 breaks-off-by-calls words texts status o o' run = ⊎_elim by_answers so_far run.says
   where
     by_answers : ByAnswers (plan_for words) run.verdict run.xs run.said
-        → (answers : List Answer) × (AreAnswered run.xs answers ⊎ AreToldSoFar run.xs answers) × (classes_of run.said.asked ≡ calls_for words answers)
-    by_answers says = (says.0, inl says.1, ap (λ said. classes_of said.asked) says.2 ∙ asks-calls words texts run.verdict says.0)
+        → (answers : List Answer) × (AreAnswered run.xs answers ⊎ AreToldSoFar run.xs answers) × (entries_of run.said.asked ≡ calls_for words answers)
+    by_answers says = (says.0, inl says.1, ap (λ said. entries_of said.asked) says.2 ∙ asks-calls words texts run.verdict says.0)
 
     so_far : SoFar (plan_for words) run.verdict run.xs run.said
-        → (answers : List Answer) × (AreAnswered run.xs answers ⊎ AreToldSoFar run.xs answers) × (classes_of run.said.asked ≡ calls_for words answers)
+        → (answers : List Answer) × (AreAnswered run.xs answers ⊎ AreToldSoFar run.xs answers) × (entries_of run.said.asked ≡ calls_for words answers)
     so_far says =
         let answers = says.2 ++ says.3 ∷ [] in
-        (answers, inr (says.0, says.1, says.2, says.3, says.4, refl, says.5, says.6), ap (λ said. classes_of said.asked) says.7 ∙ asks-calls words texts run.verdict answers)
+        (answers, inr (says.0, says.1, says.2, says.3, says.4, refl, says.5, says.6), ap (λ said. entries_of said.asked) says.7 ∙ asks-calls words texts run.verdict answers)

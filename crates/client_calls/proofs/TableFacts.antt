@@ -25,13 +25,24 @@ use Rattle.api_routes.specs.declared.class.Class.{Class}
 use Rattle.api_routes.specs.declared.class.Class.TheVariants.{Ask, Stream}
 use Rattle.api_routes.specs.declared.class.Takeover.TheVariants as takes
 use Rattle.api_routes.specs.declared.fault.Fault.TheVariants.{PageNotFound, InvalidName, InvalidSignal, BadSeconds, BadTime, Body}
-use Rattle.client_calls.specs.Table.{calls_for}
+use Rattle.client_calls.specs.Table.{Entry, calls_for}
 
--- the calls of these words by these answers, and those of a text's words, between blanks, before any answer
-abbrev by_words : List (List ℕ) → List Answer → List Class
+-- a request without input, and one that input follows
+abbrev plain : Class → Entry
+plain class = record { class = class; input = false }
+
+abbrev fed : Class → Entry
+fed class = record { class = class; input = true }
+
+-- one request, without input
+abbrev only : Class → List Entry
+only class = plain class ∷ []
+
+-- the requests of these words by these answers, and those of a text's words, between blanks, before any answer
+abbrev by_words : List (List ℕ) → List Answer → List Entry
 by_words words answers = calls_for (codes "127.0.0.1:2375" ∷ words) answers
 
-abbrev first_calls : List ℕ → List Class
+abbrev first_calls : List ℕ → List Entry
 first_calls text = by_words (slice_split (λ b. b == 32) text) []
 
 -- ---- the words of one request
@@ -50,79 +61,79 @@ restarting = record {
   mounts = record { volume = codes "data"; target = codes "/d"; read_only = false } ∷ record { volume = codes "logs"; target = codes "/l"; read_only = true } ∷ [];
 }
 
-create : first_calls (codes "create --name web --restart on-failure:5 -v data:/d -v logs:/l:ro engine/tools exit 7") ≡ Ask (call.Create restarting) ∷ []
+create : first_calls (codes "create --name web --restart on-failure:5 -v data:/d -v logs:/l:ro engine/tools exit 7") ≡ only (Ask (call.Create restarting))
 create = refl
 
 -- a volume's name has two letters
-bind : first_calls (codes "create -v d:/d engine/tools") ≡ refusal (Body BadMount) ∷ []
+bind : first_calls (codes "create -v d:/d engine/tools") ≡ only (refusal (Body BadMount))
 bind = refl
 
 -- only `on-failure` has a maximum
-policy : first_calls (codes "create --restart always:5 engine/tools") ≡ refusal (Body BadRestartPolicy) ∷ []
+policy : first_calls (codes "create --restart always:5 engine/tools") ≡ only (refusal (Body BadRestartPolicy))
 policy = refl
 
-stop : first_calls (codes "stop -t 10 web") ≡ Ask (call.Stop (codes "web") (Some (pos 10)) None) ∷ []
+stop : first_calls (codes "stop -t 10 web") ≡ only (Ask (call.Stop (codes "web") (Some (pos 10)) None))
 unfolding is_utf8 chars encode
 stop = refl
 
 -- without end
-restart : first_calls (codes "restart -t -1 web") ≡ Ask (call.Restart (codes "web") (Some (negsuc 0)) None) ∷ []
+restart : first_calls (codes "restart -t -1 web") ≡ only (Ask (call.Restart (codes "web") (Some (negsuc 0)) None))
 unfolding is_utf8 chars encode
 restart = refl
 
-late : first_calls (codes "stop -t soon web") ≡ refusal BadSeconds ∷ []
+late : first_calls (codes "stop -t soon web") ≡ only (refusal BadSeconds)
 unfolding is_utf8 chars encode
 late = refl
 
-kill : first_calls (codes "kill web") ≡ Ask (call.Kill (codes "web") (record { number = 9 })) ∷ []
+kill : first_calls (codes "kill web") ≡ only (Ask (call.Kill (codes "web") (record { number = 9 })))
 unfolding is_utf8 chars encode
 kill = refl
 
-term : first_calls (codes "kill -s 15 web") ≡ Ask (call.Kill (codes "web") (record { number = 15 })) ∷ []
+term : first_calls (codes "kill -s 15 web") ≡ only (Ask (call.Kill (codes "web") (record { number = 15 })))
 unfolding is_utf8 chars encode
 term = refl
 
-unknown : first_calls (codes "kill -s NONE web") ≡ refusal (InvalidSignal (codes "NONE")) ∷ []
+unknown : first_calls (codes "kill -s NONE web") ≡ only (refusal (InvalidSignal (codes "NONE")))
 unfolding is_utf8 chars encode number_named
 unknown = refl
 
 -- a slash, a blank and a mark of a name are the name's own
-pause : by_words (codes "pause" ∷ codes "/a b?c" ∷ []) [] ≡ Ask (call.Pause (codes "/a b?c")) ∷ []
+pause : by_words (codes "pause" ∷ codes "/a b?c" ∷ []) [] ≡ only (Ask (call.Pause (codes "/a b?c")))
 unfolding is_utf8 chars encode
 pause = refl
 
 -- the empty word names nothing
-nameless : by_words (codes "start" ∷ [] ∷ []) [] ≡ refusal PageNotFound ∷ []
+nameless : by_words (codes "start" ∷ [] ∷ []) [] ≡ only (refusal PageNotFound)
 nameless = refl
 
-rename : by_words (codes "rename" ∷ codes "web" ∷ codes "a&b" ∷ []) [] ≡ refusal (InvalidName (codes "a&b")) ∷ []
+rename : by_words (codes "rename" ∷ codes "web" ∷ codes "a&b" ∷ []) [] ≡ only (refusal (InvalidName (codes "a&b")))
 unfolding is_utf8 chars encode
 rename = refl
 
-remove : first_calls (codes "rm -f web") ≡ Ask (call.Remove (codes "web") true) ∷ []
+remove : first_calls (codes "rm -f web") ≡ only (Ask (call.Remove (codes "web") true))
 unfolding is_utf8 chars encode
 remove = refl
 
-list : first_calls (codes "ps -a") ≡ Ask (call.List true None []) ∷ []
+list : first_calls (codes "ps -a") ≡ only (Ask (call.List true None []))
 list = refl
 
 logs : first_calls (codes "logs -f web")
-    ≡ Stream (call.Logs (codes "web") (record { follow = true; out = true; err = true; stamps = false; tail = None; least = 0; greatest = 9999999999999 })) takes.None ∷ []
+    ≡ only (Stream (call.Logs (codes "web") (record { follow = true; out = true; err = true; stamps = false; tail = None; least = 0; greatest = 9999999999999 })) takes.None)
 unfolding is_utf8 chars encode
 logs = refl
 
-wait : first_calls (codes "wait web") ≡ Ask (call.Wait (codes "web") NotRunning) ∷ []
+wait : first_calls (codes "wait web") ≡ only (Ask (call.Wait (codes "web") NotRunning))
 unfolding is_utf8 chars encode
 wait = refl
 
 -- seconds are told in milliseconds
-events : first_calls (codes "events 0 1700000000.5") ≡ Stream (call.Events (Some 0) (Some 1700000000500) []) takes.None ∷ []
+events : first_calls (codes "events 0 1700000000.5") ≡ only (Stream (call.Events (Some 0) (Some 1700000000500) []) takes.None)
 events = refl
 
-never : first_calls (codes "watch never") ≡ refusal BadTime ∷ []
+never : first_calls (codes "watch never") ≡ only (refusal BadTime)
 never = refl
 
-volume : first_calls (codes "volume create ..") ≡ refusal (Body BadVolumeName) ∷ []
+volume : first_calls (codes "volume create ..") ≡ only (refusal (Body BadVolumeName))
 volume = refl
 
 -- a journal is replayed without a request, and words that are no line ask nothing
@@ -167,27 +178,27 @@ run_words = slice_split (λ b. b == 32) (codes "run -i --rm engine/tools cat")
 
 -- create, start, attach with input, wait, remove
 run : by_words run_words (created ∷ answered 204 Empty [] ∷ taken ∷ told 200 (codes "{\"StatusCode\":0}") ∷ [])
-    ≡ Ask (call.Create reading)
-    ∷ Ask (call.Start (codes "1f"))
-    ∷ Stream (call.Attach (codes "1f") (record { logs = true; stream = true; stdin = true; out = true; err = true })) takes.Upgrade
-    ∷ Ask (call.Wait (codes "1f") NotRunning)
-    ∷ Ask (call.Remove (codes "1f") false) ∷ []
+    ≡ plain (Ask (call.Create reading))
+    ∷ plain (Ask (call.Start (codes "1f")))
+    ∷ fed (Stream (call.Attach (codes "1f") (record { logs = true; stream = true; stdin = true; out = true; err = true })) takes.Upgrade)
+    ∷ plain (Ask (call.Wait (codes "1f") NotRunning))
+    ∷ plain (Ask (call.Remove (codes "1f") false)) ∷ []
 unfolding data_of is_utf8 chars encode lex punctuate items members value content short_escape code_unit word after_number number_of scan_numeral
 run = refl
 
 -- an answer that refuses ends it
-refused : by_words run_words (created ∷ told 409 (codes "{\"message\":\"no\"}") ∷ []) ≡ Ask (call.Create reading) ∷ Ask (call.Start (codes "1f")) ∷ []
+refused : by_words run_words (created ∷ told 409 (codes "{\"message\":\"no\"}") ∷ []) ≡ plain (Ask (call.Create reading)) ∷ plain (Ask (call.Start (codes "1f"))) ∷ []
 unfolding data_of is_utf8 chars encode lex punctuate items members value content short_escape code_unit word after_number number_of scan_numeral
 refused = refl
 
 -- and so does one that tells no id
-idless : by_words run_words (told 201 (codes "{}") ∷ []) ≡ Ask (call.Create reading) ∷ []
+idless : by_words run_words (told 201 (codes "{}") ∷ []) ≡ only (Ask (call.Create reading))
 unfolding data_of is_utf8 chars encode lex punctuate items members value content short_escape code_unit word after_number number_of scan_numeral
 idless = refl
 
 exec : by_words (slice_split (λ b. b == 32) (codes "exec web echo x")) (created ∷ taken ∷ [])
-    ≡ Ask (call.ExecCreate (codes "web") (codes "echo" ∷ codes "x" ∷ []) false true true)
-    ∷ Stream (call.ExecStart (codes "1f") false) takes.Upgrade
-    ∷ Ask (call.ExecInspect (codes "1f")) ∷ []
+    ≡ plain (Ask (call.ExecCreate (codes "web") (codes "echo" ∷ codes "x" ∷ []) false true true))
+    ∷ plain (Stream (call.ExecStart (codes "1f") false) takes.Upgrade)
+    ∷ plain (Ask (call.ExecInspect (codes "1f"))) ∷ []
 unfolding data_of is_utf8 chars encode lex punctuate items members value content short_escape code_unit word after_number number_of scan_numeral
 exec = refl

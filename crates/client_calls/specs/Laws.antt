@@ -4,21 +4,24 @@ use Rattle.engine_text.specs.Words.{AreUtf8}
 use Rattle.history_replay.specs.declared.verdict.Verdict.{Verdict}
 use Rattle.response_reader.specs.Answers.{Answer, TellsSoFar}
 use Rattle.api_routes.specs.Class.{class_of}
-use Rattle.api_routes.specs.declared.class.Class.{Class}
 use Rattle.client_model.specs.Plans.{Asked}
 use Rattle.client_model.specs.Client.{plan_for, said_by}
 use Rattle.client_model.specs.Runs.{Outside, Exchange, AreAnswered, IsEnded, IsBrokenOff}
-use Rattle.client_calls.specs.Table.{calls_for}
+use Rattle.client_calls.specs.Table.{Entry, calls_for}
 
--- the daemon's classes of what is asked
-abbrev pub classes_of : List Asked → List Class
-classes_of asked = map (λ a. class_of a.request) asked
+-- what is asked, as the daemon classifies it
+abbrev pub entry_of : Asked → Entry
+entry_of asked = record { class = class_of asked.request; input = asked.input }
 
--- The daemon classifies the requests that a line asks, in order, as the table names them, by the line's words and by the
--- answers before each; so there are as many as the table has up to the first answer that ends the command.
+abbrev pub entries_of : List Asked → List Entry
+entries_of = map entry_of
+
+-- The requests that a line asks are, as the daemon classifies them, and by what follows each, those of the table, in order, by
+-- the line's words and by the answers before each; so there are as many as the table has up to the first answer that ends the
+-- command.
 abbrev pub AsksCalls : List (List ℕ) → Type 0
 AsksCalls words = (verdict : Option Verdict) (answers : List Answer)
-    → classes_of (said_by (plan_for words) verdict answers).asked ≡ calls_for words answers
+    → entries_of (said_by (plan_for words) verdict answers).asked ≡ calls_for words answers
 
 -- so of all words that are texts
 abbrev pub RequestsAreCalls : Type 0
@@ -29,7 +32,7 @@ RequestsAreCalls = (words : List (List ℕ)) → AreUtf8 words → AsksCalls wor
 -- one that came to its end asked the calls of the answers that its connections gave
 abbrev pub EndsByCalls : List (List ℕ) → Type 0
 EndsByCalls words = (status : ℕ) (o o' : Outside) (run : IsEnded words status o o')
-    → (answers : List Answer) × AreAnswered run.xs answers × (classes_of run.said.asked ≡ calls_for words answers)
+    → (answers : List Answer) × AreAnswered run.xs answers × (entries_of run.said.asked ≡ calls_for words answers)
 
 -- each but the last gave its answer, and the last tells as much of one as has come
 abbrev pub AreToldSoFar : List Exchange → List Answer → Type 0
@@ -40,4 +43,4 @@ AreToldSoFar xs answers =
 -- and so did one that was broken off, as far as they had come
 abbrev pub BreaksOffByCalls : List (List ℕ) → Type 0
 BreaksOffByCalls words = (status : ℕ) (o o' : Outside) (run : IsBrokenOff words status o o')
-    → (answers : List Answer) × (AreAnswered run.xs answers ⊎ AreToldSoFar run.xs answers) × (classes_of run.said.asked ≡ calls_for words answers)
+    → (answers : List Answer) × (AreAnswered run.xs answers ⊎ AreToldSoFar run.xs answers) × (entries_of run.said.asked ≡ calls_for words answers)

@@ -1,4 +1,5 @@
--- The table of commands: the class of each request of a command, in order, by its words and by the answers before it (own).
+-- The table of commands: what each request of a command is for the daemon, and whether standard input follows it, in order, by
+-- the command's words and by the answers before it (own).
 use Rattle.std.specs.Prelude.{ℕ, nat_lt, List, [], ◌∷◌, codes, Bool, false, Option, Some, None, if◌then◌else◌}
 use Rattle.std.specs.Option.{option_map_or}
 use Rattle.response_reader.specs.Answers.{Answer, NoHead, Answered}
@@ -13,6 +14,18 @@ use Rattle.client_model.specs.declared.command.Command.{Command}
 use Rattle.client_model.specs.declared.command.Command.TheVariants as command
 use Rattle.client_calls.specs.Classes as class
 use Rattle.client_calls.specs.Classes.{Meaning}
+
+-- a request as the daemon classifies it, and whether standard input follows it
+pub record Entry : Type 0 where
+  pub class : Class
+  pub input : Bool
+
+-- without input, and with input where it is asked for
+abbrev pub alone : Meaning → Entry
+alone meaning = record { class = or_refusal meaning; input = false }
+
+abbrev pub fed : Bool → Meaning → Entry
+fed input meaning = record { class = or_refusal meaning; input = input }
 
 -- ---- by which answers a command goes on
 
@@ -32,33 +45,32 @@ frames = body_by (λ body. if ends_frames body then Some body else None)
 -- ---- requests in order
 
 -- one request
-abbrev pub once : Meaning → List Class
-once meaning = or_refusal meaning ∷ []
+abbrev pub once : Meaning → List Entry
+once meaning = alone meaning ∷ []
 
 -- a request, and then, once its answer came and the command goes on by it, those behind it
-abbrev pub then_by : {A : Type 0} → Meaning → (Answer → Option A) → (A → List Answer → List Class) → List Answer → List Class
-then_by meaning read next [] = or_refusal meaning ∷ []
-then_by meaning read next (answer ∷ answers) =
-    or_refusal meaning ∷ option_map_or (λ x. next x answers) (read answer) []
+abbrev pub then_by : {A : Type 0} → Entry → (Answer → Option A) → (A → List Answer → List Entry) → List Answer → List Entry
+then_by entry read next [] = entry ∷ []
+then_by entry read next (answer ∷ answers) = entry ∷ option_map_or (λ x. next x answers) (read answer) []
 
--- create, start, attach, wait, and with `--rm` remove
-abbrev pub run_calls : NewContainer → Bool → List Answer → List Class
+-- create, start, attach, with `-i` fed, wait, and with `--rm` remove
+abbrev pub run_calls : NewContainer → Bool → List Answer → List Entry
 run_calls c remove =
-    then_by (class.create c) (body_by id_in) (λ id.
-    then_by (class.start id) any_body (λ body.
-    then_by (class.attach id c.input) frames (λ streams.
-    then_by (class.wait id) (body_by status_code_in) (λ code answers.
+    then_by (alone (class.create c)) (body_by id_in) (λ id.
+    then_by (alone (class.start id)) any_body (λ body.
+    then_by (fed c.input (class.attach id c.input)) frames (λ streams.
+    then_by (alone (class.wait id)) (body_by status_code_in) (λ code answers.
     if remove then once (class.remove id false) else []))))
 
--- exec create, exec start, exec inspect
-abbrev pub exec_calls : List ℕ → List (List ℕ) → Bool → List Answer → List Class
+-- exec create, exec start, with `-i` fed, exec inspect
+abbrev pub exec_calls : List ℕ → List (List ℕ) → Bool → List Answer → List Entry
 exec_calls target words input =
-    then_by (class.exec_create target words input) (body_by id_in) (λ id.
-    then_by (class.exec_start id) frames (λ streams answers.
+    then_by (alone (class.exec_create target words input)) (body_by id_in) (λ id.
+    then_by (fed input (class.exec_start id)) frames (λ streams answers.
     once (class.exec_inspect id)))
 
--- the classes of a command's requests
-abbrev pub calls_of : Command → List Answer → List Class
+-- the requests of a command
+abbrev pub calls_of : Command → List Answer → List Entry
 calls_of (command.Create c) answers = once (class.create c)
 calls_of (command.Run c remove) answers = run_calls c remove answers
 calls_of (command.Start target) answers = once (class.start target)
@@ -86,5 +98,5 @@ calls_of command.Journal answers = once class.journal
 calls_of (command.Replay seed moment) answers = []
 
 -- those of a line; words that are no line ask nothing
-abbrev pub calls_for : List (List ℕ) → List Answer → List Class
+abbrev pub calls_for : List (List ℕ) → List Answer → List Entry
 calls_for words answers = option_map_or (λ line. calls_of line.command answers) (line_of words) []
