@@ -30,7 +30,7 @@ use Rattle.client_model.specs.Commands.Exec.{exec_data, exec_create_request}
 use Rattle.client_model.specs.Commands.VolumeCreate.{volume_data, volume_create_request}
 use Rattle.client_calls.specs.Classes as class
 use Rattle.client_calls.specs.Classes.{Meaning, by_name, policy_in, container_spec}
-use Rattle.client_calls.specs.Texts.{IsContainer}
+use Rattle.client_calls.proofs.CommandTexts.{IsContainer}
 use Rattle.client_calls.proofs.FormLemmas.{given}
 use Rattle.client_calls.proofs.RowLemmas.{named-class, worded-class, exec-create-row}
 use Rattle.client_calls.proofs.ClassLemmas.{looked-up, literal, key-if-texts}

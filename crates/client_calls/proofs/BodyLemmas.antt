@@ -33,7 +33,7 @@ use Rattle.client_model.specs.Commands.VolumeCreate.{volume_data}
 use Rattle.client_model.specs.declared.command.NewContainer.{NewContainer}
 use Rattle.client_model.specs.declared.command.Restart.{Restart}
 use Rattle.client_calls.specs.Classes.{policy_in, container_spec}
-use Rattle.client_calls.specs.Texts.{IsRestart, IsContainer}
+use Rattle.client_calls.proofs.CommandTexts.{IsRestart, IsContainer}
 
 -- the members of an object
 abbrev inside : Data → Members

@@ -169,7 +169,7 @@ wait-class target bytes =
 
 -- ---- remove
 
-abbrev is_set : List ℕ → Lookup → Bool
+abbrev pub is_set : List ℕ → Lookup → Bool
 is_set name found = query_bool (unwrap_or (found name) [])
 
 abbrev remove_by : List ℕ → Lookup → Meaning

@@ -45,7 +45,7 @@ use Rattle.client_model.specs.declared.command.Command.TheVariants as command
 use Rattle.client_model.specs.declared.fault.Fault.TheVariants as F
 use Rattle.client_calls.specs.Classes as class
 use Rattle.client_calls.specs.Table.{Entry, alone, fed, body_by, any_body, frames, once, then_by, run_calls, exec_calls, calls_of}
-use Rattle.client_calls.specs.Texts.{IsContainer, HasTexts}
+use Rattle.client_calls.proofs.CommandTexts.{IsContainer, HasTexts}
 use Rattle.client_calls.proofs.ByteLemmas.{utf8-bytes}
 use Rattle.client_calls.proofs.IdLemmas.{id-bytes}
 use Rattle.client_calls.proofs.ClassLemmas.{literal, start-class, pause-class, unpause-class, stop-class, restart-class, kill-class, remove-class, rename-class, inspect-class, wait-class}

@@ -1,6 +1,6 @@
 -- The texts that are read of a body are bytes.
 use Rattle.std.proofs.Common.{◌≡◌, ℕ, List, [], ◌∷◌, Bool, true, false, cond, codes, All, Ordering, Less, Equal, Greater, Option, Some, None, refl, subst}
-use Rattle.std.specs.Prelude.{IfSome, option_map, option_and_then, ⊤}
+use Rattle.std.specs.Prelude.{IfSome, option_map, option_and_then, ⊤, ◌&&◌, nat_lt, nat_le, length}
 use Rattle.std.specs.Ordering.{nat_cmp, match_ordering}
 use Rattle.std.specs.Cmp.Lexicographic.{slice_cmp}
 use Rattle.std.specs.Str.{is_utf8}
@@ -14,9 +14,9 @@ use Rattle.serde_json.specs.Read.{number_of, of_json, of_items, of_members, max_
 use Rattle.serde_json.specs.Find.{get, get_member, as_str}
 use Rattle.json_laws.specs.Text.{data_of}
 use Rattle.api_json.specs.Event.{text_at}
-use Rattle.client_model.specs.Bodies.{text_in, id_in}
+use Rattle.client_model.specs.Bodies.{text_in, id_limit, if_id, id_in}
 use Rattle.client_calls.proofs.ByteLemmas.{utf8-bytes}
-use Rattle.client_calls.proofs.JsonByteLemmas.{Bytes, then-good, map-good}
+use Rattle.client_calls.proofs.JsonByteLemmas.{Bytes, cond-good, then-good, map-good}
 use Rattle.client_calls.proofs.TokenLemmas.{tokens-good, IsJson, AreItems, AreMembers, Read, value-good}
 
 -- each text of the data is bytes
@@ -122,6 +122,10 @@ text-good name body =
     then-good IsData Bytes (data_of body) (text_at name) (data-good body)
     (λ d h. then-good IsData Bytes (get name d) as_str (member-good name d h) str-good)
 
+if-id-good : (text : List ℕ) → Bytes text → IfSome (if_id text) Bytes
+if-id-good text h = cond-good (λ o. IfSome o Bytes) (nat_lt 0 (length text) && nat_le (length text) id_limit) (Some text) None h tt
+
 -- the id that a body tells
 pub id-bytes : (body id : List ℕ) → id_in body ≡ Some id → All IsByte id
-id-bytes body id found = subst (λ o. IfSome o Bytes) found (text-good (codes "Id") body)
+id-bytes body id found =
+    subst (λ o. IfSome o Bytes) found (then-good Bytes Bytes (text_in (codes "Id") body) if_id (text-good (codes "Id") body) if-id-good)

@@ -1,3 +1,4 @@
+mod CommandTexts
 mod ByteLemmas
 mod EscapeLemmas
 mod FormLemmas
@@ -15,4 +16,5 @@ mod IdLemmas
 mod CommandLemmas
 mod WordLemmas
 mod LineLemmas
+mod SentLemmas
 mod TableFacts

@@ -28,7 +28,7 @@ use Rattle.client_model.specs.declared.command.Command.TheVariants as command
 use Rattle.client_model.specs.declared.command.Line.{Line}
 use Rattle.client_model.specs.declared.fault.Fault.TheVariants as F
 use Rattle.client_calls.specs.Table.{calls_of, calls_for}
-use Rattle.client_calls.specs.Texts.{IsContainer, HasTexts}
+use Rattle.client_calls.proofs.CommandTexts.{IsContainer, HasTexts}
 use Rattle.client_model.specs.Runs.{AreAnswered, ByAnswers, SoFar}
 use Rattle.client_calls.specs.Laws.{entries_of, AsksCalls, EndsByCalls, AreToldSoFar, BreaksOffByCalls}
 use Rattle.engine_text.specs.Words.{AreUtf8}

@@ -4,7 +4,6 @@ use Rattle.std.specs.Prelude.{unwrap_or}
 use Rattle.percent_encoding.proofs.PercentLemmas.{IsByte}
 use Rattle.httparse.specs.Grammar.{trim_ows}
 use Rattle.http_edge.specs.Asks.{asks_upgrade}
-use Rattle.engine_text.specs.Query.{query_bool}
 use Rattle.engine_text.specs.declared.filter.FilterKey.TheVariants as filterkey
 use Rattle.engine_text.specs.declared.call.Call.TheVariants as call
 use Rattle.api_json.specs.ExecCreate.{exec_start_of}
@@ -35,11 +34,8 @@ use Rattle.client_calls.specs.Classes.{Meaning, by_name}
 use Rattle.client_calls.proofs.FormLemmas.{AreTexts}
 use Rattle.client_calls.proofs.RequestLemmas.{class-routed}
 use Rattle.client_calls.proofs.RowLemmas.{named-class, worded-class, logs-row, attach-row, exec-start-row, exec-inspect-row, volume-inspect-row, volume-remove-row}
-use Rattle.client_calls.proofs.ClassLemmas.{Lookup, found_in, given_in, looked-up, literal, key-set-texts}
+use Rattle.client_calls.proofs.ClassLemmas.{Lookup, is_set, found_in, given_in, looked-up, literal, key-set-texts}
 use Rattle.client_calls.proofs.BodyLemmas.{exec-start-read}
-
-abbrev is_set : List ℕ → Lookup → Bool
-is_set name found = query_bool (unwrap_or (found name) [])
 
 -- a request that is to take its connection over asks to upgrade it
 upgrades : (path : List (List ℕ)) (query : Query) → asks_upgrade (request_of (codes "POST") Upgrades path query []) ≡ true

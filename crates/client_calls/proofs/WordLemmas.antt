@@ -18,7 +18,7 @@ use Rattle.client_model.specs.declared.words.Kind.{Kind}
 use Rattle.client_model.specs.declared.words.Kind.TheVariants.{Flag, Valued, Repeated}
 use Rattle.client_model.specs.declared.command.Restart.{Restart}
 use Rattle.client_model.specs.declared.command.Command.{Command}
-use Rattle.client_calls.specs.Texts.{IsRestart, IsContainer, HasTexts}
+use Rattle.client_calls.proofs.CommandTexts.{IsRestart, IsContainer, HasTexts}
 use Rattle.client_calls.proofs.JsonByteLemmas.{then-good, map-good}
 
 -- what is read of texts has texts

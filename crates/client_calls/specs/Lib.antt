@@ -1,4 +1,4 @@
 pub mod Classes
 pub mod Table
-pub mod Texts
 pub mod Laws
+pub mod Sent

@@ -3,7 +3,9 @@
 
 ghost use Rattle.engine_text.specs.Words.{AreUtf8};
 ghost use Rattle.client_calls.specs.Laws.{RequestsAreCalls, AsksCalls, EndsByCalls, BreaksOffByCalls};
+ghost use Rattle.client_calls.specs.Sent.{SendsCalls, SendsCallsSoFar};
 
+use client_requests::law_sent;
 use engine_text::Text;
 
 /// The daemon classifies each request that a line of texts asks as the table of commands names it:
@@ -28,4 +30,14 @@ pub fn law_runs_ask_calls(words: &[Text])
     ensures broken_off { BreaksOffByCalls words.now }
 {
     words_are_texts(words);
+}
+
+/// What each connection of a run was sent is one spelling of a request that is, for the daemon, the
+/// call that the table names, by the line's words and by the answers before it.
+pub fn law_both_ends(words: &[Text])
+    ensures ended { SendsCalls words.now }
+    ensures broken_off { SendsCallsSoFar words.now }
+{
+    words_are_texts(words);
+    law_sent();
 }
