@@ -1,5 +1,5 @@
 -- What a drill asks: each of its words is a request, and all of them are read, with nothing behind.
-use Rattle.std.proofs.Common.{arith, ◌≡◌, ◌<◌, ◌+◌, ℕ, Bool, true, List, [], ◌∷◌, ◌++◌, length, map, refl, codes, lit<}
+use Rattle.std.proofs.Common.{arith, ◌≡◌, ◌<◌, ℕ, true, List, [], ◌∷◌, ◌++◌, length, map, refl, codes, lit<}
 use Rattle.std.specs.Prelude.{decimal}
 use Rattle.std.specs.List.{concat, list_all, range_with_len}
 use Rattle.std.specs.Fmt.{digits}

@@ -1,6 +1,6 @@
--- Each request of a drill is a spelling of the grammar, and its target leads to no stream.
-use Rattle.std.proofs.Common.{arith, rules, ◌≡◌, ◌<◌, ◌≤◌, ◌+◌, ℕ, zero, suc, Bool, true, false, List, [], ◌∷◌, ◌++◌, length, map, refl, sym, ap, subst, ◌∙◌, append_assoc, append-nil, length-append, codes, lit<, lit≤}
-use Rattle.std.specs.Prelude.{All, IsTrue, IsUtf8, ◌&&◌, nat_lt, decimal}
+-- Requests of a drill as spellings of the grammar (RFC 9112, section 2.1): what stands in a head, and what ends it.
+use Rattle.std.proofs.Common.{arith, ◌≡◌, ◌<◌, ◌+◌, ℕ, Bool, true, false, List, [], ◌∷◌, ◌++◌, length, map, refl, sym, ap, subst, ◌∙◌, append_assoc, length-append, codes, lit<, lit≤}
+use Rattle.std.specs.Prelude.{All, IsUtf8, ◌&&◌, nat_lt, decimal}
 use Rattle.std.specs.List.{list_all, range_with_len}
 use Rattle.std.specs.Fmt.{digits}
 use Rattle.std.proofs.lemmas.List.Sums.{AllPass-from_list_all}
@@ -9,16 +9,13 @@ use Rattle.std.proofs.lemmas.List.Elements.{All-weaker}
 use Rattle.std.proofs.lemmas.Bool.Decides.{nat_tests}
 use Rattle.std.proofs.lemmas.Str.{IsUtf8-from_ascii}
 use Rattle.std.proofs.lemmas.Str.Ascii.{IsAscii-from_all}
-use Rattle.httparse.specs.Grammar.{is_token_byte, is_uri_byte, is_value_byte, trim_ows, AllPass, is_token, Field, print_section, IsField, crlf, RequestHead, IsRequestHead, print_request}
+use Rattle.httparse.specs.Grammar.{is_token_byte, is_uri_byte, is_value_byte, trim_ows, AllPass, is_token, Field, print_section, IsField, crlf, RequestHead, print_request}
 use Rattle.httparse.specs.Spans.{name_and_value}
 use Rattle.http_edge.specs.Framing.{framing_of}
 use Rattle.http_edge.specs.Message.{Request}
-use Rattle.http_edge.specs.Spelling.{head_framing, SpellsBody, Spells}
-use Rattle.http_edge.specs.declared.framing.Framing.{Framing}
+use Rattle.http_edge.specs.Spelling.{SpellsBody, Spells}
 use Rattle.http_edge.specs.declared.framing.Framing.TheVariants.{Length}
-use Rattle.engine_drill.specs.Requests.{create_body, bare_end, sized_end, request_by, next_box}
-use Rattle.engine_drill.specs.declared.deed.Deed.{Deed}
-use Rattle.engine_drill.specs.declared.deed.Deed.TheVariants.{Create, Start, Stop, Kill, Pause, Unpause, Restart, Rename, Remove, RemoveByForce, ListAll, Inspect}
+use Rattle.engine_drill.specs.Requests.{create_body, bare_end, sized_end}
 use Rattle.engine_drill.specs.declared.deed.Program.{Program}
 use Rattle.engine_drill.specs.declared.deed.Program.TheVariants.{Deaf, Exit, Tick, Flaky}
 
