@@ -54,3 +54,16 @@ returns-in-WriteFault g c =
     (c.new-turns.ensures ∙ c.in_ok-daemon.ensures) (c.new-source.ensures ∙ ap (λ (l : List ℕ). record { left = l; ends = 0 }) c.in_ok-bytes.ensures)
     c.in_ok-sink.ensures c.in-WriteFault.ensures in
     inr (E.WriteFault, session)
+
+pub returns : goal.returns
+returns g c =
+    let ch = charter_by c.args.drill in
+    let before = g.C.Clock.times c.args.clock.now in
+    let after = g.C.Clock.times c.serve.new.clock in
+    let d = c.serve.new.turns.daemon in
+    let session : Session ch c.args.drill.requests c.serve.result before after =
+    session_of ch (charter d) c.args.drill.requests c.serve.result before after (history_of d.stored.journal) (alone_pass c.new-turns.result)
+    c.new-source.result c.serve.new.source (sink_of c.in_ok-sink.sink) c.serve.new.sink
+    (c.new-turns.ensures ∙ c.in_ok-daemon.ensures) (c.new-source.ensures ∙ ap (λ (l : List ℕ). record { left = l; ends = 0 }) c.in_ok-bytes.ensures)
+    c.in_ok-sink.ensures c.serve.ensures in
+    (c.in_default.not-Closed, c.in_default.not-WriteFault, session)
