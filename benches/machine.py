@@ -41,7 +41,10 @@ def answered(daemon, requests):
     writing.start()
     answers, last = 0, b""
     while answers < len(requests):
-        last += os.read(daemon.stdout.fileno(), 1 << 20)
+        more = os.read(daemon.stdout.fileno(), 1 << 20)
+        if not more:
+            sys.exit("the daemon ended before its last answer")
+        last += more
         answers += last.count(ANSWER)
         last = last[-len(ANSWER) + 1 :]
     writing.join()
