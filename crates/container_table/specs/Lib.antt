@@ -2,6 +2,7 @@ pub mod Lists
 pub mod Reference
 pub mod Timers
 pub mod Logs
+pub mod Blank
 pub mod Tables
 pub mod Order
 pub mod Search

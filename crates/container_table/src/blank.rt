@@ -1,4 +1,7 @@
 // What stands in a place where no container is.
+ghost use Rattle.std.specs.Prelude.{◌≡◌};
+ghost use Rattle.container_table.specs.Blank.{no_life, nothing_held};
+
 use super::held::Held;
 use engine_text::{
     Container, Goal, Life, Log, Mounts, OpenLog, Pairs, Policy, Signal, Status, Text, Words,
@@ -6,7 +9,9 @@ use engine_text::{
 use std::alloc::Global;
 
 /// A container without anything; it takes no memory.
-pub fn blank(alloc: Global) -> Held {
+pub fn blank(alloc: Global) -> Held
+    ensures { result ≡ nothing_held }
+{
     Held {
         container: Container {
             number: 0,
@@ -19,7 +24,9 @@ pub fn blank(alloc: Global) -> Held {
 }
 
 /// A life without anything; it takes no memory.
-pub fn blank_life(alloc: Global) -> Life {
+pub fn blank_life(alloc: Global) -> Life
+    ensures { result ≡ no_life }
+{
     Life {
         words: Words::new(alloc),
         labels: Pairs::new(alloc),

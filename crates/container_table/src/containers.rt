@@ -1,6 +1,7 @@
 // Containers in order of number, with their indexes by id and by name.
 ghost use Rattle.std.specs.Prelude.{◌≡◌, ◌+◌, ◌≤◌, ◌<◌, ◌^◌, [], ◌∷◌, ◌++◌, Some, None, IsTrue, OnOk, OnErr, nat_lt, length, slice_get, option_copied, option_map};
 ghost use Rattle.std.specs.List.{AllByRecursion};
+ghost use Rattle.container_table.specs.Blank.{no_life};
 ghost use Rattle.container_table.specs.Reference.{container_by};
 ghost use Rattle.container_table.specs.Tables.{numbered, with_id, named, is_free, without, renamed, relived};
 ghost use Rattle.container_table.specs.Logs.{container_in, room_in, recorded, rooms_used, rooms_without, AreNoLess, FitsLog, IsLifeOf};
@@ -167,7 +168,9 @@ impl Containers {
     }
 
     /// A life without anything; it takes no memory.
-    pub fn blank_life(&self) -> Life {
+    pub fn blank_life(&self) -> Life
+        ensures { result ≡ no_life }
+    {
         blank_life(*self.boxes.list.allocator())
     }
 

@@ -1,6 +1,7 @@
 // Containers and their timers, whole and indexed.
 ghost use Rattle.std.specs.Prelude.{◌≡◌, ℕ, ◌+◌, ◌<◌, ◌≤◌, ◌^◌, [], ◌∷◌, ◌++◌, Some, None, IsTrue, OnOk, OnErr, nat_lt, length, slice_get, option_copied, option_map};
 ghost use Rattle.std.specs.List.{AllByRecursion};
+ghost use Rattle.container_table.specs.Blank.{no_life};
 ghost use Rattle.container_table.specs.Reference.{container_by};
 ghost use Rattle.container_table.specs.Timers.{timer_in, cleared, with_timer, least};
 ghost use Rattle.container_table.specs.Logs.{container_in, room_in, recorded, rooms_used, rooms_without, AreNoLess, FitsLog, IsLifeOf};
@@ -164,7 +165,9 @@ impl Table {
     }
 
     /// A life without anything, to be swapped for another; it takes no memory.
-    pub fn blank_life(&self) -> Life {
+    pub fn blank_life(&self) -> Life
+        ensures { result ≡ no_life }
+    {
         self.containers.blank_life()
     }
 
