@@ -1,14 +1,13 @@
 -- Containers by number, and the indexes of a table.
-use Rattle.std.proofs.Common.{◌≡◌, ℕ, suc, zero, ◌+◌, ◌<◌, ◌≤◌, Bool, true, false, if◌then◌else◌, List, [], ◌∷◌, ◌++◌, length, get_or, take, drop, map, Option, Some, None, Result, Ok, Err, find, refl, sym, ◌∙◌, subst, ap, arith, Ordering, MatchResult}
-use Rattle.std.specs.Prelude.{◌==◌, ◌-◌, ◌&&◌, nat_lt, slice_get, slice_range}
-use Rattle.std.specs.List.{AllByRecursion, remove}
+use Rattle.std.proofs.Common.{◌≡◌, ℕ, suc, zero, ◌<◌, ◌≤◌, Bool, true, false, if◌then◌else◌, List, [], ◌∷◌, ◌++◌, length, get_or, take, drop, map, Option, Some, None, Result, Ok, Err, find, refl, sym, ◌∙◌, subst, ap, arith, Ordering, MatchResult}
+use Rattle.std.specs.Prelude.{◌==◌, ◌-◌, ◌&&◌, nat_lt, slice_get}
+use Rattle.std.specs.List.{AllByRecursion, AllWithin, remove}
 use Rattle.std.proofs.Math.ListN.{set}
 use Rattle.std.specs.List.Sorted.{IsBinarySearchResult, IsNonDecreasingBy, IsSearchInRange}
 use Rattle.std.specs.Ordering.{nat_cmp, ordering_then, ordering_index, ordering_reverse}
 use Rattle.std.specs.Cmp.{IsStrictWeakOrder}
 use Rattle.std.proofs.lemmas.Cmp.{nat_cmp_total, nat_list_cmp_total}
-use Rattle.std.proofs.lemmas.List.{length-map, drop-drop}
-use Rattle.std.proofs.lemmas.List.Edits.{length-between}
+use Rattle.std.proofs.lemmas.List.{length-map}
 use Rattle.std.proofs.lemmas.List.Sorted.{ranks_by, IsStrictWeakOrder-by_number}
 use Rattle.std.proofs.lemmas.Bool.Decides.{nat_tests}
 use Rattle.std.proofs.lemmas.Option.{slice_get_within, get_or_from_slice_get}
@@ -28,7 +27,7 @@ use Rattle.container_table.specs.declared.held.Held.{Held}
 use Rattle.container_table.specs.Held.{contents, numbers_of, key_text, entry_of, entry_order, found_text, is_numbered_before, is_sorted_before, sorted_by, IsIndex, IsLocated, IsPlaced}
 use Rattle.container_table.proofs.PlacedLemmas.{AreAlone, all_imp, all_in_order, ordered}
 use Rattle.container_table.proofs.SearchLemmas.{Rises, rises_far, rises_made, found_place, holds_back, parts_back, find_none, all_of_parts}
-use Rattle.container_table.proofs.SpanLemmas.{from_place, rises_dropped, rises_taken, holds_within, parts_within}
+use Rattle.container_table.proofs.SpanLemmas.{within_taken, within_dropped}
 use Rattle.container_table.proofs.TextLemmas.{order, level, below, above, whole_order, is_lt-Less, places_rise, same_if_equal}
 
 -- ---- the two orders
@@ -155,38 +154,26 @@ is_below m n e = is_less m n (grind (arith, nat_tests))
 is_past : (m n : ℕ) → n < m → nat_cmp m n ≡ Greater
 is_past m n e = nat_cmp_total.antisymm m n ∙ ap ordering_reverse (is_below n m e)
 
-both_parts : (a b : ℕ) → a ≤ b → a + (b - a) ≡ b
-both_parts a b le = omega arith
+-- the orders of the numbers to a number don't fall
+pub numbers_rise : (n : ℕ) (cs : List Container) (numbers : List ℕ) → IsInOrder is_numbered_before cs → numbers ≡ numbers_of cs → IsNonDecreasingBy (λ m. ordering_index (nat_cmp m n)) numbers
+numbers_rise n cs numbers h e =
+    rises_far (λ m. ordering_index (nat_cmp m n)) numbers (subst (λ (ms : List ℕ). Rises (λ m. ordering_index (nat_cmp m n)) ms) (sym e) (rises_numbers n cs h))
 
--- what halving finds between two places, where those before are below the number and those behind above it
-pub placed_between : (n : ℕ) (cs : List Container) (numbers : List ℕ) (low high : ℕ) (r : Result ℕ ℕ) → IsInOrder is_numbered_before cs → numbers ≡ numbers_of cs → low ≤ length numbers
-    → AllByRecursion (λ m. m < n) (take low numbers) → AllByRecursion (λ m. n < m) (drop high numbers) → low ≤ high → high ≤ length numbers
-    → IsSearchInRange r (high - low) → IsBinarySearchResult (λ m. nat_cmp m n) (slice_range numbers low high) r → IsPlaced cs n (from_place low r)
-placed_between n cs numbers low high r h e bound below above order top range found =
-    placed_in n cs (from_place low r) (subst (λ (ms : List ℕ). Halved ms (from_place low r)) e (go r (found_place (λ m. nat_cmp m n) part r rises (subst (λ (k : ℕ). IsSearchInRange r k) (sym size) range) found)))
-  where
-    Halved : List ℕ → Result ℕ ℕ → Type 0
-    Halved ms r = MatchResult r (HoldsOf (λ m. nat_cmp m n ≡ Equal) ms) (Parts (λ m. nat_cmp m n ≡ Less) (λ m. nat_cmp m n ≡ Greater) ms)
+pub less_before : (n : ℕ) (numbers : List ℕ) (low : ℕ) → low ≤ length numbers → AllByRecursion (λ m. m < n) (take low numbers) → AllWithin (λ m. nat_cmp m n ≡ Less) numbers 0 low
+less_before n numbers low bound h =
+    within_taken (λ m. nat_cmp m n ≡ Less) numbers low bound (all_imp (λ m. m < n) (λ m. nat_cmp m n ≡ Less) (λ m e. is_below m n e) (take low numbers) h)
 
-    part : List ℕ
-    part = take (high - low) (drop low numbers)
+pub greater_behind : (n : ℕ) (numbers : List ℕ) (high : ℕ) → AllByRecursion (λ m. n < m) (drop high numbers) → AllWithin (λ m. nat_cmp m n ≡ Greater) numbers high (length numbers)
+greater_behind n numbers high h =
+    within_dropped (λ m. nat_cmp m n ≡ Greater) numbers high (all_imp (λ m. n < m) (λ m. nat_cmp m n ≡ Greater) (λ m e. is_past m n e) (drop high numbers) h)
 
-    size : length part ≡ high - low
-    size = length-between numbers low high top
-
-    rises : Rises (λ m. ordering_index (nat_cmp m n)) part
-    rises = rises_taken (λ m. ordering_index (nat_cmp m n)) (drop low numbers) (high - low) (rises_dropped (λ m. ordering_index (nat_cmp m n)) numbers low
-        (subst (λ (ms : List ℕ). Rises (λ m. ordering_index (nat_cmp m n)) ms) (sym e) (rises_numbers n cs h)))
-
-    rest : drop (high - low) (drop low numbers) ≡ drop high numbers
-    rest = drop-drop (high - low) low numbers ∙ ap (λ (k : ℕ). drop k numbers) (both_parts low high order)
-
-    go : (r : Result ℕ ℕ) → Halved part r → Halved numbers (from_place low r)
-    go (Ok i) m = holds_within (λ m. nat_cmp m n ≡ Equal) numbers low (high - low) i m
-    go (Err i) m =
-        parts_within (λ m. nat_cmp m n ≡ Less) (λ m. nat_cmp m n ≡ Greater) numbers low (high - low) i bound
-        (all_imp (λ m. m < n) (λ m. nat_cmp m n ≡ Less) (λ m e. is_below m n e) (take low numbers) below)
-        (subst (λ (ms : List ℕ). AllByRecursion (λ m. nat_cmp m n ≡ Greater) ms) (sym rest) (all_imp (λ m. n < m) (λ m. nat_cmp m n ≡ Greater) (λ m e. is_past m n e) (drop high numbers) above)) m
+-- what halving finds among the numbers
+pub number_placed : (n : ℕ) (cs : List Container) (numbers : List ℕ) (r : Result ℕ ℕ) → IsInOrder is_numbered_before cs → numbers ≡ numbers_of cs
+    → IsSearchInRange r (length numbers) → IsBinarySearchResult (λ m. nat_cmp m n) numbers r → IsPlaced cs n r
+number_placed n cs numbers r h e range found =
+    placed_in n cs r
+    (found_place (λ m. nat_cmp m n) (numbers_of cs) r (rises_numbers n cs h) (subst (λ (ms : List ℕ). IsSearchInRange r (length ms)) e range)
+    (subst (λ (ms : List ℕ). IsBinarySearchResult (λ m. nat_cmp m n) ms r) e found))
 
 pub length-numbers : {Z : Type 0} (bs : List (Box Held Z)) (numbers : List ℕ) → numbers ≡ numbers_of (contents bs) → length numbers ≡ length bs
 length-numbers bs numbers e = ap length e ∙ length-map (contents bs) (λ c. c.number) ∙ length-map bs (λ b. container_in b.value)

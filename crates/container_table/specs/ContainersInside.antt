@@ -18,11 +18,11 @@ pub record IsKept (a : Inside) : Type 0 where
   pub boxed : IsBoxed a.boxes
   pub ids : IsIndex Id (contents a.boxes.list.items) a.ids.items
   pub names : IsIndex Name (contents a.boxes.list.items) a.names.items
-  pub numbers_len : vec_len a.boxes.numbers ≡ vec_len a.boxes.list
+  pub numbers_len : length a.boxes.numbers.items ≡ vec_len a.boxes.list
   pub ids_len : length a.ids.items ≡ vec_len a.boxes.list
   pub names_len : length a.names.items ≡ vec_len a.boxes.list
   pub list_room : boxes a ≤ vec_capacity a.boxes.list
-  pub numbers_room : boxes a ≤ vec_capacity a.boxes.numbers
+  pub numbers_room : boxes a ≤ a.boxes.numbers.places
   pub spare_room : boxes a ≤ vec_capacity a.spare
   pub ids_room : boxes a ≤ a.ids.places
   pub names_room : boxes a ≤ a.names.places

@@ -1,11 +1,12 @@
 // Boxes of containers: those that are held, in order of number, and spare ones.
-ghost use Rattle.std.specs.Prelude.{◌≡◌, ◌+◌, ◌<◌, ◌≤◌, [], ◌∷◌, ◌++◌, Some, Ok, OnOk, OnErr, vec_len, vec_capacity};
+ghost use Rattle.std.specs.Prelude.{◌≡◌, ◌+◌, ◌<◌, ◌≤◌, [], ◌∷◌, ◌++◌, length, Some, Ok, OnOk, OnErr, vec_len, vec_capacity};
 ghost use Rattle.container_table.specs.Tables.{numbered, without, renamed, relived};
 ghost use Rattle.container_table.specs.Logs.{container_in, room_in, recorded, rooms_used, rooms_without, AreNoLess, FitsLog, IsLifeOf};
 ghost use Rattle.container_table.specs.Held.{contents, numbers_of, rooms_of, IsBoxed, IsPlaced};
 
 use super::blank::blank;
 use super::held::Held;
+use super::rows::Rows;
 use engine_text::{Life, LogRecord, NoMemory, Text};
 use std::alloc::Global;
 use std::mem;
@@ -14,22 +15,21 @@ use std::mem;
 #[derive(Drop)]
 pub struct Boxes {
     pub list: Vec<Box<Held>>,
-    pub numbers: Vec<u64>,
+    pub numbers: Rows<u64>,
 }
 
 /// Makes room for so many boxes more.
-pub fn reserve(boxes: &mut Boxes, wanted: usize) -> Result<(), NoMemory>
+pub fn reserve(boxes: &mut Boxes, alloc: Global, wanted: usize) -> Result<(), NoMemory>
     ensures list { boxes.new.list.items ≡ boxes.old.list.items }
     ensures numbers { boxes.new.numbers.items ≡ boxes.old.numbers.items }
     ensures capacity { vec_capacity boxes.old.list ≤ vec_capacity boxes.new.list }
-    ensures numbers_capacity { vec_capacity boxes.old.numbers ≤ vec_capacity boxes.new.numbers }
+    ensures numbers_capacity { boxes.old.numbers.places ≤ boxes.new.numbers.places }
     ensures ok { OnOk result (vec_len boxes.new.list + wanted ≤ vec_capacity boxes.new.list) }
     ensures numbers_ok { OnOk result
-        (vec_len boxes.new.numbers + wanted ≤ vec_capacity boxes.new.numbers) }
+        (length boxes.new.numbers.items + wanted ≤ boxes.new.numbers.places) }
 {
     boxes.list.reserve(wanted)?;
-    boxes.numbers.reserve(wanted)?;
-    Ok(())
+    boxes.numbers.reserve(alloc, wanted)
 }
 
 /// Makes empty boxes, up to so many.
@@ -54,7 +54,7 @@ pub fn fill(spare: &mut Vec<Box<Held>>, alloc: Global, wanted: usize) -> Result<
 pub fn put(boxes: &mut Boxes, spare: &mut Vec<Box<Held>>, held: Held)
     requires spare { 0 < vec_len spare.old }
     requires room { vec_len boxes.old.list < vec_capacity boxes.old.list }
-    requires numbers_room { vec_len boxes.old.numbers < vec_capacity boxes.old.numbers }
+    requires numbers_room { length boxes.old.numbers.items < boxes.old.numbers.places }
     requires numbers { boxes.old.numbers.items ≡ numbers_of (contents boxes.old.list.items) }
     ensures contents { contents boxes.new.list.items
         ≡ contents boxes.old.list.items ++ container_in held ∷ [] }
@@ -62,24 +62,25 @@ pub fn put(boxes: &mut Boxes, spare: &mut Vec<Box<Held>>, held: Held)
         ≡ rooms_of boxes.old.list.items ++ room_in held ∷ [] }
     ensures numbers { boxes.new.numbers.items ≡ numbers_of (contents boxes.new.list.items) }
     ensures len { vec_len boxes.new.list ≡ vec_len boxes.old.list + 1 }
-    ensures numbers_len { vec_len boxes.new.numbers ≡ vec_len boxes.old.numbers + 1 }
+    ensures numbers_len { length boxes.new.numbers.items
+        ≡ length boxes.old.numbers.items + 1 }
     ensures spare { vec_len spare.new + 1 ≡ vec_len spare.old }
     ensures capacity { vec_capacity boxes.new.list ≡ vec_capacity boxes.old.list }
-    ensures numbers_capacity { vec_capacity boxes.new.numbers ≡ vec_capacity boxes.old.numbers }
+    ensures numbers_capacity { boxes.new.numbers.places ≡ boxes.old.numbers.places }
     ensures spare_capacity { vec_capacity spare.new ≡ vec_capacity spare.old }
 {
     if let Some(mut place) = spare.pop() {
         let number = held.container.number;
         *place = held;
         boxes.list.push_reserved(place);
-        boxes.numbers.push_reserved(number);
+        boxes.numbers.insert(boxes.numbers.len(), number);
     }
 }
 
 /// Takes the container of that number, which stands at i, out of its box, which is spare then.
 pub fn take(boxes: &mut Boxes, spare: &mut Vec<Box<Held>>, i: usize, number: u64) -> Held
     requires boxed { IsBoxed boxes.old }
-    requires len { vec_len boxes.old.numbers ≡ vec_len boxes.old.list }
+    requires len { length boxes.old.numbers.items ≡ vec_len boxes.old.list }
     requires bound { i < vec_len boxes.old.list }
     requires place { IsPlaced (contents boxes.old.list.items) number (Ok i) }
     requires room { vec_len spare.old < vec_capacity spare.old }
@@ -90,15 +91,16 @@ pub fn take(boxes: &mut Boxes, spare: &mut Vec<Box<Held>>, i: usize, number: u64
         ≡ rooms_without number (contents boxes.old.list.items) (rooms_of boxes.old.list.items) }
     ensures numbers { boxes.new.numbers.items ≡ numbers_of (contents boxes.new.list.items) }
     ensures len { vec_len boxes.new.list + 1 ≡ vec_len boxes.old.list }
-    ensures numbers_len { vec_len boxes.new.numbers + 1 ≡ vec_len boxes.old.numbers }
+    ensures numbers_len { length boxes.new.numbers.items + 1
+        ≡ length boxes.old.numbers.items }
     ensures spare { vec_len spare.new ≡ vec_len spare.old + 1 }
     ensures capacity { vec_capacity boxes.new.list ≡ vec_capacity boxes.old.list }
-    ensures numbers_capacity { vec_capacity boxes.new.numbers ≡ vec_capacity boxes.old.numbers }
+    ensures numbers_capacity { boxes.new.numbers.places ≡ boxes.old.numbers.places }
     ensures spare_capacity { vec_capacity spare.new ≡ vec_capacity spare.old }
 {
     let empty = blank(*boxes.list.allocator());
     let mut place = boxes.list.remove(i);
-    let _ = boxes.numbers.remove(i);
+    boxes.numbers.remove(i);
     let gone = mem::replace(&mut *place, empty);
     spare.push_reserved(place);
     gone

@@ -8,7 +8,7 @@ ghost use Rattle.container_table.specs.Logs.{container_in, room_in, recorded, ro
 
 use super::blank::blank_life;
 use super::boxes::Boxes;
-use super::entries::Key;
+use super::entries::{Entry, Key};
 use super::held::Held;
 use super::rows::Rows;
 use super::{boxes, entries, lookups};
@@ -21,8 +21,8 @@ use std::marker::Model;
 pub struct Containers {
     boxes: Boxes,
     spare: Vec<Box<Held>>,
-    ids: Rows,
-    names: Rows,
+    ids: Rows<Entry>,
+    names: Rows<Entry>,
 }
 
 impl Model for Containers {
@@ -47,7 +47,7 @@ impl Containers {
         Containers {
             boxes: Boxes {
                 list: Vec::new(alloc),
-                numbers: Vec::new(alloc),
+                numbers: Rows::new(alloc),
             },
             spare: Vec::new(alloc),
             ids: Rows::new(alloc),
@@ -130,7 +130,7 @@ impl Containers {
             return Err(NoMemory);
         };
         self.spare.reserve(places - self.spare.len())?;
-        boxes::reserve(&mut self.boxes, wanted)?;
+        boxes::reserve(&mut self.boxes, alloc, wanted)?;
         self.ids.reserve(alloc, wanted)?;
         self.names.reserve(alloc, wanted)?;
         boxes::fill(&mut self.spare, alloc, wanted)

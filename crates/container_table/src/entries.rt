@@ -1,5 +1,5 @@
 // The sorted indexes of containers: numbers by id or by name.
-ghost use Rattle.std.specs.Prelude.{◌≡◌, ◌+◌, ◌-◌, ◌<◌, ◌≤◌, [], ◌∷◌, ◌++◌, length, take, drop, Some, Ok, IsTrue, nat_lt, option_copied, option_map, slice_index, slice_range};
+ghost use Rattle.std.specs.Prelude.{◌≡◌, ◌+◌, ◌-◌, ◌<◌, ◌≤◌, [], ◌∷◌, ◌++◌, length, take, drop, Some, Ok, IsTrue, nat_lt, option_copied, option_map, slice_index};
 ghost use Rattle.container_table.specs.Order.{IsInOrder};
 ghost use Rattle.std.specs.List.{AllByRecursion, AllWithin};
 ghost use Rattle.std.specs.List.Sorted.{IsBinarySearchResult, IsNonDecreasingBy, IsSearchInRange};
@@ -64,39 +64,60 @@ pub fn start_of(text: &str) -> [u8; 8]
 }
 
 // So many of rising numbers at least are below the number: as many as it is too low for at their end.
-fn least_place(numbers: &[u64], number: u64) -> usize
-    requires { IsInOrder nat_lt numbers.now }
-    ensures bound { result ≤ length numbers.now }
-    ensures below { AllByRecursion (λ m. m < number) (take result numbers.now) }
+fn least_place(numbers: &Rows<u64>, number: u64) -> usize
+    requires { IsInOrder nat_lt numbers.now.items }
+    ensures bound { result ≤ length numbers.now.items }
+    ensures below { AllByRecursion (λ m. m < number) (take result numbers.now.items) }
 {
-    match numbers.last() {
-        None => 0,
-        Some(last) if *last < number => numbers.len(),
-        Some(last) => (numbers.len() - 1).saturating_sub((*last - number) as usize),
+    let count = numbers.len();
+    if count == 0 {
+        return 0;
     }
+    let last = *numbers.at(count - 1);
+    if last < number {
+        return count;
+    }
+    (count - 1).saturating_sub((last - number) as usize)
 }
 
 // The number stands at this place of rising numbers at most: it is so far above the first of them.
-fn last_place(numbers: &[u64], number: u64) -> usize
-    requires { IsInOrder nat_lt numbers.now }
-    ensures bound { result ≤ length numbers.now }
-    ensures above { AllByRecursion (λ m. number < m) (drop result numbers.now) }
+fn last_place(numbers: &Rows<u64>, number: u64) -> usize
+    requires { IsInOrder nat_lt numbers.now.items }
+    ensures bound { result ≤ length numbers.now.items }
+    ensures above { AllByRecursion (λ m. number < m) (drop result numbers.now.items) }
 {
-    match numbers.first() {
-        None => 0,
-        Some(first) if number < *first => 0,
-        Some(first) => (numbers.len() - 1).min((number - *first) as usize) + 1,
+    let count = numbers.len();
+    if count == 0 {
+        return 0;
     }
+    let first = *numbers.at(0);
+    if number < first {
+        return 0;
+    }
+    (count - 1).min((number - first) as usize) + 1
 }
 
-// Where the number stands, or would stand, between these two places, counted from the lower.
-fn place_between(numbers: &[u64], low: usize, high: usize, number: u64) -> Result<usize, usize>
+// Where the number stands between these two places, or would stand.
+fn place_between(numbers: &Rows<u64>, low: usize, high: usize, number: u64) -> Result<usize, usize>
+    requires rises { IsNonDecreasingBy (λ m. ordering_index (nat_cmp m number))
+        numbers.now.items }
     requires order { low ≤ high }
-    requires bound { high ≤ length numbers.now }
-    ensures bound { IsSearchInRange result (high - low) }
-    ensures place { IsBinarySearchResult (λ m. nat_cmp m number) (slice_range numbers.now low high) result }
+    requires bound { high ≤ length numbers.now.items }
+    requires below { AllWithin (λ m. nat_cmp m number ≡ Ordering.Less) numbers.now.items 0 low }
+    requires above { AllWithin (λ m. nat_cmp m number ≡ Ordering.Greater) numbers.now.items
+        high (length numbers.now.items) }
+    ensures bound { IsSearchInRange result (length numbers.now.items) }
+    ensures place { IsBinarySearchResult (λ m. nat_cmp m number) numbers.now.items result }
 {
-    numbers[low..high].binary_search(&number)
+    if high <= low {
+        return Err(low);
+    }
+    let middle = low + (high - low) / 2;
+    match numbers.at(middle).cmp(&number) {
+        Ordering::Less => place_between(numbers, middle + 1, high, number),
+        Ordering::Equal => Ok(middle),
+        Ordering::Greater => place_between(numbers, low, middle, number),
+    }
 }
 
 /// Where the container of that number stands, or would stand. Numbers rise, so with few gaps
@@ -106,13 +127,9 @@ pub fn place_of(held: &Boxes, number: u64) -> Result<usize, usize>
     ensures bound { IsSearchInRange result (length held.now.list.items) }
     ensures place { IsPlaced (contents held.now.list.items) number result }
 {
-    let numbers = held.numbers.as_slice();
-    let low = least_place(numbers, number);
-    let high = last_place(numbers, number);
-    match place_between(numbers, low, high, number) {
-        Ok(i) => Ok(low + i),
-        Err(i) => Err(low + i),
-    }
+    let low = least_place(&held.numbers, number);
+    let high = last_place(&held.numbers, number);
+    place_between(&held.numbers, low, high, number)
 }
 
 /// Whether the number is above those of all.
@@ -175,7 +192,7 @@ pub fn text_at(held: &Boxes, key: Key, number: u64) -> &str
 
 // Where the entry of that text, whose start this is, stands between these two places, or would stand.
 fn locate_between(
-    entries: &Rows,
+    entries: &Rows<Entry>,
     held: &Boxes,
     key: Key,
     start: &[u8; 8],
@@ -205,7 +222,7 @@ fn locate_between(
 }
 
 /// Where the entry of that text stands, or would stand.
-pub fn locate(entries: &Rows, held: &Boxes, key: Key, text: &str) -> Result<usize, usize>
+pub fn locate(entries: &Rows<Entry>, held: &Boxes, key: Key, text: &str) -> Result<usize, usize>
     requires boxed { IsBoxed held.now }
     requires index { IsIndex key (contents held.now.list.items) entries.now.items }
     ensures bound { IsSearchInRange result (length entries.now.items) }
@@ -226,7 +243,7 @@ fn entry_of(key: Key, one: &Held) -> Entry
 }
 
 /// Puts a container, which isn't held yet, into the index.
-pub fn file(entries: &mut Rows, held: &Boxes, key: Key, one: &Held)
+pub fn file(entries: &mut Rows<Entry>, held: &Boxes, key: Key, one: &Held)
     requires boxed { IsBoxed held.now }
     requires index { IsIndex key (contents held.now.list.items) entries.old.items }
     requires fresh { IsFresh key (key_text key (container_in one.now)) (contents held.now.list.items) }
@@ -241,7 +258,7 @@ pub fn file(entries: &mut Rows, held: &Boxes, key: Key, one: &Held)
 }
 
 /// Takes a container, which is held still, out of the index.
-pub fn unfile(entries: &mut Rows, held: &Boxes, key: Key, one: &Held, number: u64)
+pub fn unfile(entries: &mut Rows<Entry>, held: &Boxes, key: Key, one: &Held, number: u64)
     requires boxed { IsBoxed held.now }
     requires index { IsIndex key (contents held.now.list.items) entries.old.items }
     requires held { numbered number (contents held.now.list.items) ≡ Some (container_in one.now) }
@@ -255,7 +272,7 @@ pub fn unfile(entries: &mut Rows, held: &Boxes, key: Key, one: &Held, number: u6
 }
 
 /// Puts a container, which is held still under its old name, at the place of a new one.
-pub fn refile(entries: &mut Rows, held: &Boxes, one: &Held, name: &str)
+pub fn refile(entries: &mut Rows<Entry>, held: &Boxes, one: &Held, name: &str)
     requires boxed { IsBoxed held.now }
     requires index { IsIndex keys.Name (contents held.now.list.items) entries.old.items }
     requires held { numbered one.now.container.number (contents held.now.list.items) ≡ Some (container_in one.now) }

@@ -9,13 +9,13 @@ ghost use Rattle.container_table.specs.declared.entries.Key.TheVariants as keys;
 ghost use Rattle.container_table.specs.Held.{contents, IsBoxed, IsIndex, IsLocated, first_begins, key_text, sorted_by};
 
 use super::boxes::Boxes;
-use super::entries::{Key, locate, numbered_in, text_at};
+use super::entries::{Entry, Key, locate, numbered_in, text_at};
 use super::held::Held;
 use super::rows::Rows;
 use engine_text::{Found, without_slash};
 
 // Whether the text of the entry at i begins with the reference.
-fn begins_at(entries: &Rows, held: &Boxes, i: usize, reference: &str) -> bool
+fn begins_at(entries: &Rows<Entry>, held: &Boxes, i: usize, reference: &str) -> bool
     requires boxed { IsBoxed held.now }
     requires index { IsIndex keys.Id (contents held.now.list.items) entries.now.items }
     ensures value { result
@@ -30,7 +30,7 @@ fn begins_at(entries: &Rows, held: &Boxes, i: usize, reference: &str) -> bool
 }
 
 /// The only container whose id begins with the reference, which would stand at i.
-pub fn prefixed(entries: &Rows, held: &Boxes, i: usize, reference: &str) -> Found
+pub fn prefixed(entries: &Rows<Entry>, held: &Boxes, i: usize, reference: &str) -> Found
     requires boxed { IsBoxed held.now }
     requires index { IsIndex keys.Id (contents held.now.list.items) entries.now.items }
     requires place { IsLocated keys.Id (contents held.now.list.items) reference.now (Err i) }
@@ -47,7 +47,7 @@ pub fn prefixed(entries: &Rows, held: &Boxes, i: usize, reference: &str) -> Foun
 }
 
 /// Whether no container has that text.
-pub fn is_new(entries: &Rows, held: &Boxes, key: Key, text: &str) -> bool
+pub fn is_new(entries: &Rows<Entry>, held: &Boxes, key: Key, text: &str) -> bool
     requires boxed { IsBoxed held.now }
     requires index { IsIndex key (contents held.now.list.items) entries.now.items }
     ensures { result
@@ -57,7 +57,7 @@ pub fn is_new(entries: &Rows, held: &Boxes, key: Key, text: &str) -> bool
 }
 
 /// The container of that name.
-pub fn named_in<'a>(names: &Rows, held: &'a Boxes, name: &str) -> Option<&'a Held>
+pub fn named_in<'a>(names: &Rows<Entry>, held: &'a Boxes, name: &str) -> Option<&'a Held>
     requires boxed { IsBoxed held.now }
     requires names { IsIndex keys.Name (contents held.now.list.items) names.now.items }
     ensures { option_map container_in (option_copied result) ≡ named name.now (contents held.now.list.items) }
@@ -69,7 +69,7 @@ pub fn named_in<'a>(names: &Rows, held: &'a Boxes, name: &str) -> Option<&'a Hel
 }
 
 /// What the reference names.
-pub fn find_in(ids: &Rows, names: &Rows, held: &Boxes, reference: &str) -> Found
+pub fn find_in(ids: &Rows<Entry>, names: &Rows<Entry>, held: &Boxes, reference: &str) -> Found
     requires boxed { IsBoxed held.now }
     requires ids { IsIndex keys.Id (contents held.now.list.items) ids.now.items }
     requires names { IsIndex keys.Name (contents held.now.list.items) names.now.items }

@@ -1,28 +1,27 @@
-// Entries in rows of one length: a change moves what stands behind in its row, and one of each row behind.
+// Items in rows of one length: a change moves what stands behind in its row, and one of each row behind.
 ghost use Rattle.std.specs.Prelude.{◌≡◌, ◌+◌, ◌*◌, ◌^◌, ◌<◌, ◌≤◌, [], ◌∷◌, length, MatchOption, OnOk, slice_index_or, vec_len};
 ghost use Rattle.std.specs.List.{insert, remove};
 ghost use Rattle.container_table.specs.Rows.{joined, AreRows};
 
-use super::entries::Entry;
 use engine_text::NoMemory;
 use std::alloc::Global;
 use std::collections::VecDeque;
 use std::marker::Model;
 
-// How many entries a row holds.
+// How many items a row holds.
 const ROW: usize = 4_096;
 
-/// Entries in rows, which are full but for the last one that isn't empty.
+/// Items in rows, which are full but for the last one that isn't empty.
 #[derive(Drop)]
-pub struct Rows {
-    rows: Vec<VecDeque<Entry>>,
+pub struct Rows<T> {
+    rows: Vec<VecDeque<T>>,
     len: usize,
 }
 
-impl Model for Rows {
+impl<T> Model for Rows<T> {
     ghost use Rattle.container_table.specs.Rows.{Listed};
 
-    ghost Value = { Listed };
+    ghost Value = { Listed T };
 
     ghost use Rattle.container_table.specs.RowsInside.{listed_of, IsFilled};
 
@@ -31,37 +30,37 @@ impl Model for Rows {
     ghost invariant = { IsFilled };
 }
 
-// Puts an entry at that place; where its row is full, the last one there goes to the front of the next row.
-fn put(rows: &mut [VecDeque<Entry>], i: usize, entry: Entry)
+// Puts an item at that place; where its row is full, the last one there goes to the front of the next row.
+fn put<T: Copy>(rows: &mut [VecDeque<T>], i: usize, item: T)
     requires rows { AreRows rows.old }
     requires place { i ≤ length (joined rows.old) }
     requires room { length (joined rows.old) < 4096 * length rows.old }
     ensures rows { AreRows rows.new }
-    ensures items { joined rows.new ≡ insert (joined rows.old) i entry }
+    ensures items { joined rows.new ≡ insert (joined rows.old) i item }
 {
     let Some((row, rest)) = rows.split_first_mut() else {
         return;
     };
     if ROW <= i {
-        put(rest, i - ROW, entry);
+        put(rest, i - ROW, item);
         return;
     }
     if row.len() < ROW {
-        let _ = row.insert(i, entry);
+        let _ = row.insert(i, item);
         return;
     }
     if let Some(last) = row.pop_back() {
-        let _ = row.insert(i, entry);
+        let _ = row.insert(i, item);
         put(rest, 0, last);
     }
 }
 
-// Takes the first entry out; that of each row behind goes to the end of the row before.
-fn take_first(rows: &mut [VecDeque<Entry>]) -> Option<Entry>
+// Takes the first item out; that of each row behind goes to the end of the row before.
+fn take_first<T: Copy>(rows: &mut [VecDeque<T>]) -> Option<T>
     requires { AreRows rows.old }
     ensures rows { AreRows rows.new }
     ensures items { MatchOption result ((joined rows.old ≡ []) × (joined rows.new ≡ []))
-        (λ e. joined rows.old ≡ e ∷ joined rows.new) }
+        (λ x. joined rows.old ≡ x ∷ joined rows.new) }
 {
     let (row, rest) = rows.split_first_mut()?;
     let first = row.pop_front()?;
@@ -71,8 +70,8 @@ fn take_first(rows: &mut [VecDeque<Entry>]) -> Option<Entry>
     Some(first)
 }
 
-// Takes the entry at that place out; the first of each row behind goes to the end of the row before.
-fn take_out(rows: &mut [VecDeque<Entry>], i: usize)
+// Takes the item at that place out; the first of each row behind goes to the end of the row before.
+fn take_out<T: Copy>(rows: &mut [VecDeque<T>], i: usize)
     requires rows { AreRows rows.old }
     requires place { i < length (joined rows.old) }
     ensures rows { AreRows rows.new }
@@ -92,7 +91,11 @@ fn take_out(rows: &mut [VecDeque<Entry>], i: usize)
 }
 
 // Makes empty rows, up to so many.
-fn add_rows(rows: &mut Vec<VecDeque<Entry>>, alloc: Global, count: usize) -> Result<(), NoMemory>
+fn add_rows<T: Copy>(
+    rows: &mut Vec<VecDeque<T>>,
+    alloc: Global,
+    count: usize,
+) -> Result<(), NoMemory>
     requires rows { AreRows rows.old.items }
     requires few { vec_len rows.old < 2 ^ 52 }
     requires count { count < 2 ^ 52 }
@@ -110,9 +113,9 @@ fn add_rows(rows: &mut Vec<VecDeque<Entry>>, alloc: Global, count: usize) -> Res
     Ok(())
 }
 
-impl Rows {
-    /// No entry; it takes no memory.
-    pub fn new(alloc: Global) -> Rows
+impl<T: Copy> Rows<T> {
+    /// No item; it takes no memory.
+    pub fn new(alloc: Global) -> Rows<T>
         ensures items { result.items ≡ [] }
         ensures places { result.places ≡ 0 }
     {
@@ -129,15 +132,15 @@ impl Rows {
         self.len
     }
 
-    /// The entry at that place.
-    pub fn at(&self, i: usize) -> &Entry
+    /// The item at that place.
+    pub fn at(&self, i: usize) -> &T
         requires { i < length self.now.items }
         ensures { result.now ≡ slice_index_or self.now.items i result.now }
     {
         &self.rows[i / ROW][i % ROW]
     }
 
-    /// Makes room for n entries more.
+    /// Makes room for n items more.
     pub fn reserve(&mut self, alloc: Global, n: usize) -> Result<(), NoMemory>
         ensures items { self.new.items ≡ self.old.items }
         ensures places { self.old.places ≤ self.new.places }
@@ -150,18 +153,18 @@ impl Rows {
         add_rows(&mut self.rows, alloc, wanted / ROW + 1)
     }
 
-    /// Puts an entry at that place; it takes no memory.
-    pub fn insert(&mut self, i: usize, entry: Entry)
+    /// Puts an item at that place; it takes no memory.
+    pub fn insert(&mut self, i: usize, item: T)
         requires place { i ≤ length self.old.items }
         requires room { length self.old.items < self.old.places }
-        ensures items { self.new.items ≡ insert self.old.items i entry }
+        ensures items { self.new.items ≡ insert self.old.items i item }
         ensures places { self.new.places ≡ self.old.places }
     {
-        put(self.rows.as_mut_slice(), i, entry);
+        put(self.rows.as_mut_slice(), i, item);
         self.len += 1;
     }
 
-    /// Takes the entry at that place out.
+    /// Takes the item at that place out.
     pub fn remove(&mut self, i: usize)
         requires { i < length self.old.items }
         ensures items { self.new.items ≡ remove self.old.items i }

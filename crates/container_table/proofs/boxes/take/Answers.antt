@@ -1,6 +1,7 @@
-use Rattle.std.proofs.Common.{ℕ, List, ◌∙◌, ap, sym, Some}
+use Rattle.std.proofs.Common.{ℕ, ◌+◌, List, length, ◌∙◌, ap, sym, Some, arith}
 use Rattle.std.specs.Prelude.{◌==◌}
 use Rattle.std.specs.List.{remove}
+use Rattle.std.proofs.lemmas.List.Edits.{length-remove}
 use Rattle.container_table.specs.Held.{contents, numbers_of, rooms_of}
 use Rattle.container_table.specs.Logs.{container_in}
 use Rattle.container_table.specs.declared.held.Held.{Held}
@@ -29,3 +30,7 @@ returns-clause-numbers c =
     ∙ numbers_removed c.args.number (contents c.args.boxes.now.list.items) c.args.i c.requires.boxed.order c.requires.place
     ∙ ap numbers_of (sym (contents_removed (λ d. d.number == c.args.number) c.args.boxes.now.list.items c.args.i (numbers_alone c.args.number (contents c.args.boxes.now.list.items) c.requires.boxed.order) c.requires.place))
     ∙ ap (λ bs. numbers_of (contents bs)) (sym c.remove-place.ensures.items)
+
+pub returns-clause-numbers_len : goal.returns-clause-numbers_len
+returns-clause-numbers_len c =
+    ap (λ (ns : List ℕ). length ns + 1) c.remove.ensures.items ∙ length-remove c.args.boxes.now.numbers.items c.args.i (omega (arith, c.requires.len, c.requires.bound))

@@ -2,9 +2,9 @@ use Rattle.std.proofs.Common.{◌+◌, arith}
 use Rattle.container_table.proofs.SpanLemmas.{above_first}
 use Rattle.container_table.proofs.entries.last_place.Goals as goal
 
-pub returns-in-Some-clause-above : goal.returns-in-Some-clause-above
-returns-in-Some-clause-above c = above_first c.args.numbers.now 0 c.args.number c.in-Some.first.now c.requires c.in-Some.ensures.value (λ less. omega arith)
+pub returns-then-number-first-clause-above : goal.returns-then-number-first-clause-above
+returns-then-number-first-clause-above c = above_first c.args.numbers.now.items 0 c.args.number c.at-first.result.now c.requires c.at-first.ensures (λ less. omega arith)
 
-pub returns-in-Some-2-clause-above : goal.returns-in-Some-2-clause-above
-returns-in-Some-2-clause-above c =
-    above_first c.args.numbers.now (c.min.result + 1) c.args.number c.in-Some.first.now c.requires c.in-Some.ensures.value (λ less. omega arith)
+pub returns-clause-above : goal.returns-clause-above
+returns-clause-above c =
+    above_first c.args.numbers.now.items (c.min.result + 1) c.args.number c.at-first.result.now c.requires c.at-first.ensures (λ less. omega arith)

@@ -2,4 +2,4 @@ use Rattle.std.proofs.Common.{length}
 use Rattle.container_table.proofs.rows.+put.Given as goal
 
 abbrev pub decreases-put : goal.decreases-put
-decreases-put l = length l.rows.now
+decreases-put g l = length l.rows.now

@@ -2,4 +2,4 @@ use Rattle.std.proofs.Common.{length}
 use Rattle.container_table.proofs.rows.+take_first.Given as goal
 
 abbrev pub decreases-take_first : goal.decreases-take_first
-decreases-take_first l = length l.rows.now
+decreases-take_first g l = length l.rows.now

@@ -3,7 +3,7 @@ use Rattle.container_table.specs.Rows.{joined, AreRows}
 use Rattle.container_table.proofs.rows.add_rows.Given as goal
 
 abbrev pub invariant-loop-alloc : goal.invariant-loop-alloc
-invariant-loop-alloc l =
+invariant-loop-alloc g l =
     record {
       rows : AreRows l.rows.items;
       items : joined l.rows.items ≡ joined l.initial.rows.items;
@@ -12,4 +12,4 @@ invariant-loop-alloc l =
     }
 
 abbrev pub decreases-loop-alloc : goal.decreases-loop-alloc
-decreases-loop-alloc l = l.count - vec_len l.rows
+decreases-loop-alloc g l = l.count - vec_len l.rows

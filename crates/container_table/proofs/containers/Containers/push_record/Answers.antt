@@ -1,5 +1,5 @@
-use Rattle.std.proofs.Common.{List, [], ◌∷◌, ◌++◌, ◌∙◌, ap, sym, subst, arith, refl, vec_len}
-use Rattle.std.specs.Prelude.{◌==◌, vec_capacity}
+use Rattle.std.proofs.Common.{List, [], ◌∷◌, ◌++◌, ◌∙◌, ap, sym, subst, arith, refl, length}
+use Rattle.std.specs.Prelude.{◌==◌}
 use Rattle.engine_text.specs.declared.container.Container.{Container}
 use Rattle.container_table.specs.Tables.{Kept}
 use Rattle.container_table.specs.Held.{contents, IsIndex}
@@ -17,11 +17,11 @@ invariant_of-self c =
           (index_kept Id c.args.number f (contents c.self.inside.boxes.list.items) c.self.inside.ids.items (λ d. refl) (λ d. refl) c.self.invariant.boxed.order c.self.invariant.ids);
       names = subst (λ (cs : List Container). IsIndex Name cs c.self.inside.names.items) (sym c.push_record.ensures.contents)
           (index_kept Name c.args.number f (contents c.self.inside.boxes.list.items) c.self.inside.names.items (λ d. refl) (λ d. refl) c.self.invariant.boxed.order c.self.invariant.names);
-      numbers_len = ap vec_len c.push_record.ensures.numbers ∙ c.self.invariant.numbers_len ∙ sym c.push_record.ensures.len;
+      numbers_len = ap (λ l. length l.items) c.push_record.ensures.numbers ∙ c.self.invariant.numbers_len ∙ sym c.push_record.ensures.len;
       ids_len = omega arith;
       names_len = omega arith;
       list_room = omega arith;
-      numbers_room = omega (arith, ap vec_capacity c.push_record.ensures.numbers);
+      numbers_room = omega (arith, ap (λ l. l.places) c.push_record.ensures.numbers);
       spare_room = omega arith;
       ids_room = omega arith;
       names_room = omega arith;

@@ -1,5 +1,5 @@
-use Rattle.std.proofs.Common.{◌≡◌, ℕ, List, ◌∙◌, ap, sym, subst, arith, refl, vec_len}
-use Rattle.std.specs.Prelude.{◌==◌, vec_capacity}
+use Rattle.std.proofs.Common.{◌≡◌, ℕ, List, ◌∙◌, ap, sym, subst, arith, refl, length}
+use Rattle.std.specs.Prelude.{◌==◌}
 use Rattle.engine_text.specs.declared.container.Container.{Container}
 use Rattle.container_table.specs.Tables.{Kept, renamed}
 use Rattle.container_table.specs.Held.{contents, IsIndex, IsFresh}
@@ -22,11 +22,11 @@ invariant_of-self c =
       ids = subst (λ (cs : List Container). IsIndex Id cs c.self.inside.ids.items) (sym c.rename.ensures.contents)
           (index_kept Id c.args.number f (contents c.self.inside.boxes.list.items) c.self.inside.ids.items (λ d. refl) (λ d. refl) c.self.invariant.boxed.order c.self.invariant.ids);
       names = subst (λ (cs : List Container). IsIndex Name cs c.refile.new.entries.items) more c.refile.ensures.index;
-      numbers_len = ap vec_len c.rename.ensures.numbers ∙ c.self.invariant.numbers_len ∙ sym c.rename.ensures.len;
+      numbers_len = ap (λ l. length l.items) c.rename.ensures.numbers ∙ c.self.invariant.numbers_len ∙ sym c.rename.ensures.len;
       ids_len = omega arith;
       names_len = omega arith;
       list_room = omega arith;
-      numbers_room = omega (arith, ap vec_capacity c.rename.ensures.numbers);
+      numbers_room = omega (arith, ap (λ l. l.places) c.rename.ensures.numbers);
       spare_room = omega arith;
       ids_room = omega arith;
       names_room = omega arith;
