@@ -1,9 +1,9 @@
 // The text of a list of containers (Docker Engine API v1.43, ContainerList).
-ghost use Rattle.std.specs.Prelude.{◌≡◌, ◌++◌, [], ◌∷◌, IfOk, codes};
+ghost use Rattle.std.specs.Prelude.{◌≡◌, ◌++◌, [], ◌∷◌, IfOk, OnOk, codes, string_bytes};
 ghost use Rattle.serde_json.specs.View.{view};
+ghost use Rattle.serde_json.specs.Written.{comma_if, compact_text};
 ghost use Rattle.json_laws.specs.Pairs.{words_data};
 ghost use Rattle.api_json.specs.List as spec;
-ghost use Rattle.api_json.specs.Values.{list_of};
 
 use super::mount::mounts_value;
 use super::object::Object;
@@ -44,21 +44,30 @@ fn item_value(alloc: Global, item: &Listed) -> Result<Value, AllocError>
     Ok(object.with(alloc, "Status", Value::String(status))?.value())
 }
 
-// The list of these containers.
-fn list_value(alloc: Global, items: &[Listed]) -> Result<Value, AllocError>
-    ensures { IfOk result (λ v. view v ≡ list_of spec.listed_data items.now) }
+// Writes a container of the list behind those that stand there.
+fn push_item(alloc: Global, text: &mut String, item: &Listed, later: bool) -> Result<(), NoMemory>
+    ensures { OnOk result (string_bytes text.new
+        ≡ string_bytes text.old ++ (comma_if later ++ compact_text (spec.listed_data item.now))) }
 {
-    let mut values = Vec::new(alloc);
-    'items: for item in items {
-        values.push(item_value(alloc, item)?)?;
+    if later {
+        text.push_str(",")?;
     }
-    Ok(Value::Array(values))
+    let value = item_value(alloc, item)?;
+    let written = body_text(alloc, &value)?;
+    text.push_str(written.as_str())?;
+    Ok(())
 }
 
-/// The text of a list of containers, as they stand.
+/// The text of a list of containers, as they stand: each is written, and let go, before the next.
 pub fn list_body(alloc: Global, items: &[Listed]) -> Result<Text, NoMemory>
     ensures { IfOk result (λ text. text ≡ spec.list_text items.now) }
 {
-    let value = list_value(alloc, items)?;
-    body_text(alloc, &value)
+    let mut text = String::from_str(alloc, "[")?;
+    let mut later = false;
+    'items: for item in items {
+        push_item(alloc, &mut text, item, later)?;
+        later = true;
+    }
+    text.push_str("]")?;
+    Ok(Text::from_string(text))
 }
