@@ -48,6 +48,7 @@ with_input plan next input o o' w = record {
   answered = w.way.answered;
   came = w.way.came;
   left = w.way.left;
+  others = w.way.others;
   faults = w.way.faults;
   sent = w.way.sent ∙ sent_anyway input w.way.asked w.quiet;
   took = w.way.took;

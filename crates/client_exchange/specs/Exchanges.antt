@@ -17,7 +17,7 @@ use Rattle.client_exchange.specs.Telling.{Refuses, answer_shows, AnswerSays}
 use Rattle.client_exchange.specs.declared.got.Got.{Got}
 use Rattle.client_streams.specs.declared.taker.Showing.{Showing}
 
--- what a request reaches: the link, and the outputs
+-- what a request reaches: the link beside its address, and the outputs
 pub record Reach : Type 0 where
   pub link : LinkView
   pub shown : Outputs
@@ -51,10 +51,11 @@ ConverseSays bytes starved result showing t s s' u u' o o' =
 
 -- ---- over the link
 
--- one connection was made, and left
+-- one connection was made, and left; no other address was asked for
 pub record Meets (v v' : LinkView) (x : Exchange) : Type 0 where
   pub came : HaveCome v.coming (x.came ∷ []) v'.coming
   pub left : AreLeft v.past (x.left ∷ []) v'.past
+  pub others : v'.addresses ≡ v.addresses
   pub faults : v.faults ≤ v'.faults
 
 -- it was sent the request, and gave this answer
@@ -64,10 +65,11 @@ pub record IsAnswered (request : List ℕ) (answer : Answer) (v v' : LinkView) :
   pub sent : exchange.sent ≡ request
   pub is : IsAnswer exchange.given (has_ended exchange) answer
 
--- none was made
+-- none was made, and no other address asked for
 pub record IsMissed (v v' : LinkView) : Type 0 where
   pub coming : v'.coming ≡ v.coming
   pub past : v'.past ≡ v.past
+  pub others : v'.addresses ≡ v.addresses
 
 -- an answer that doesn't refuse came to its end, and was shown
 pub record HasGone (request : List ℕ) (got : Got) (showing : Showing) (t : Taken) (o o' : Reach) : Type 0 where

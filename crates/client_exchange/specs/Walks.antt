@@ -31,6 +31,7 @@ pub record Walked (plan : Plan) (input : List ℕ) (o : Reach) (next : Plan) (o'
   pub answered : AreAnswered xs answers
   pub came : HaveCome o.link.coming (map (λ x. x.came) xs) o'.link.coming
   pub left : AreLeft o.link.past (map (λ x. x.left) xs) o'.link.past
+  pub others : o'.link.addresses ≡ o.link.addresses
   pub faults : o.link.faults ≤ o'.link.faults
   pub sent : map (λ x. x.sent) xs ≡ map (sent_by input) asked
   pub took : BothTook o.shown written o'.shown

@@ -78,6 +78,11 @@ command_names = map (λ row. row.0) commands
 abbrev pub line_with : List ℕ → Command → Line
 line_with address command = record { address = address; command = command }
 
+-- the daemon's address: the first word
+abbrev pub address_in : List (List ℕ) → List ℕ
+address_in [] = []
+address_in (address ∷ words) = address
+
 -- a line: ADDR is 127.0.0.1:PORT, and then a row of the table
 abbrev pub line_of : List (List ℕ) → Option Line
 line_of [] = None

@@ -16,7 +16,7 @@ use Rattle.client_model.specs.Client.{Said, plan_for, said_by, IsJudged, status_
 use Rattle.client_model.specs.declared.fault.Fault.{Fault}
 use Rattle.client_model.specs.declared.fault.Fault.TheVariants as F
 
--- what a client has outside
+-- what a client has outside: its link, beside the address of its line, standard input, output and error
 pub record Outside : Type 0 where
   pub link : LinkView
   pub input : SourceView
@@ -59,10 +59,12 @@ AreLeft (Some before) left (Some now) = now ≡ before ++ left
 AreLeft None left None = ⊤
 AreLeft before left now = ⊥
 
--- in this call these connections were made, one after another, and standard input gave this
+-- in this call these connections were made, one after another, no other address was asked for, and standard input gave
+-- this
 pub record Meets (o o' : Outside) (xs : List Exchange) (input : List ℕ) : Type 0 where
   pub came : HaveCome o.link.coming (map (λ x. x.came) xs) o'.link.coming
   pub left : AreLeft o.link.past (map (λ x. x.left) xs) o'.link.past
+  pub others : o'.link.addresses ≡ o.link.addresses
   pub input_gave : SourceGave o.input input o'.input
 
 -- ---- what is said by the answers

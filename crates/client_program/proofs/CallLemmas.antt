@@ -123,6 +123,7 @@ module _ (words : List (List ℕ)) (o m : Outside) where
     meets = record {
       came = subst (λ (l : LinkView). HaveCome o.link.coming [] l.coming) (sym f.link) (came_none o.link.coming);
       left = subst (λ (l : LinkView). AreLeft o.link.past [] l.past) (sym f.link) (left_none o.link.past);
+      others = ap (λ (l : LinkView). l.addresses) f.link;
       input_gave = j.gave;
     };
     judged = subst (λ p. IsJudged p j.input (Some j.verdict)) (sym is) j.is;
@@ -151,6 +152,7 @@ module _ (words : List (List ℕ)) (o m : Outside) where
       broken_off words j.input (Some j.verdict) [] (said_by (next j.verdict) None []) fault status o m e
       (subst (HaveCome o.link.coming []) (sym b.missed.coming) (came_none o.link.coming))
       (subst (AreLeft o.link.past []) (sym b.missed.past) (left_none o.link.past))
+      b.missed.others
       j.gave
       (inr (subst (λ p. IsJudged p j.input (Some j.verdict)) (sym is) j.is))
       (inl ([], tt, sym (ap (λ p. said_by p (Some j.verdict) []) is)))
@@ -168,6 +170,7 @@ module _ (words : List (List ℕ)) (o m : Outside) where
       broken_off words input None [] (said [] nothing None) fault status o m e
       (subst (λ (r : Reach). HaveCome o.link.coming [] r.link.coming) (sym same) (came_none o.link.coming))
       (subst (λ (r : Reach). AreLeft o.link.past [] r.link.past) (sym same) (left_none o.link.past))
+      (ap (λ (r : Reach). r.link.addresses) same)
       gave (inl refl)
       (inl ([], tt, sym (ap (λ p. said_by p None []) is)))
       tt

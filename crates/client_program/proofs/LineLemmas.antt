@@ -1,10 +1,16 @@
 -- A line, by how its words were read.
-use Rattle.std.proofs.Common.{◌≡◌, inl, inr, ℕ, List, [], refl, sym, subst, Some, None, Result, Err}
+use Rattle.std.proofs.Common.{◌≡◌, inl, inr, ℕ, List, [], ◌∷◌, refl, sym, ap, ◌∙◌, subst, Option, Some, None, Result, Err}
+use Rattle.std.specs.Prelude.{option_and_then, option_map}
 use Rattle.std.specs.Option.{option_map_or}
+use Rattle.engine_ports.specs.Source.{SourceView}
+use Rattle.engine_ports.specs.Sink.{SinkView}
+use Rattle.engine_ports.specs.Link.{LinkView, beside}
 use Rattle.client_model.specs.Plans.{Plan, fails}
-use Rattle.client_model.specs.Lines.{line_of}
+use Rattle.engine_line.specs.Lines.{port_in}
+use Rattle.client_model.specs.Lines.{read_by, commands, address_in, line_with, line_of}
 use Rattle.client_model.specs.Client.{plan_of, plan_for, said_by}
 use Rattle.client_model.specs.Runs.{Outside}
+use Rattle.client_model.specs.declared.command.Command.{Command}
 use Rattle.client_model.specs.declared.command.Line.{Line}
 use Rattle.client_model.specs.declared.fault.Fault.{Fault}
 use Rattle.client_model.specs.declared.fault.Fault.TheVariants as F
@@ -14,13 +20,40 @@ use Rattle.client_exchange.proofs.AskLemmas.{does_fail}
 use Rattle.engine_client.specs.Reading.{Reads}
 use Rattle.engine_client.specs.declared.unread.Unread.{Unread}
 use Rattle.engine_client.specs.declared.unread.Unread.TheVariants.{NoForm}
-use Rattle.client_program.specs.Running.{reach_of, Ran}
+use Rattle.client_program.specs.Running.{outside, reach_of, Ran}
+
+-- its address is the first word
+with_address : (address : List ℕ) (port : Option ℕ) (command : Option Command) (line : Line) → option_and_then (λ p. option_map (line_with address) command) port ≡ Some line
+    → line.address ≡ address
+with_address address (Some port) (Some command) line is = let same : line_with address command ≡ line = cc in ap (λ (l : Line). l.address) (sym same)
+with_address address (Some port) None line is = absurd (none_some line is)
+  where
+    none_some : (line : Line) → None ≡ Some line → ⊥
+    none_some line e = cc
+with_address address None command line is = absurd (none_some line is)
+  where
+    none_some : (line : Line) → None ≡ Some line → ⊥
+    none_some line e = cc
+
+line_leads : (words : List (List ℕ)) (line : Line) → line_of words ≡ Some line → line.address ≡ address_in words
+line_leads [] line is = absurd (none_some line is)
+  where
+    none_some : (line : Line) → None ≡ Some line → ⊥
+    none_some line e = cc
+line_leads (address ∷ words) line is = with_address address (port_in address) (read_by commands words) line is
+
+-- a line's outside, its link told beside that address
+abbrev pub outside_at : List ℕ → LinkView → SourceView → SinkView → SinkView → Outside
+outside_at address link input out err = outside (beside address link) input out err
 
 -- its command was run
-pub line_ran : (words : List (List ℕ)) (line : Line) (result : Result ℕ Fault) (o o' : Outside) → line_of words ≡ Some line → Ran (plan_of line.command) result o o'
-    → Ran (plan_for words) result o o'
-line_ran words line result o o' is ran =
-    subst (λ l. Ran (option_map_or (λ (m : Line). plan_of m.command) l (fails F.Words)) result o o') (sym is) ran
+pub line_ran : (words : List (List ℕ)) (line : Line) (address : List ℕ) (result : Result ℕ Fault) (l l' : LinkView) (i i' : SourceView) (u u' e e' : SinkView)
+    → line_of words ≡ Some line → address ≡ line.address
+    → Ran (plan_of line.command) result (outside_at address l i u e) (outside_at address l' i' u' e')
+    → Ran (plan_for words) result (outside_at (address_in words) l i u e) (outside_at (address_in words) l' i' u' e')
+line_ran words line address result l l' i i' u u' e e' is same ran =
+    subst (λ a. Ran (plan_for words) result (outside_at a l i u e) (outside_at a l' i' u' e')) (same ∙ line_leads words line is)
+    (subst (λ n. Ran (option_map_or (λ (m : Line). plan_of m.command) n (fails F.Words)) result (outside_at address l i u e) (outside_at address l' i' u' e')) (sym is) ran)
 
 -- the words are none
 pub no_line : (words : List (List ℕ)) (why : Unread) (o : Outside) → why ≡ NoForm → Reads (Err why) (line_of words) → Ran (plan_for words) (Err F.Words) o o
@@ -36,7 +69,7 @@ line_lacks plan o = inl (inl (
     next = plan;
     between = reach_of o;
     walks = walk_none plan (reach_of o);
-    comes = inr (inl (record { missed = record { coming = refl; past = refl }; began = began_none (reach_of o).shown (said_by plan None []).written; cause = inr tt }));
+    comes = inr (inl (record { missed = record { coming = refl; past = refl; others = refl }; began = began_none (reach_of o).shown (said_by plan None []).written; cause = inr tt }));
   },
   refl,
 ))

@@ -90,6 +90,7 @@ ended words input next w ending status o o' p e part way next_is took link gave 
   meets = record {
     came = subst (λ (l : LinkView). HaveCome o.link.coming (map (λ x. x.came) way.xs) l.coming) (sym link) way.came;
     left = subst (λ (l : LinkView). AreLeft o.link.past (map (λ x. x.left) way.xs) l.past) (sym link) way.left;
+    others = ap (λ (l : LinkView). l.addresses) link ∙ way.others;
     input_gave = gave;
   };
   judged = not_judging (plan_for words) way.answers input way.asked all ending says;
@@ -236,12 +237,13 @@ cause_until (F.Refused message) o m e xs le r = r
 -- ---- broken off
 
 pub broken_off : (words : List (List ℕ)) (input : List ℕ) (verdict : Option Verdict) (xs : List Exchange) (s : Said) (fault : Fault) (status : ℕ) (o m : Outside) (e : SinkView)
-    → HaveCome o.link.coming (map (λ x. x.came) xs) m.link.coming → AreLeft o.link.past (map (λ x. x.left) xs) m.link.past → SourceGave o.input input m.input
+    → HaveCome o.link.coming (map (λ x. x.came) xs) m.link.coming → AreLeft o.link.past (map (λ x. x.left) xs) m.link.past → m.link.addresses ≡ o.link.addresses
+    → SourceGave o.input input m.input
     → (verdict ≡ None) ⊎ IsJudged (plan_for words) input verdict → ByAnswers (plan_for words) verdict xs s ⊎ SoFar (plan_for words) verdict xs s
     → AreSentSoFar (map (λ x. x.sent) xs) (map (sent_by input) s.asked) → (IsFalse (asks_input (plan_for words) s) → input ≡ [])
     → BothBegan (outputs o.out o.err) s.written (outputs m.out m.err) → CauseOf fault o m xs → Tells fault status m.err e
     → IsBrokenOff words status o (outside m.link m.input m.out e)
-broken_off words input verdict xs s fault status o m e came left gave judged says sent unread began cause tells = record {
+broken_off words input verdict xs s fault status o m e came left others gave judged says sent unread began cause tells = record {
   xs = xs;
   input = input;
   verdict = verdict;
@@ -250,7 +252,7 @@ broken_off words input verdict xs s fault status o m e came left gave judged say
   out_part = began.part.out;
   err_part = began.part.err;
   part = tells.part;
-  meets = record { came = came; left = left; input_gave = gave };
+  meets = record { came = came; left = left; others = others; input_gave = gave };
   judged = judged;
   says = says;
   sent = sent;
@@ -273,6 +275,7 @@ stopped_before words input next fault status o m p e way b gave unread tells =
     broken_off words input None way.xs (said_behind way.asked way.written (said_by next None [])) fault status o m e
     (subst (HaveCome o.link.coming (map (λ x. x.came) way.xs)) (sym b.missed.coming) way.came)
     (subst (AreLeft o.link.past (map (λ x. x.left) way.xs)) (sym b.missed.past) way.left)
+    (b.missed.others ∙ way.others)
     gave (inl refl)
     (inl (way.answers, way.answered, sym (way.says []) ∙ ap (said_by (plan_for words) None) (append-nil way.answers)))
     sent unread
@@ -296,6 +299,7 @@ stopped_in words input next starved fault status o m p e way b rose gave unread 
     broken_off words input None (way.xs ++ b.exchange ∷ []) (said_behind way.asked way.written last) fault status o m e
     (came_on o.link.coming p.link.coming m.link.coming way.xs (b.exchange ∷ []) way.came b.meets.came)
     (left_on o.link.past p.link.past m.link.past way.xs (b.exchange ∷ []) way.left b.meets.left)
+    (b.meets.others ∙ way.others)
     gave (inl refl)
     (inr (way.xs, b.exchange, way.answers, b.answer, refl, way.answered, b.tells, sym (way.says (b.answer ∷ []))))
     sent (unread b.answer)

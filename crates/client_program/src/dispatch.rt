@@ -1,4 +1,5 @@
 // The table of commands, each run by its plan.
+ghost use Rattle.engine_ports.specs.Link.{beside};
 ghost use Rattle.client_model.specs.Client.{plan_of};
 ghost use Rattle.client_program.specs.Running.{IsTimed, Ran, outside};
 
@@ -28,8 +29,10 @@ pub(crate) fn run_command<W: Wait, L: Link, N: Source, K: Sink, E: Sink>(
 ) -> Result<u8, Fault>
     requires { IsTimed command.now }
     ensures { Ran (plan_of command.now) result
-        (outside (L.links link.old) (N.gives stdin.old) (K.takes out.old) (E.takes errors.old))
-        (outside (L.links link.new) (N.gives stdin.new) (K.takes out.new) (E.takes errors.new)) }
+        (outside (beside address.now (L.links link.old)) (N.gives stdin.old)
+        (K.takes out.old) (E.takes errors.old))
+        (outside (beside address.now (L.links link.new)) (N.gives stdin.new)
+        (K.takes out.new) (E.takes errors.new)) }
 {
     // the command with its own words, beside what every command is handed
     macro_rules! run {

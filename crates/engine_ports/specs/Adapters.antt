@@ -73,7 +73,7 @@ abbrev pub untold_door : DoorView
 untold_door = record { coming = None; past = None; owed = greatest_count; faults = 0; bound = None }
 
 abbrev pub untold_link : LinkView
-untold_link = record { coming = None; past = None; owed = greatest_count; faults = 0 }
+untold_link = record { coming = None; past = None; addresses = None; owed = greatest_count; faults = 0 }
 
 abbrev pub door_over : {R : Type 0} → TcpDoor R → DoorView
 door_over d = record untold_door { faults = d.faults; bound = d.bound }

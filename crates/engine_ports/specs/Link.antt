@@ -1,5 +1,5 @@
 -- What a link tells of its connections. own: a client's view of where its connections lead.
-use Rattle.std.specs.Prelude.{ℕ, ◌≡◌, ◌≤◌, ◌+◌, List, Option, Result, Ok, Err}
+use Rattle.std.specs.Prelude.{ℕ, ◌≡◌, ◌≤◌, ◌+◌, not, List, filter, bytes_eq, Option, option_map, Result, Ok, Err}
 use Rattle.engine_ports.specs.Rose.{Rose}
 use Rattle.engine_ports.specs.Source.{SourceView}
 use Rattle.engine_ports.specs.Sink.{SinkView}
@@ -14,11 +14,12 @@ pub record Wire : Type 0 where
 abbrev pub wire : SourceView → SinkView → Wire
 wire s u = record { source = s; sink = u }
 
--- the connections to come and those that ended, where they are told, how many were made and haven't
--- been left (a link that keeps no such count tells the greatest one), and how often a call failed
+-- the connections to come, those that ended and the addresses that were asked for, where they are told, how many were
+-- made and haven't been left (a link that keeps no such count tells the greatest one), and how often a call failed
 pub record LinkView : Type 0 where
   pub coming : Option (List Wire)
   pub past : Option (List Wire)
+  pub addresses : Option (List (List ℕ))
   pub owed : ℕ
   pub faults : ℕ
 
@@ -29,29 +30,36 @@ pub record IsNewWire (w : Wire) : Type 0 where
   pub sink_faults : w.sink.faults ≡ 0
   pub fresh : IsFresh w.sink.wrote
 
--- a connection was made: the first of those to come, new
-pub record Connects (w : Wire) (v v' : LinkView) : Type 0 where
+-- a connection to the address was made: the first of those to come, new
+pub record Connects (address : List ℕ) (w : Wire) (v v' : LinkView) : Type 0 where
   pub came : Came v.coming w v'.coming
   pub new : IsNewWire w
   pub past : v'.past ≡ v.past
+  pub addresses : Left v.addresses address v'.addresses
   pub owed : Rose v.owed v'.owed
   pub faults : v.faults ≤ v'.faults
 
--- no connection was made, and a fault is counted
-pub record Misses (v v' : LinkView) : Type 0 where
+-- no connection to the address was made, and a fault is counted
+pub record Misses (address : List ℕ) (v v' : LinkView) : Type 0 where
   pub coming : v'.coming ≡ v.coming
   pub past : v'.past ≡ v.past
+  pub addresses : Left v.addresses address v'.addresses
   pub owed : v'.owed ≡ v.owed
   pub faults : Rose v.faults v'.faults
 
--- what connecting says
-abbrev pub ConnectSays : {S K : Type 0} → (S → K → Wire) → Result (S × K) Failed → LinkView → LinkView → Type 0
-ConnectSays tells (Ok parts) v v' = Connects (tells parts.0 parts.1) v v'
-ConnectSays tells (Err x) v v' = Misses v v'
+-- what connecting to an address says
+abbrev pub ConnectSays : {S K : Type 0} → List ℕ → (S → K → Wire) → Result (S × K) Failed → LinkView → LinkView → Type 0
+ConnectSays address tells (Ok parts) v v' = Connects address (tells parts.0 parts.1) v v'
+ConnectSays address tells (Err x) v v' = Misses address v v'
 
 -- what leaving says: the connection is the last of the past
 pub record Leaves (w : Wire) (v v' : LinkView) : Type 0 where
   pub past : Left v.past w v'.past
   pub coming : v'.coming ≡ v.coming
+  pub addresses : v'.addresses ≡ v.addresses
   pub owed : v.owed ≤ v'.owed + 1
   pub faults : v'.faults ≡ v.faults
+
+-- a link beside this address: of the addresses that were asked for, the others
+abbrev pub beside : List ℕ → LinkView → LinkView
+beside address v = record v { addresses = option_map (filter (λ other. not (bytes_eq other address))) v.addresses }

@@ -12,9 +12,10 @@ pub trait Link {
 
     ghost links: { Self → LinkView };
 
-    /// Makes a connection to an address.
+    /// Makes a connection to an address. It asks for no other.
     fn connect(&mut self, addr: &str) -> Result<(Self::From, Self::Into), Failed>
-        ensures { ConnectSays (λ s k. wire (Self.From.gives s) (Self.Into.takes k)) result (links self.old) (links self.new) };
+        ensures { ConnectSays addr.now (λ s k. wire (Self.From.gives s) (Self.Into.takes k)) result
+            (links self.old) (links self.new) };
 
     /// Ends a connection that was made. It takes no memory.
     fn leave(&mut self, from: Self::From, into: Self::Into)

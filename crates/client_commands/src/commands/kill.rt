@@ -1,4 +1,5 @@
 // `kill`, by its plan.
+ghost use Rattle.engine_ports.specs.Link.{beside};
 ghost use Rattle.client_model.specs.Commands.Kill.{kill_plan};
 ghost use Rattle.client_exchange.specs.Exchanges.{reach};
 ghost use Rattle.client_exchange.specs.Walks.{Does};
@@ -23,8 +24,8 @@ pub fn kill_container<W: Wait, L: Link, K: Sink, E: Sink>(
     errors: &mut E,
 ) -> Result<u8, Fault>
     ensures { Does (kill_plan target.now signal.now) result
-        (reach (L.links link.old) (K.takes out.old) (E.takes errors.old))
-        (reach (L.links link.new) (K.takes out.new) (E.takes errors.new)) }
+        (reach (beside address.now (L.links link.old)) (K.takes out.old) (E.takes errors.old))
+        (reach (beside address.now (L.links link.new)) (K.takes out.new) (E.takes errors.new)) }
 {
     ask_and_print(
         rt,

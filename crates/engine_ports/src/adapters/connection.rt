@@ -7,7 +7,7 @@ use crate::{Failed, Link};
 use std::alloc::Global;
 use std::net::{Net, TcpListener, TcpStream};
 
-/// A link over TCP, to the loopback address alone. It tells no connections.
+/// A link over TCP, to the loopback address alone. It tells neither connections nor addresses.
 #[derive(Drop)]
 pub struct TcpLink<R> {
     rt: R,

@@ -1,5 +1,5 @@
 // A link in memory, whose connections were put there.
-ghost use Rattle.std.specs.Prelude.{◌≡◌, ◌+◌, ◌≤◌, ◌++◌, ◌∷◌, [], length, Some, vec_len, vec_capacity, IfOk, OnOk, OnErr};
+ghost use Rattle.std.specs.Prelude.{◌≡◌, ◌+◌, ◌≤◌, ◌++◌, ◌∷◌, [], length, Some, None, vec_len, vec_capacity, IfOk, OnOk, OnErr};
 ghost use Rattle.engine_ports.specs.Link.{IsNewWire};
 
 use super::misses::Misses;
@@ -26,7 +26,7 @@ pub struct Closed {
     pub into: MemSink,
 }
 
-/// A link whose calls of `connect` fail where they are told to.
+/// A link whose calls of `connect` fail where they are told to. It tells no addresses.
 #[derive(Drop)]
 pub struct MemLink {
     coming: VecDeque<Ready>,
@@ -42,7 +42,7 @@ impl MemLink {
     /// A link that leads nowhere yet, and whose calls numbered in `failing` (from 0) fail.
     pub fn new(alloc: Global, failing: &[u64]) -> Result<MemLink, NoMemory>
         ensures { IfOk result (λ l. ⟦<MemLink as Link>⟧.links l
-            ≡ record { coming = Some []; past = Some []; owed = 0; faults = 0 }) }
+            ≡ record { coming = Some []; past = Some []; addresses = None; owed = 0; faults = 0 }) }
     {
         Ok(MemLink {
             coming: VecDeque::new(alloc),
@@ -77,7 +77,7 @@ impl MemLink {
 }
 
 impl Link for MemLink {
-    ghost use Rattle.std.specs.Prelude.{Some};
+    ghost use Rattle.std.specs.Prelude.{Some, None};
     ghost use Rattle.engine_ports.specs.Links.{ready_of, closed_of};
 
     type From = MemSource;
@@ -87,6 +87,7 @@ impl Link for MemLink {
     ghost links = { λ l. record {
       coming = Some (ready_of l.coming.items);
       past = Some (closed_of l.past.items);
+      addresses = None;
       owed = l.owed;
       faults = l.misses.faults;
     } };
