@@ -14,16 +14,19 @@ COMMANDS = ("create|run|start|pause|unpause|stop|restart|kill|rm|rename|ps|inspe
 USAGE = f"usage: dockc ADDR {COMMANDS} [OPTIONS] [WORD..]\n"
 WEB, GONE, LONG, FLAKY, TRAP = (id_of(n) for n in range(5))
 LINES = []
+# parts of a line that stand for no connection
+NONE = ("nowhere", "input fails", "output fails", "errors fail")
 
 
 def line(words, out="", err="", status=0, connections=1, given=""):
     """A command, what it prints on standard output and standard error, its status, and how many requests it makes."""
-    LINES.append((words, out, err, status, connections, given, ()))
+    LINES.append((words, out, err, status, connections, given, (), 0))
 
 
-def by(words, *instead, out="", err="", status=0, given=""):
-    """A command that has these connections in the place of the daemon, each what it gives or how it fails."""
-    LINES.append((words, out, err, status, 0, given, instead))
+def by(words, *instead, out="", err="", status=0, given="", missed=0):
+    """A command that has these connections in the place of the daemon, each what it gives or how it fails; and how many more are asked for."""
+    asked = missed + sum(part not in NONE for part in instead)
+    LINES.append((words, out, err, status, 0, given, instead, asked))
 
 
 def names(words, **more):
@@ -206,10 +209,10 @@ no_answer("create engine/tools", answer(201, compact({"Warnings": []})))
 no_answer("wait web", answer(200, compact({"StatusCode": "0"})))
 by("exec web exit 3", created(0), TAKEN, answer(200, compact({"ExitCode": None})), err="dockc: the exec has no exit code\n", status=123)
 by("watch 1700000000", LATER + LAST, err="dockc: the first events are no longer kept\n", status=123)
-by("start web", "nowhere", err=NO_CONNECTION, status=125)
+by("start web", "nowhere", err=NO_CONNECTION, status=125, missed=1)
 by("start web", "read fails", err=NO_MORE, status=125)
 by("start web", "write fails", err=NO_MORE, status=125)
-by("run engine/tools", created(0), err=NO_CONNECTION, status=125)
+by("run engine/tools", created(0), err=NO_CONNECTION, status=125, missed=1)
 by("run engine/tools", created(0), message(409, "no"), err="no\n", status=125)
 by("start web", message(404, "no"), "errors fail", status=125)
 by("start web", answer(204), "output fails", err="dockc: standard output can't be written\n", status=122)
@@ -231,12 +234,13 @@ def escaped(text):
 
 
 def main():
-    lines = [f"connections {sum(connections for *_, connections, _, _ in LINES)}\n"]
+    lines = [f"connections {sum(connections for *_, connections, _, _, _ in LINES)}\n"]
     wanted = []
-    for words, out, err, status, _, given, instead in LINES:
+    for words, out, err, status, _, given, instead, asked in LINES:
         text = words + "".join(between + escaped(part) for between, part in [(" < ", given)] * bool(given) + [(" ~ ", p) for p in instead])
         lines.append(text + "\n")
         wanted.append(f"$ dockc {text}\n{marked('', out)}{marked('! ', err)}status {status}\n")
+        wanted.append(f"asked {asked}, elsewhere 0\n" if instead else "")
     with open(f"{HERE}/stdin", "w", newline="", encoding="utf-8") as file:
         file.write("".join(lines))
     with open(f"{HERE}/stdout", "w", newline="", encoding="utf-8") as file:

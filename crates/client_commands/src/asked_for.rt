@@ -1,6 +1,6 @@
 // Requests whose answer is read.
 ghost use Rattle.std.specs.Prelude.{◌≡◌, IfOk};
-ghost use Rattle.engine_ports.specs.Link.{beside};
+ghost use Rattle.engine_ports.specs.Link.{apart_from};
 ghost use Rattle.http_edge.specs.Message.{Request};
 ghost use Rattle.client_model.specs.Requests.{request_bytes};
 ghost use Rattle.client_model.specs.Bodies as spec;
@@ -29,8 +29,8 @@ pub(crate) fn ask_id<W: Wait, L: Link, K: Sink, E: Sink>(
     errors: &mut E,
 ) -> Result<Text, Fault>
     ensures { (r : Request) → IfOk request (λ v. v.items ≡ request_bytes r) → AskReadSays r spec.id_in result
-        (reach (beside address.now (L.links link.old)) (K.takes out.old) (E.takes errors.old))
-        (reach (beside address.now (L.links link.new)) (K.takes out.new) (E.takes errors.new)) }
+        (reach (apart_from address.now (L.links link.old)) (K.takes out.old) (E.takes errors.old))
+        (reach (apart_from address.now (L.links link.new)) (K.takes out.new) (E.takes errors.new)) }
 {
     match ask_all(rt, alloc, link, address, request, out, errors) {
         Ok(body) => read_id(alloc, &body),
@@ -49,8 +49,8 @@ pub(crate) fn ask_status_code<W: Wait, L: Link, K: Sink, E: Sink>(
     errors: &mut E,
 ) -> Result<u8, Fault>
     ensures { (r : Request) → IfOk request (λ v. v.items ≡ request_bytes r) → AskReadSays r spec.status_code_in result
-        (reach (beside address.now (L.links link.old)) (K.takes out.old) (E.takes errors.old))
-        (reach (beside address.now (L.links link.new)) (K.takes out.new) (E.takes errors.new)) }
+        (reach (apart_from address.now (L.links link.old)) (K.takes out.old) (E.takes errors.old))
+        (reach (apart_from address.now (L.links link.new)) (K.takes out.new) (E.takes errors.new)) }
 {
     match ask_all(rt, alloc, link, address, request, out, errors) {
         Ok(body) => read_status_code(alloc, &body),
@@ -69,8 +69,8 @@ pub(crate) fn ask_exit_code<W: Wait, L: Link, K: Sink, E: Sink>(
     errors: &mut E,
 ) -> Result<Option<u8>, Fault>
     ensures { (r : Request) → IfOk request (λ v. v.items ≡ request_bytes r) → AskReadSays r exec.exit_code_in result
-        (reach (beside address.now (L.links link.old)) (K.takes out.old) (E.takes errors.old))
-        (reach (beside address.now (L.links link.new)) (K.takes out.new) (E.takes errors.new)) }
+        (reach (apart_from address.now (L.links link.old)) (K.takes out.old) (E.takes errors.old))
+        (reach (apart_from address.now (L.links link.new)) (K.takes out.new) (E.takes errors.new)) }
 {
     match ask_all(rt, alloc, link, address, request, out, errors) {
         Ok(body) => read_exit_code(alloc, &body),
@@ -89,8 +89,8 @@ pub(crate) fn ask_container_lines<W: Wait, L: Link, K: Sink, E: Sink>(
     errors: &mut E,
 ) -> Result<Words, Fault>
     ensures { (r : Request) → IfOk request (λ v. v.items ≡ request_bytes r) → AskReadSays r spec.container_lines_in result
-        (reach (beside address.now (L.links link.old)) (K.takes out.old) (E.takes errors.old))
-        (reach (beside address.now (L.links link.new)) (K.takes out.new) (E.takes errors.new)) }
+        (reach (apart_from address.now (L.links link.old)) (K.takes out.old) (E.takes errors.old))
+        (reach (apart_from address.now (L.links link.new)) (K.takes out.new) (E.takes errors.new)) }
 {
     match ask_all(rt, alloc, link, address, request, out, errors) {
         Ok(body) => read_container_lines(alloc, &body),
@@ -109,8 +109,8 @@ pub(crate) fn ask_volume_names<W: Wait, L: Link, K: Sink, E: Sink>(
     errors: &mut E,
 ) -> Result<Words, Fault>
     ensures { (r : Request) → IfOk request (λ v. v.items ≡ request_bytes r) → AskReadSays r spec.volume_names_in result
-        (reach (beside address.now (L.links link.old)) (K.takes out.old) (E.takes errors.old))
-        (reach (beside address.now (L.links link.new)) (K.takes out.new) (E.takes errors.new)) }
+        (reach (apart_from address.now (L.links link.old)) (K.takes out.old) (E.takes errors.old))
+        (reach (apart_from address.now (L.links link.new)) (K.takes out.new) (E.takes errors.new)) }
 {
     match ask_all(rt, alloc, link, address, request, out, errors) {
         Ok(body) => read_volume_names(alloc, &body),

@@ -79,7 +79,7 @@ way_none plan input o = record {
   came = came_none o.link.coming;
   left = left_none o.link.past;
   others = refl;
-  faults = omega arith;
+  faults = refl;
   sent = refl;
   took = both_none o.shown;
   says = λ more. refl;
@@ -95,7 +95,7 @@ way_on plan next last input o p q a b = record {
   came = came_on o.link.coming p.link.coming q.link.coming a.xs b.xs a.came b.came;
   left = left_on o.link.past p.link.past q.link.past a.xs b.xs a.left b.left;
   others = b.others ∙ a.others;
-  faults = omega (arith, a.faults, b.faults);
+  faults = b.faults ∙ a.faults;
   sent =
       map-append (λ (x : Exchange). x.sent) a.xs b.xs ∙ ap₂ (λ l m. l ++ m) a.sent b.sent ∙ sym (map-append (sent_by input) a.asked b.asked);
   took = both_on o.shown p.shown q.shown a.written b.written a.took b.took;

@@ -1,6 +1,6 @@
 -- One request over a connection of its own, and its answer (own).
-use Rattle.std.specs.Prelude.{ℕ, ◌≡◌, ◌⊎◌, ◌≤◌, nat_lt, true, List, [], ◌∷◌, Result, Ok, Err, ⊤}
-use Rattle.engine_ports.specs.Rose.{Rose}
+use Rattle.std.specs.Prelude.{ℕ, ◌≡◌, ◌⊎◌, nat_lt, true, List, [], ◌∷◌, Result, Ok, Err}
+use Rattle.engine_ports.specs.Rose.{Rose, raised}
 use Rattle.engine_ports.specs.Source.{SourceView}
 use Rattle.engine_ports.specs.Sink.{SinkView, SinkTook, IsFront}
 use Rattle.engine_ports.specs.Link.{LinkView}
@@ -17,7 +17,7 @@ use Rattle.client_exchange.specs.Telling.{Refuses, answer_shows, AnswerSays}
 use Rattle.client_exchange.specs.declared.got.Got.{Got}
 use Rattle.client_streams.specs.declared.taker.Showing.{Showing}
 
--- what a request reaches: the link beside its address, and the outputs
+-- what a request reaches: the link, apart from the call's address, and the outputs
 pub record Reach : Type 0 where
   pub link : LinkView
   pub shown : Outputs
@@ -51,12 +51,12 @@ ConverseSays bytes starved result showing t s s' u u' o o' =
 
 -- ---- over the link
 
--- one connection was made, and left; no other address was asked for
+-- one connection was made, and left, at once, and no other address was asked for
 pub record Meets (v v' : LinkView) (x : Exchange) : Type 0 where
   pub came : HaveCome v.coming (x.came ∷ []) v'.coming
   pub left : AreLeft v.past (x.left ∷ []) v'.past
   pub others : v'.addresses ≡ v.addresses
-  pub faults : v.faults ≤ v'.faults
+  pub faults : v'.faults ≡ v.faults
 
 -- it was sent the request, and gave this answer
 pub record IsAnswered (request : List ℕ) (answer : Answer) (v v' : LinkView) : Type 0 where
@@ -65,7 +65,7 @@ pub record IsAnswered (request : List ℕ) (answer : Answer) (v v' : LinkView) :
   pub sent : exchange.sent ≡ request
   pub is : IsAnswer exchange.given (has_ended exchange) answer
 
--- none was made, and no other address asked for
+-- none was made, and no other address was asked for
 pub record IsMissed (v v' : LinkView) : Type 0 where
   pub coming : v'.coming ≡ v.coming
   pub past : v'.past ≡ v.past
@@ -104,10 +104,10 @@ pub record HasBroken (bytes : List ℕ) (starved : Type 0) (fault : Fault) (show
   pub began : BothBegan o.shown (answer_shows showing answer) o'.shown
   pub cause : FailsOn starved fault exchange o.shown o'.shown
 
--- why no connection was made
+-- why no connection was made: it was tried once, or memory was refused before
 abbrev pub Misses : Fault → LinkView → LinkView → Type 0
-Misses F.Link v v' = Rose v.faults v'.faults
-Misses F.NoMemory v v' = ⊤
+Misses F.Link v v' = v'.faults ≡ raised v.faults
+Misses F.NoMemory v v' = v'.faults ≡ v.faults
 Misses fault v v' = ⊥
 
 -- no connection was made, and nothing shown

@@ -1,5 +1,5 @@
 -- A command on its way: whole exchanges bring it from plan to plan, and then it ends or breaks off (own).
-use Rattle.std.specs.Prelude.{ℕ, ◌≡◌, ◌⊎◌, ◌≤◌, false, List, [], ◌∷◌, ◌++◌, map, None, Result, Ok, Err, ⊤}
+use Rattle.std.specs.Prelude.{ℕ, ◌≡◌, ◌⊎◌, false, List, [], ◌∷◌, ◌++◌, map, None, Result, Ok, Err, ⊤}
 use Rattle.std.specs.List.{list_any}
 use Rattle.response_reader.specs.Answers.{Answer, TellsSoFar}
 use Rattle.client_model.specs.Plans.{Plan, Ends, Judges, Asked, Written, Ending, Done, Fails, joined}
@@ -22,7 +22,8 @@ IsAsking plan = ⊤
 abbrev pub said_behind : List Asked → Written → Said → Said
 said_behind asked w s = said (asked ++ s.asked) (joined w s.written) s.end
 
--- whole exchanges bring a plan to the next; a request may be followed by this input
+-- whole exchanges, for which no other address was asked, bring a plan to the next; a request may be followed by this
+-- input
 pub record Walked (plan : Plan) (input : List ℕ) (o : Reach) (next : Plan) (o' : Reach) : Type 0 where
   pub xs : List Exchange
   pub answers : List Answer
@@ -32,7 +33,7 @@ pub record Walked (plan : Plan) (input : List ℕ) (o : Reach) (next : Plan) (o'
   pub came : HaveCome o.link.coming (map (λ x. x.came) xs) o'.link.coming
   pub left : AreLeft o.link.past (map (λ x. x.left) xs) o'.link.past
   pub others : o'.link.addresses ≡ o.link.addresses
-  pub faults : o.link.faults ≤ o'.link.faults
+  pub faults : o'.link.faults ≡ o.link.faults
   pub sent : map (λ x. x.sent) xs ≡ map (sent_by input) asked
   pub took : BothTook o.shown written o'.shown
   pub says : (more : List Answer) → said_by plan None (answers ++ more) ≡ said_behind asked written (said_by next None more)
@@ -49,9 +50,10 @@ pub record Finishes (plan : Plan) (ending : Ending) (o o' : Reach) : Type 0 wher
   pub took : BothTook o.shown written o'.shown
   pub link : o'.link ≡ o.link
 
--- why nothing more was asked: an output failed, no connection was made, or memory was refused
+-- why nothing more was asked: an output failed and no connection was tried, none was made, or memory was refused
 abbrev pub FailsAlone : Fault → Reach → Reach → Type 0
-FailsAlone fault o o' = OutputsFail fault o.shown o'.shown ⊎ Misses fault o.link o'.link
+FailsAlone fault o o' =
+    (OutputsFail fault o.shown o'.shown × (o'.link.faults ≡ o.link.faults)) ⊎ Misses fault o.link o'.link
 
 -- it broke off before anything more was asked: fronts of what it writes first were written
 pub record StopsBefore (plan : Plan) (fault : Fault) (o o' : Reach) : Type 0 where

@@ -2,21 +2,21 @@
 use Rattle.std.specs.Prelude.{ℕ, ◌≡◌, ◌⊎◌, nat_lt, Bool, true, IsFalse, List, [], ◌∷◌, ◌++◌, map, Option, Some, None, ⊤, if◌then◌else◌}
 use Rattle.std.specs.Bool.{MatchBool}
 use Rattle.std.specs.List.{list_any}
-use Rattle.engine_ports.specs.Rose.{Rose}
+use Rattle.engine_ports.specs.Rose.{Rose, raised}
 use Rattle.engine_ports.specs.Source.{SourceView, SourceGave, SourceEnded}
 use Rattle.engine_ports.specs.Sink.{SinkView, SinkTook, IsFront}
-use Rattle.engine_ports.specs.Link.{LinkView, Wire}
+use Rattle.engine_ports.specs.Link.{LinkView, Wire, others}
 use Rattle.history_replay.specs.declared.verdict.Verdict.{Verdict}
 use Rattle.response_reader.specs.Answers.{Answer, IsAnswer, TellsSoFar}
 use Rattle.client_model.specs.Requests.{request_bytes}
 use Rattle.client_model.specs.Faults.{status_of, fault_line}
 use Rattle.client_model.specs.Plans.{Plan, Judges, Asked, Ending}
-use Rattle.client_model.specs.Lines.{command_names}
+use Rattle.client_model.specs.Lines.{command_names, address_in}
 use Rattle.client_model.specs.Client.{Said, plan_for, said_by, IsJudged, status_at, line_at}
 use Rattle.client_model.specs.declared.fault.Fault.{Fault}
 use Rattle.client_model.specs.declared.fault.Fault.TheVariants as F
 
--- what a client has outside: its link, beside the address of its line, standard input, output and error
+-- what a client has outside: its link, standard input, output and error
 pub record Outside : Type 0 where
   pub link : LinkView
   pub input : SourceView
@@ -59,13 +59,18 @@ AreLeft (Some before) left (Some now) = now ≡ before ++ left
 AreLeft None left None = ⊤
 AreLeft before left now = ⊥
 
--- in this call these connections were made, one after another, no other address was asked for, and standard input gave
--- this
-pub record Meets (o o' : Outside) (xs : List Exchange) (input : List ℕ) : Type 0 where
+-- in this call these connections were made, one after another, no address but this was asked for, and standard input
+-- gave this
+pub record Meets (address : List ℕ) (o o' : Outside) (xs : List Exchange) (input : List ℕ) : Type 0 where
   pub came : HaveCome o.link.coming (map (λ x. x.came) xs) o'.link.coming
   pub left : AreLeft o.link.past (map (λ x. x.left) xs) o'.link.past
-  pub others : o'.link.addresses ≡ o.link.addresses
+  pub asked : others address o'.link.addresses ≡ others address o.link.addresses
   pub input_gave : SourceGave o.input input o'.input
+
+-- how often no connection could be made, behind this fault: once more where it is the link's
+abbrev pub missed_by : Fault → ℕ → ℕ
+missed_by F.Link missed = raised missed
+missed_by fault missed = missed
 
 -- ---- what is said by the answers
 
@@ -106,7 +111,8 @@ pub record IsEnded (words : List (List ℕ)) (status : ℕ) (o o' : Outside) : T
   pub said : Said
   pub ending : Ending
   pub part : List ℕ
-  pub meets : Meets o o' xs input
+  pub meets : Meets (address_in words) o o' xs input
+  pub missed : o'.link.faults ≡ o.link.faults
   pub judged : IsJudged (plan_for words) input verdict
   pub says : ByAnswers (plan_for words) verdict xs said
   pub ended : said.end ≡ Some ending
@@ -123,13 +129,13 @@ HasFailed [] = ⊥
 HasFailed (x ∷ xs) =
     (Rose x.came.source.faults x.left.source.faults ⊎ Rose x.came.sink.faults x.left.sink.faults) ⊎ HasFailed xs
 
--- what rose outside, or that memory was refused, by the fault
+-- what rose outside, or that memory was refused, by the fault; of the link's own, `missed_by` tells it
 abbrev pub CauseOf : Fault → Outside → Outside → List Exchange → Type 0
 CauseOf F.Input o o' xs = Rose o.input.faults o'.input.faults
 CauseOf F.Output o o' xs = Rose o.out.faults o'.out.faults
 CauseOf F.Errors o o' xs = Rose o.err.faults o'.err.faults
 CauseOf F.NoMemory o o' xs = ⊤
-CauseOf F.Link o o' xs = Rose o.link.faults o'.link.faults
+CauseOf F.Link o o' xs = ⊤
 CauseOf F.Connection o o' xs = HasFailed xs
 CauseOf fault o o' xs = ⊥
 
@@ -150,7 +156,8 @@ pub record IsBrokenOff (words : List (List ℕ)) (status : ℕ) (o o' : Outside)
   pub out_part : List ℕ
   pub err_part : List ℕ
   pub part : List ℕ
-  pub meets : Meets o o' xs input
+  pub meets : Meets (address_in words) o o' xs input
+  pub missed : o'.link.faults ≡ missed_by fault o.link.faults
   pub judged : (verdict ≡ None) ⊎ IsJudged (plan_for words) input verdict
   pub says : ByAnswers (plan_for words) verdict xs said ⊎ SoFar (plan_for words) verdict xs said
   pub sent : AreSentSoFar (map (λ x. x.sent) xs) (map (sent_by input) said.asked)

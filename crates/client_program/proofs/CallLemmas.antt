@@ -10,6 +10,7 @@ use Rattle.history_replay.specs.declared.verdict.Verdict.{Verdict}
 use Rattle.machine_model.specs.History.{Charter}
 use Rattle.client_model.specs.Plans.{Plan, Ends, Asks, Judges, Asked, Done, Fails, nothing}
 use Rattle.client_model.specs.Client.{Said, said, said_by, plan_for, IsJudged}
+use Rattle.client_model.specs.Lines.{address_in}
 use Rattle.client_model.specs.Runs.{Outside, HaveCome, AreLeft, ReadsInput, IsEnded, IsBrokenOff, Runs, asks_input, CauseOf}
 use Rattle.client_model.specs.declared.fault.Fault.{Fault}
 use Rattle.client_model.specs.declared.fault.Fault.TheVariants as F
@@ -23,17 +24,19 @@ use Rattle.client_exchange.proofs.FeedLemmas.{with_input}
 use Rattle.client_commands.specs.Printing.{PrintsOrLacks}
 use Rattle.client_program.specs.Replaying as replay
 use Rattle.client_program.specs.Running.{outside, reach_of, Ran, Tells}
-use Rattle.client_program.proofs.RunLemmas.{loud_reads, loud_first, loud_last, ended, broken_off, stopped_before, stopped_in, stop_fed, alone_cause}
+use Rattle.client_program.proofs.RunLemmas.{loud_reads, loud_first, loud_last, ended, broken_off, stopped_before, stopped_in, stop_fed, as_often, alone_caused}
 
 -- ---- a plan by another name
 
-pub alone : (plan plan' : Plan) (result : Result ℕ Fault) (o o' : Outside) → plan ≡ plan' → Does plan result (reach_of o) (reach_of o') → o'.input ≡ o.input → Ran plan' result o o'
-alone plan plan' result o o' is d same = inl (inl (subst (λ p. Does p result (reach_of o) (reach_of o')) is d, same))
+pub alone : (address : List ℕ) (plan plan' : Plan) (result : Result ℕ Fault) (o o' : Outside) → plan ≡ plan'
+    → Does plan result (reach_of address o) (reach_of address o') → o'.input ≡ o.input → Ran address plan' result o o'
+alone address plan plan' result o o' is d same = inl (inl (subst (λ p. Does p result (reach_of address o) (reach_of address o')) is d, same))
 
-pub fed : (plan plan' : Plan) (result : Result ℕ Fault) (o o' : Outside) → plan ≡ plan' → FedDoes plan result o.input o'.input (reach_of o) (reach_of o') → Ran plan' result o o'
-fed plan plan' result o o' is d = inl (subst (λ p. FedDoes p result o.input o'.input (reach_of o) (reach_of o')) is d)
+pub fed : (address : List ℕ) (plan plan' : Plan) (result : Result ℕ Fault) (o o' : Outside) → plan ≡ plan'
+    → FedDoes plan result o.input o'.input (reach_of address o) (reach_of address o') → Ran address plan' result o o'
+fed address plan plan' result o o' is d = inl (subst (λ p. FedDoes p result o.input o'.input (reach_of address o) (reach_of address o')) is d)
 
--- ---- standard input beside a plan
+-- ---- standard input of a plan
 
 none_read : (v v' : SourceView) → v' ≡ v → SourceGave v [] v'
 none_read v v' same = subst (SourceGave v []) (sym same) (source_none v)
@@ -49,13 +52,13 @@ loud_so asked input v v' loud end = subst (λ t. MatchBool t (SourceEnded v v') 
 -- ---- the command came to its end
 
 module _ (words : List (List ℕ)) (o m : Outside) where
-  done_so : (status : ℕ) (input : List ℕ) (next : Plan) (p : Reach) (way : Walked (plan_for words) input (reach_of o) next p) → Finishes next (Done status) p (reach_of m)
+  done_so : (status : ℕ) (input : List ℕ) (next : Plan) (p : Reach) (way : Walked (plan_for words) input (reach_of (address_in words) o) next p) → Finishes next (Done status) p (reach_of (address_in words) m)
       → SourceGave o.input input m.input → MatchBool (list_any (λ a. a.input) way.asked) (SourceEnded o.input m.input) (input ≡ []) → IsEnded words status o m
   done_so status input next p way f gave reads =
       ended words input next f.written (Done status) status o m p m.err [] way f.is f.took f.link gave reads (sink_none m.err) (inl refl) refl
 
-  fails_so : (fault : Fault) (status : ℕ) (e : SinkView) (input : List ℕ) (next : Plan) (p : Reach) (way : Walked (plan_for words) input (reach_of o) next p)
-      → Finishes next (Fails fault) p (reach_of m) → SourceGave o.input input m.input
+  fails_so : (fault : Fault) (status : ℕ) (e : SinkView) (input : List ℕ) (next : Plan) (p : Reach) (way : Walked (plan_for words) input (reach_of (address_in words) o) next p)
+      → Finishes next (Fails fault) p (reach_of (address_in words) m) → SourceGave o.input input m.input
       → MatchBool (list_any (λ a. a.input) way.asked) (SourceEnded o.input m.input) (input ≡ []) → Tells fault status m.err e
       → IsEnded words status o (outside m.link m.input m.out e)
   fails_so fault status e input next p way f gave reads tells =
@@ -63,13 +66,13 @@ module _ (words : List (List ℕ)) (o m : Outside) where
 
   -- ---- without input
 
-  does_ok : (status : ℕ) → Does (plan_for words) (Ok status) (reach_of o) (reach_of m) → m.input ≡ o.input → IsEnded words status o m
+  does_ok : (status : ℕ) → Does (plan_for words) (Ok status) (reach_of (address_in words) o) (reach_of (address_in words) m) → m.input ≡ o.input → IsEnded words status o m
   does_ok status d same =
       done_so status [] d.next d.between d.walks.way d.comes (none_read o.input m.input same)
       (quiet_so d.walks.way.asked [] o.input m.input d.walks.quiet refl)
 
-  comes_err : (fault : Fault) (status : ℕ) (e : SinkView) (next : Plan) (p : Reach) (walks : Walks (plan_for words) (reach_of o) next p) → m.input ≡ o.input
-      → Comes next (Err fault) p (reach_of m) → Tells fault status m.err e → Runs words status o (outside m.link m.input m.out e)
+  comes_err : (fault : Fault) (status : ℕ) (e : SinkView) (next : Plan) (p : Reach) (walks : Walks (plan_for words) (reach_of (address_in words) o) next p) → m.input ≡ o.input
+      → Comes next (Err fault) p (reach_of (address_in words) m) → Tells fault status m.err e → Runs words status o (outside m.link m.input m.out e)
   comes_err fault status e next p walks same (inl f) tells =
       inl (fails_so fault status e [] next p walks.way f (none_read o.input m.input same) (quiet_so walks.way.asked [] o.input m.input walks.quiet refl) tells)
   comes_err fault status e next p walks same (inr (inl b)) tells =
@@ -79,13 +82,13 @@ module _ (words : List (List ℕ)) (o m : Outside) where
 
   -- ---- with input
 
-  behind_ok : (status : ℕ) → DoesBehind (plan_for words) (Ok status) o.input m.input (reach_of o) (reach_of m) → IsEnded words status o m
+  behind_ok : (status : ℕ) → DoesBehind (plan_for words) (Ok status) o.input m.input (reach_of (address_in words) o) (reach_of (address_in words) m) → IsEnded words status o m
   behind_ok status d =
       done_so status d.feeds.input d.next d.between d.feeds.way d.comes d.feeds.gave
       (loud_so d.feeds.way.asked d.feeds.input o.input m.input d.feeds.loud d.feeds.ended)
 
-  behind_err : (fault : Fault) (status : ℕ) (e : SinkView) (next : Plan) (p : Reach) (feeds : Feeds (plan_for words) o.input m.input (reach_of o) next p)
-      → Comes next (Err fault) p (reach_of m) → Tells fault status m.err e → Runs words status o (outside m.link m.input m.out e)
+  behind_err : (fault : Fault) (status : ℕ) (e : SinkView) (next : Plan) (p : Reach) (feeds : Feeds (plan_for words) o.input m.input (reach_of (address_in words) o) next p)
+      → Comes next (Err fault) p (reach_of (address_in words) m) → Tells fault status m.err e → Runs words status o (outside m.link m.input m.out e)
   behind_err fault status e next p feeds (inl f) tells =
       inl (fails_so fault status e feeds.input next p feeds.way f feeds.gave
       (loud_so feeds.way.asked feeds.input o.input m.input feeds.loud feeds.ended) tells)
@@ -94,24 +97,24 @@ module _ (words : List (List ℕ)) (o m : Outside) where
       (loud_reads (plan_for words) (said_behind feeds.way.asked feeds.way.written (said_by next None [])) feeds.input
       (loud_first feeds.way.asked (said_by next None []).asked feeds.loud)) tells)
   behind_err fault status e next p feeds (inr (inr b)) tells =
-      inr (stopped_in words feeds.input next ⊥ fault status o m p e feeds.way (stop_fed next feeds.input ⊥ fault p (reach_of m) b) (λ never. absurd never) feeds.gave
+      inr (stopped_in words feeds.input next ⊥ fault status o m p e feeds.way (stop_fed next feeds.input ⊥ fault p (reach_of (address_in words) m) b) (λ never. absurd never) feeds.gave
       (λ answer. loud_reads (plan_for words) (said_behind feeds.way.asked feeds.way.written (said_by next None (answer ∷ []))) feeds.input
       (loud_first feeds.way.asked (said_by next None (answer ∷ [])).asked feeds.loud)) tells)
 
-  feeding_err : (fault : Fault) (status : ℕ) (e : SinkView) → StopsFeeding (plan_for words) fault o.input m.input (reach_of o) (reach_of m) → Tells fault status m.err e
+  feeding_err : (fault : Fault) (status : ℕ) (e : SinkView) → StopsFeeding (plan_for words) fault o.input m.input (reach_of (address_in words) o) (reach_of (address_in words) m) → Tells fault status m.err e
       → Runs words status o (outside m.link m.input m.out e)
   feeding_err fault status e s tells =
       inr (stopped_in words s.input s.next (InputFails o.input m.input) fault status o m s.between e way s.stops (λ rose. rose) s.gave
       (λ answer. loud_reads (plan_for words) (said_behind way.asked way.written (said_by s.next None (answer ∷ []))) s.input
       (loud_last way.asked (said_by s.next None (answer ∷ [])).asked (s.loud answer))) tells)
     where
-      way : Walked (plan_for words) s.input (reach_of o) s.next s.between
-      way = with_input (plan_for words) s.next s.input (reach_of o) s.between s.walks
+      way : Walked (plan_for words) s.input (reach_of (address_in words) o) s.next s.between
+      way = with_input (plan_for words) s.next s.input (reach_of (address_in words) o) s.between s.walks
 
   -- ---- with a verdict
 
   judged_ok : (status : ℕ) (charter : Charter) (next : Verdict → Plan) → plan_for words ≡ Judges charter next
-      → (j : replay.IsJudged charter next (Ok status) o.input m.input (reach_of o) (reach_of m)) → Finishes (next j.verdict) (Done status) (reach_of o) (reach_of m)
+      → (j : replay.IsJudged charter next (Ok status) o.input m.input (reach_of (address_in words) o) (reach_of (address_in words) m)) → Finishes (next j.verdict) (Done status) (reach_of (address_in words) o) (reach_of (address_in words) m)
       → IsEnded words status o m
   judged_ok status charter next is j f = record {
     xs = [];
@@ -123,9 +126,10 @@ module _ (words : List (List ℕ)) (o m : Outside) where
     meets = record {
       came = subst (λ (l : LinkView). HaveCome o.link.coming [] l.coming) (sym f.link) (came_none o.link.coming);
       left = subst (λ (l : LinkView). AreLeft o.link.past [] l.past) (sym f.link) (left_none o.link.past);
-      others = ap (λ (l : LinkView). l.addresses) f.link;
+      asked = ap (λ (l : LinkView). l.addresses) f.link;
       input_gave = j.gave;
     };
+    missed = ap (λ (l : LinkView). l.faults) f.link;
     judged = subst (λ p. IsJudged p j.input (Some j.verdict)) (sym is) j.is;
     says = ([], tt, sym (ap (λ p. said_by p (Some j.verdict) []) is ∙ ap (λ n. said_by n None []) f.is));
     ended = refl;
@@ -146,7 +150,7 @@ module _ (words : List (List ℕ)) (o m : Outside) where
       true_false e = cc
 
   judged_stops : (fault : Fault) (status : ℕ) (e : SinkView) (charter : Charter) (next : Verdict → Plan) → plan_for words ≡ Judges charter next
-      → (j : replay.IsJudged charter next (Err fault) o.input m.input (reach_of o) (reach_of m)) → StopsBefore (next j.verdict) fault (reach_of o) (reach_of m)
+      → (j : replay.IsJudged charter next (Err fault) o.input m.input (reach_of (address_in words) o) (reach_of (address_in words) m)) → StopsBefore (next j.verdict) fault (reach_of (address_in words) o) (reach_of (address_in words) m)
       → Tells fault status m.err e → IsBrokenOff words status o (outside m.link m.input m.out e)
   judged_stops fault status e charter next is j b tells =
       broken_off words j.input (Some j.verdict) [] (said_by (next j.verdict) None []) fault status o m e
@@ -159,14 +163,14 @@ module _ (words : List (List ℕ)) (o m : Outside) where
       tt
       (reads_all charter next j.input is (said_by (next j.verdict) None []))
       b.began
-      (alone_cause fault o m (reach_of o) nothing [] (both_none (outputs o.out o.err)) (omega arith) b.cause)
+      (alone_caused fault (address_in words) o m (reach_of (address_in words) o) nothing [] (both_none (outputs o.out o.err)) refl b.cause)
       tells
 
   -- nothing was printed
   unprinted : (fault : Fault) (status : ℕ) (e : SinkView) (charter : Charter) (next : Verdict → Plan) (input : List ℕ) → plan_for words ≡ Judges charter next
-      → SourceGave o.input input m.input → reach_of m ≡ reach_of o → CauseOf fault o m [] → Tells fault status m.err e
+      → SourceGave o.input input m.input → reach_of (address_in words) m ≡ reach_of (address_in words) o → CauseOf fault o m [] → (fault ≡ F.Link → ⊥) → Tells fault status m.err e
       → IsBrokenOff words status o (outside m.link m.input m.out e)
-  unprinted fault status e charter next input is gave same cause tells =
+  unprinted fault status e charter next input is gave same cause other tells =
       broken_off words input None [] (said [] nothing None) fault status o m e
       (subst (λ (r : Reach). HaveCome o.link.coming [] r.link.coming) (sym same) (came_none o.link.coming))
       (subst (λ (r : Reach). AreLeft o.link.past [] r.link.past) (sym same) (left_none o.link.past))
@@ -176,7 +180,7 @@ module _ (words : List (List ℕ)) (o m : Outside) where
       tt
       (reads_all charter next input is (said [] nothing None))
       (subst (λ (r : Reach). BothBegan (outputs o.out o.err) nothing r.shown) (sym same) (began_none (outputs o.out o.err) nothing))
-      cause tells
+      (cause, as_often fault o.link.faults m.link.faults other (ap (λ (r : Reach). r.link.faults) same)) tells
 
   unread_cause : (fault : Fault) → replay.ReadingFails fault o.input m.input → CauseOf fault o m []
   unread_cause F.Input r = r
@@ -197,10 +201,13 @@ module _ (words : List (List ℕ)) (o m : Outside) where
   same_err : (r : Result ℕ Fault) (a b : Fault) → r ≡ Err a → r ≡ Err b → b ≡ a
   same_err r a b is also = cc
 
-  by_plan_ok : (status : ℕ) (plan : Plan) → plan_for words ≡ plan → replay.Judged plan (Ok status) o.input m.input (reach_of o) (reach_of m) → IsEnded words status o m
+  memory_link : F.NoMemory ≡ F.Link → ⊥
+  memory_link e = cc
+
+  by_plan_ok : (status : ℕ) (plan : Plan) → plan_for words ≡ plan → replay.Judged plan (Ok status) o.input m.input (reach_of (address_in words) o) (reach_of (address_in words) m) → IsEnded words status o m
   by_plan_ok status (Judges charter next) is (inl j) = by_print j.prints
     where
-      by_print : PrintsOrLacks (next j.verdict) (Ok status) (reach_of o) (reach_of m) → IsEnded words status o m
+      by_print : PrintsOrLacks (next j.verdict) (Ok status) (reach_of (address_in words) o) (reach_of (address_in words) m) → IsEnded words status o m
       by_print (inl f) = judged_ok status charter next is j f
       by_print (inr (never, same)) = absurd (ok_err (Ok status) status F.NoMemory refl never)
   by_plan_ok status (Judges charter next) is (inr u) = absurd (ok_err (Ok status) status u.fault refl u.is)
@@ -208,32 +215,34 @@ module _ (words : List (List ℕ)) (o m : Outside) where
   by_plan_ok status (Asks w asked next) is j = absurd j
 
   by_plan_err : (fault : Fault) (status : ℕ) (e : SinkView) (plan : Plan) → plan_for words ≡ plan
-      → replay.Judged plan (Err fault) o.input m.input (reach_of o) (reach_of m) → Tells fault status m.err e → IsBrokenOff words status o (outside m.link m.input m.out e)
+      → replay.Judged plan (Err fault) o.input m.input (reach_of (address_in words) o) (reach_of (address_in words) m) → Tells fault status m.err e → IsBrokenOff words status o (outside m.link m.input m.out e)
   by_plan_err fault status e (Judges charter next) is (inl j) tells = by_print j.prints
     where
-      by_print : PrintsOrLacks (next j.verdict) (Err fault) (reach_of o) (reach_of m)
+      by_print : PrintsOrLacks (next j.verdict) (Err fault) (reach_of (address_in words) o) (reach_of (address_in words) m)
           → IsBrokenOff words status o (outside m.link m.input m.out e)
       by_print (inl b) = judged_stops fault status e charter next is j b tells
       by_print (inr (lack, same)) =
-          unprinted fault status e charter next j.input is j.gave same (subst (λ f. CauseOf f o m []) (same_err (Err fault) fault F.NoMemory refl lack) tt) tells
+          unprinted fault status e charter next j.input is j.gave same (subst (λ f. CauseOf f o m []) (same_err (Err fault) fault F.NoMemory refl lack) tt)
+          (λ link. memory_link (same_err (Err fault) fault F.NoMemory refl lack ∙ link)) tells
   by_plan_err fault status e (Judges charter next) is (inr u) tells =
       unprinted fault status e charter next u.unread.0 is u.unread.1 u.unshown
-      (subst (λ f. CauseOf f o m []) (same_err (Err fault) fault u.fault refl u.is) (unread_cause u.fault u.unread.2)) tells
+      (subst (λ f. CauseOf f o m []) (same_err (Err fault) fault u.fault refl u.is) (unread_cause u.fault u.unread.2))
+      (λ link. subst (λ f. replay.ReadingFails f o.input m.input) (same_err (Err fault) fault u.fault refl u.is ∙ link) u.unread.2) tells
   by_plan_err fault status e (Ends w ending) is j tells = absurd j
   by_plan_err fault status e (Asks w asked next) is j tells = absurd j
 
 -- ---- a whole call
 
-pub ran_ok : (words : List (List ℕ)) (status : ℕ) (o o' : Outside) → Ran (plan_for words) (Ok status) o o' → Runs words status o o'
+pub ran_ok : (words : List (List ℕ)) (status : ℕ) (o o' : Outside) → Ran (address_in words) (plan_for words) (Ok status) o o' → Runs words status o o'
 ran_ok words status o o' (inl (inl (d, same))) = inl (does_ok words o o' status d same)
 ran_ok words status o o' (inl (inr (inl d))) = inl (behind_ok words o o' status d)
 ran_ok words status o o' (inl (inr (inr (fault, is, s)))) = absurd (ok_err words o o' (Ok status) status fault refl is)
 ran_ok words status o o' (inr j) = inl (by_plan_ok words o o' status (plan_for words) refl j)
 
-pub ran_err : (words : List (List ℕ)) (fault : Fault) (status : ℕ) (o m : Outside) (e : SinkView) → Ran (plan_for words) (Err fault) o m → Tells fault status m.err e
+pub ran_err : (words : List (List ℕ)) (fault : Fault) (status : ℕ) (o m : Outside) (e : SinkView) → Ran (address_in words) (plan_for words) (Err fault) o m → Tells fault status m.err e
     → Runs words status o (outside m.link m.input m.out e)
 ran_err words fault status o m e (inl (inl (d, same))) tells = comes_err words o m fault status e d.next d.between d.walks same d.comes tells
 ran_err words fault status o m e (inl (inr (inl d))) tells = behind_err words o m fault status e d.next d.between d.feeds d.comes tells
 ran_err words fault status o m e (inl (inr (inr (other, is, s)))) tells =
-    feeding_err words o m fault status e (subst (λ f. StopsFeeding (plan_for words) f o.input m.input (reach_of o) (reach_of m)) (same_err words o m (Err fault) fault other refl is) s) tells
+    feeding_err words o m fault status e (subst (λ f. StopsFeeding (plan_for words) f o.input m.input (reach_of (address_in words) o) (reach_of (address_in words) m)) (same_err words o m (Err fault) fault other refl is) s) tells
 ran_err words fault status o m e (inr j) tells = inr (by_plan_err words o m fault status e (plan_for words) refl j tells)

@@ -4,7 +4,7 @@ use Rattle.std.specs.Prelude.{option_and_then, option_map}
 use Rattle.std.specs.Option.{option_map_or}
 use Rattle.engine_ports.specs.Source.{SourceView}
 use Rattle.engine_ports.specs.Sink.{SinkView}
-use Rattle.engine_ports.specs.Link.{LinkView, beside}
+use Rattle.engine_ports.specs.Link.{LinkView, apart_from}
 use Rattle.client_model.specs.Plans.{Plan, fails}
 use Rattle.engine_line.specs.Lines.{port_in}
 use Rattle.client_model.specs.Lines.{read_by, commands, address_in, line_with, line_of}
@@ -42,34 +42,29 @@ line_leads [] line is = absurd (none_some line is)
     none_some line e = cc
 line_leads (address ∷ words) line is = with_address address (port_in address) (read_by commands words) line is
 
--- a line's outside, its link told beside that address
-abbrev pub outside_at : List ℕ → LinkView → SourceView → SinkView → SinkView → Outside
-outside_at address link input out err = outside (beside address link) input out err
-
 -- its command was run
-pub line_ran : (words : List (List ℕ)) (line : Line) (address : List ℕ) (result : Result ℕ Fault) (l l' : LinkView) (i i' : SourceView) (u u' e e' : SinkView)
-    → line_of words ≡ Some line → address ≡ line.address
-    → Ran (plan_of line.command) result (outside_at address l i u e) (outside_at address l' i' u' e')
-    → Ran (plan_for words) result (outside_at (address_in words) l i u e) (outside_at (address_in words) l' i' u' e')
-line_ran words line address result l l' i i' u u' e e' is same ran =
-    subst (λ a. Ran (plan_for words) result (outside_at a l i u e) (outside_at a l' i' u' e')) (same ∙ line_leads words line is)
-    (subst (λ n. Ran (option_map_or (λ (m : Line). plan_of m.command) n (fails F.Words)) result (outside_at address l i u e) (outside_at address l' i' u' e')) (sym is) ran)
+pub line_ran : (words : List (List ℕ)) (line : Line) (address : List ℕ) (result : Result ℕ Fault) (o o' : Outside) → line_of words ≡ Some line → address ≡ line.address
+    → Ran address (plan_of line.command) result o o' → Ran (address_in words) (plan_for words) result o o'
+line_ran words line address result o o' is same ran =
+    subst (λ a. Ran a (plan_for words) result o o') (same ∙ line_leads words line is)
+    (subst (λ n. Ran address (option_map_or (λ (m : Line). plan_of m.command) n (fails F.Words)) result o o') (sym is) ran)
 
 -- the words are none
-pub no_line : (words : List (List ℕ)) (why : Unread) (o : Outside) → why ≡ NoForm → Reads (Err why) (line_of words) → Ran (plan_for words) (Err F.Words) o o
+pub no_line : (words : List (List ℕ)) (why : Unread) (o : Outside) → why ≡ NoForm → Reads (Err why) (line_of words)
+    → Ran (address_in words) (plan_for words) (Err F.Words) o o
 no_line words why o form reads =
-    subst (λ l. Ran (option_map_or (λ (m : Line). plan_of m.command) l (fails F.Words)) (Err F.Words) o o)
+    subst (λ l. Ran (address_in words) (option_map_or (λ (m : Line). plan_of m.command) l (fails F.Words)) (Err F.Words) o o)
     (sym (subst (λ u. Reads (Err u) (line_of words)) form reads))
-    (inl (inl (does_fail (fails F.Words) F.Words (reach_of o) (reach_of o) (walk_none (fails F.Words) (reach_of o)), refl)))
+    (inl (inl (does_fail (fails F.Words) F.Words (reach_of (address_in words) o) (reach_of (address_in words) o) (walk_none (fails F.Words) (reach_of (address_in words) o)), refl)))
 
 -- memory was refused
-pub line_lacks : (plan : Plan) (o : Outside) → Ran plan (Err F.NoMemory) o o
-line_lacks plan o = inl (inl (
+pub line_lacks : (address : List ℕ) (plan : Plan) (o : Outside) → Ran address plan (Err F.NoMemory) o o
+line_lacks address plan o = inl (inl (
   record {
     next = plan;
-    between = reach_of o;
-    walks = walk_none plan (reach_of o);
-    comes = inr (inl (record { missed = record { coming = refl; past = refl; others = refl }; began = began_none (reach_of o).shown (said_by plan None []).written; cause = inr tt }));
+    between = reach_of address o;
+    walks = walk_none plan (reach_of address o);
+    comes = inr (inl (record { missed = record { coming = refl; past = refl; others = refl }; began = began_none (reach_of address o).shown (said_by plan None []).written; cause = inr refl }));
   },
   refl,
 ))

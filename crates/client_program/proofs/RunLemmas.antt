@@ -5,19 +5,19 @@ use Rattle.std.specs.Bool.{MatchBool}
 use Rattle.std.specs.List.{list_any}
 use Rattle.std.proofs.lemmas.List.{map-append}
 use Rattle.std.proofs.lemmas.List.Folds.{list_any-append}
-use Rattle.engine_ports.specs.Rose.{Rose}
+use Rattle.engine_ports.specs.Rose.{Rose, raised}
 use Rattle.engine_ports.specs.Source.{SourceView, SourceGave, SourceEnded}
 use Rattle.engine_ports.specs.Sink.{SinkView, SinkTook, IsFront}
-use Rattle.engine_ports.specs.Link.{LinkView}
+use Rattle.engine_ports.specs.Link.{LinkView, others, apart_from}
 use Rattle.engine_ports.proofs.PortLemmas.{sink_on, rose_since, rose_until}
 use Rattle.response_reader.specs.Answers.{Answer}
 use Rattle.history_replay.specs.declared.verdict.Verdict.{Verdict}
 use Rattle.client_model.specs.Requests.{request_bytes}
 use Rattle.client_model.specs.Faults.{fault_line}
-use Rattle.client_model.specs.Lines.{command_names}
+use Rattle.client_model.specs.Lines.{command_names, address_in}
 use Rattle.client_model.specs.Plans.{Plan, Ends, Asks, Judges, Asked, Written, Ending, joined}
 use Rattle.client_model.specs.Client.{Said, said, said_by, plan_for, IsJudged, status_at, line_at}
-use Rattle.client_model.specs.Runs.{Outside, Exchange, HaveCome, AreLeft, ByAnswers, SoFar, sent_by, asks_input, ReadsInput, WroteLine, IsEnded, HasFailed, CauseOf, AreSentSoFar, IsBrokenOff}
+use Rattle.client_model.specs.Runs.{Outside, Exchange, HaveCome, AreLeft, ByAnswers, SoFar, sent_by, asks_input, ReadsInput, WroteLine, IsEnded, HasFailed, CauseOf, AreSentSoFar, missed_by, IsBrokenOff}
 use Rattle.client_model.specs.declared.fault.Fault.{Fault}
 use Rattle.client_model.specs.declared.fault.Fault.TheVariants as F
 use Rattle.client_streams.specs.Outputs.{outputs, BothTook, BothBegan, OutputsFail}
@@ -77,7 +77,8 @@ line_since e e' e'' part line le (inr (front, rose)) = inr (front, rose_since e.
 -- ---- ends
 
 pub ended : (words : List (List ℕ)) (input : List ℕ) (next : Plan) (w : Written) (ending : Ending) (status : ℕ) (o o' : Outside) (p : Reach) (e : SinkView) (part : List ℕ)
-    (way : Walked (plan_for words) input (reach_of o) next p) → next ≡ Ends w ending → BothTook p.shown w (outputs o'.out e) → o'.link ≡ p.link
+    (way : Walked (plan_for words) input (reach_of (address_in words) o) next p) → next ≡ Ends w ending → BothTook p.shown w (outputs o'.out e)
+    → apart_from (address_in words) o'.link ≡ p.link
     → SourceGave o.input input o'.input → MatchBool (list_any (λ a. a.input) way.asked) (SourceEnded o.input o'.input) (input ≡ [])
     → SinkTook e part o'.err → WroteLine e part (line_at ending) o'.err → status ≡ status_at ending → IsEnded words status o o'
 ended words input next w ending status o o' p e part way next_is took link gave reads told line status_is = record {
@@ -90,9 +91,10 @@ ended words input next w ending status o o' p e part way next_is took link gave 
   meets = record {
     came = subst (λ (l : LinkView). HaveCome o.link.coming (map (λ x. x.came) way.xs) l.coming) (sym link) way.came;
     left = subst (λ (l : LinkView). AreLeft o.link.past (map (λ x. x.left) way.xs) l.past) (sym link) way.left;
-    others = ap (λ (l : LinkView). l.addresses) link ∙ way.others;
+    asked = ap (λ (l : LinkView). l.addresses) link ∙ way.others;
     input_gave = gave;
   };
+  missed = ap (λ (l : LinkView). l.faults) link ∙ way.faults;
   judged = not_judging (plan_for words) way.answers input way.asked all ending says;
   says = (way.answers, way.answered, says);
   ended = refl;
@@ -142,7 +144,7 @@ sent_fed : (sent : List ℕ) (asked : List Asked) (input : List ℕ) → AreSent
 sent_fed sent [] input h = absurd h
 sent_fed sent (a ∷ asked) input h = front_fed a sent input h
 
--- an exchange without input, told beside some
+-- an exchange without input, told together with some
 pub stop_fed : (next : Plan) (input : List ℕ) (starved : Type 0) (fault : Fault) (p q : Reach) → StopsIn next [] ⊥ fault p q → StopsIn next input starved fault p q
 stop_fed next input starved fault p q b = record {
   exchange = b.exchange;
@@ -187,26 +189,48 @@ output_cause F.EventsGone o m xs r = absurd r
 output_cause (F.Refused message) o m xs r = absurd r
 output_cause F.Link o m xs r = absurd r
 
+-- behind another fault than the link's connecting failed as often
+pub as_often : (fault : Fault) (n m : ℕ) → (fault ≡ F.Link → ⊥) → m ≡ n → m ≡ missed_by fault n
+as_often F.Link n m other same = absurd (other refl)
+as_often F.Connection n m other same = same
+as_often F.Input n m other same = same
+as_often F.Output n m other same = same
+as_often F.Errors n m other same = same
+as_often F.NoMemory n m other same = same
+as_often F.Words n m other same = same
+as_often F.Answer n m other same = same
+as_often F.NoCode n m other same = same
+as_often F.EventsGone n m other same = same
+as_often (F.Refused message) n m other same = same
+
+-- what a fault of the whole call leaves behind: its cause, and how often connecting failed
+abbrev pub IsCaused : Fault → Outside → Outside → List Exchange → Type 0
+IsCaused fault o m xs = CauseOf fault o m xs × (m.link.faults ≡ missed_by fault o.link.faults)
+
 -- of a connection that wasn't made
-miss_cause : (fault : Fault) (o m : Outside) (l : LinkView) (xs : List Exchange) → o.link.faults ≤ l.faults → Misses fault l m.link → CauseOf fault o m xs
-miss_cause F.Link o m l xs le r = rose_since o.link.faults l.faults m.link.faults le r
-miss_cause F.NoMemory o m l xs le r = tt
-miss_cause F.Output o m l xs le r = absurd r
-miss_cause F.Errors o m l xs le r = absurd r
-miss_cause F.Input o m l xs le r = absurd r
-miss_cause F.Connection o m l xs le r = absurd r
-miss_cause F.Words o m l xs le r = absurd r
-miss_cause F.Answer o m l xs le r = absurd r
-miss_cause F.NoCode o m l xs le r = absurd r
-miss_cause F.EventsGone o m l xs le r = absurd r
-miss_cause (F.Refused message) o m l xs le r = absurd r
+missed_so : (fault : Fault) (address : List ℕ) (o m : Outside) (p : Reach) (xs : List Exchange) → p.link.faults ≡ o.link.faults
+    → Misses fault p.link (reach_of address m).link → IsCaused fault o m xs
+missed_so F.Link address o m p xs was r = (tt, r ∙ ap raised was)
+missed_so F.NoMemory address o m p xs was r = (tt, r ∙ was)
+missed_so F.Output address o m p xs was r = absurd r
+missed_so F.Errors address o m p xs was r = absurd r
+missed_so F.Input address o m p xs was r = absurd r
+missed_so F.Connection address o m p xs was r = absurd r
+missed_so F.Words address o m p xs was r = absurd r
+missed_so F.Answer address o m p xs was r = absurd r
+missed_so F.NoCode address o m p xs was r = absurd r
+missed_so F.EventsGone address o m p xs was r = absurd r
+missed_so (F.Refused message) address o m p xs was r = absurd r
 
-pub alone_cause : (fault : Fault) (o m : Outside) (p : Reach) (w : Written) (xs : List Exchange) → BothTook (outputs o.out o.err) w p.shown → o.link.faults ≤ p.link.faults
-    → FailsAlone fault p (reach_of m) → CauseOf fault o m xs
-alone_cause fault o m p w xs took le (inl r) = output_cause fault o m xs (fails_since fault (outputs o.out o.err) p.shown (outputs m.out m.err) w took r)
-alone_cause fault o m p w xs took le (inr r) = miss_cause fault o m p.link xs le r
+pub alone_caused : (fault : Fault) (address : List ℕ) (o m : Outside) (p : Reach) (w : Written) (xs : List Exchange) → BothTook (outputs o.out o.err) w p.shown
+    → p.link.faults ≡ o.link.faults → FailsAlone fault p (reach_of address m) → IsCaused fault o m xs
+alone_caused fault address o m p w xs took was (inl (r, same)) = (
+  output_cause fault o m xs (fails_since fault (outputs o.out o.err) p.shown (outputs m.out m.err) w took r),
+  as_often fault o.link.faults m.link.faults (λ is. subst (λ f. OutputsFail f p.shown (outputs m.out m.err)) is r) (same ∙ was),
+)
+alone_caused fault address o m p w xs took was (inr r) = missed_so fault address o m p xs was r
 
-pub exchange_cause : (fault : Fault) (starved : Type 0) (o m : Outside) (p : Reach) (w : Written) (xs : List Exchange) (x : Exchange) → BothTook (outputs o.out o.err) w p.shown
+exchange_cause : (fault : Fault) (starved : Type 0) (o m : Outside) (p : Reach) (w : Written) (xs : List Exchange) (x : Exchange) → BothTook (outputs o.out o.err) w p.shown
     → (starved → Rose o.input.faults m.input.faults) → FailsOn starved fault x p.shown (outputs m.out m.err) → CauseOf fault o m (xs ++ x ∷ [])
 exchange_cause F.Connection starved o m p w xs x took rose r = failed_last xs x r
 exchange_cause F.Input starved o m p w xs x took rose r = rose r
@@ -219,6 +243,14 @@ exchange_cause F.NoCode starved o m p w xs x took rose r = absurd r
 exchange_cause F.EventsGone starved o m p w xs x took rose r = absurd r
 exchange_cause (F.Refused message) starved o m p w xs x took rose r = absurd r
 exchange_cause F.Link starved o m p w xs x took rose r = absurd r
+
+pub exchange_caused : (fault : Fault) (starved : Type 0) (o m : Outside) (p : Reach) (w : Written) (xs : List Exchange) (x : Exchange)
+    → BothTook (outputs o.out o.err) w p.shown → (starved → Rose o.input.faults m.input.faults) → m.link.faults ≡ o.link.faults
+    → FailsOn starved fault x p.shown (outputs m.out m.err) → IsCaused fault o m (xs ++ x ∷ [])
+exchange_caused fault starved o m p w xs x took rose same r = (
+  exchange_cause fault starved o m p w xs x took rose r,
+  as_often fault o.link.faults m.link.faults (λ is. subst (λ f. FailsOn starved f x p.shown (outputs m.out m.err)) is r) same,
+)
 
 -- what is told behind it doesn't change it
 cause_until : (fault : Fault) (o m : Outside) (e : SinkView) (xs : List Exchange) → m.err.faults ≤ e.faults → CauseOf fault o m xs → CauseOf fault o (outside m.link m.input m.out e) xs
@@ -237,13 +269,13 @@ cause_until (F.Refused message) o m e xs le r = r
 -- ---- broken off
 
 pub broken_off : (words : List (List ℕ)) (input : List ℕ) (verdict : Option Verdict) (xs : List Exchange) (s : Said) (fault : Fault) (status : ℕ) (o m : Outside) (e : SinkView)
-    → HaveCome o.link.coming (map (λ x. x.came) xs) m.link.coming → AreLeft o.link.past (map (λ x. x.left) xs) m.link.past → m.link.addresses ≡ o.link.addresses
-    → SourceGave o.input input m.input
+    → HaveCome o.link.coming (map (λ x. x.came) xs) m.link.coming → AreLeft o.link.past (map (λ x. x.left) xs) m.link.past
+    → others (address_in words) m.link.addresses ≡ others (address_in words) o.link.addresses → SourceGave o.input input m.input
     → (verdict ≡ None) ⊎ IsJudged (plan_for words) input verdict → ByAnswers (plan_for words) verdict xs s ⊎ SoFar (plan_for words) verdict xs s
     → AreSentSoFar (map (λ x. x.sent) xs) (map (sent_by input) s.asked) → (IsFalse (asks_input (plan_for words) s) → input ≡ [])
-    → BothBegan (outputs o.out o.err) s.written (outputs m.out m.err) → CauseOf fault o m xs → Tells fault status m.err e
+    → BothBegan (outputs o.out o.err) s.written (outputs m.out m.err) → IsCaused fault o m xs → Tells fault status m.err e
     → IsBrokenOff words status o (outside m.link m.input m.out e)
-broken_off words input verdict xs s fault status o m e came left others gave judged says sent unread began cause tells = record {
+broken_off words input verdict xs s fault status o m e came left asked gave judged says sent unread began caused tells = record {
   xs = xs;
   input = input;
   verdict = verdict;
@@ -252,7 +284,8 @@ broken_off words input verdict xs s fault status o m e came left others gave jud
   out_part = began.part.out;
   err_part = began.part.err;
   part = tells.part;
-  meets = record { came = came; left = left; others = others; input_gave = gave };
+  meets = record { came = came; left = left; asked = asked; input_gave = gave };
+  missed = caused.1;
   judged = judged;
   says = says;
   sent = sent;
@@ -262,13 +295,13 @@ broken_off words input verdict xs s fault status o m e came left others gave jud
   out = began.took.out;
   err = sink_on o.err m.err e began.part.err tells.part began.took.err tells.took;
   line = line_since o.err m.err e tells.part (fault_line command_names fault) began.took.err.faults tells.line;
-  cause = cause_until fault o m e xs tells.took.faults cause;
+  cause = cause_until fault o m e xs tells.took.faults caused.0;
   status_is = tells.status_is;
 }
 
 -- before anything more was asked
 pub stopped_before : (words : List (List ℕ)) (input : List ℕ) (next : Plan) (fault : Fault) (status : ℕ) (o m : Outside) (p : Reach) (e : SinkView)
-    (way : Walked (plan_for words) input (reach_of o) next p) → StopsBefore next fault p (reach_of m) → SourceGave o.input input m.input
+    (way : Walked (plan_for words) input (reach_of (address_in words) o) next p) → StopsBefore next fault p (reach_of (address_in words) m) → SourceGave o.input input m.input
     → (IsFalse (asks_input (plan_for words) (said_behind way.asked way.written (said_by next None []))) → input ≡ []) → Tells fault status m.err e
     → IsBrokenOff words status o (outside m.link m.input m.out e)
 stopped_before words input next fault status o m p e way b gave unread tells =
@@ -280,7 +313,7 @@ stopped_before words input next fault status o m p e way b gave unread tells =
     (inl (way.answers, way.answered, sym (way.says []) ∙ ap (said_by (plan_for words) None) (append-nil way.answers)))
     sent unread
     (began_behind (outputs o.out o.err) p.shown (outputs m.out m.err) way.written (said_by next None []).written way.took b.began)
-    (alone_cause fault o m p way.written way.xs way.took way.faults b.cause)
+    (alone_caused fault (address_in words) o m p way.written way.xs way.took way.faults b.cause)
     tells
   where
     sent : AreSentSoFar (map (λ x. x.sent) way.xs) (map (sent_by input) (way.asked ++ (said_by next None []).asked))
@@ -291,7 +324,7 @@ stopped_before words input next fault status o m p e way b gave unread tells =
 
 -- in its next exchange
 pub stopped_in : (words : List (List ℕ)) (input : List ℕ) (next : Plan) (starved : Type 0) (fault : Fault) (status : ℕ) (o m : Outside) (p : Reach) (e : SinkView)
-    (way : Walked (plan_for words) input (reach_of o) next p) → StopsIn next input starved fault p (reach_of m) → (starved → Rose o.input.faults m.input.faults)
+    (way : Walked (plan_for words) input (reach_of (address_in words) o) next p) → StopsIn next input starved fault p (reach_of (address_in words) m) → (starved → Rose o.input.faults m.input.faults)
     → SourceGave o.input input m.input
     → ((answer : Answer) → IsFalse (asks_input (plan_for words) (said_behind way.asked way.written (said_by next None (answer ∷ [])))) → input ≡ []) → Tells fault status m.err e
     → IsBrokenOff words status o (outside m.link m.input m.out e)
@@ -304,7 +337,7 @@ stopped_in words input next starved fault status o m p e way b rose gave unread 
     (inr (way.xs, b.exchange, way.answers, b.answer, refl, way.answered, b.tells, sym (way.says (b.answer ∷ []))))
     sent (unread b.answer)
     (began_behind (outputs o.out o.err) p.shown (outputs m.out m.err) way.written last.written way.took b.began)
-    (exchange_cause fault starved o m p way.written way.xs b.exchange way.took rose b.cause)
+    (exchange_caused fault starved o m p way.written way.xs b.exchange way.took rose (b.meets.faults ∙ way.faults) b.cause)
     tells
   where
     last : Said

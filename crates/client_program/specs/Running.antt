@@ -2,7 +2,7 @@
 use Rattle.std.specs.Prelude.{ℕ, ◌≡◌, ◌⊎◌, ◌≤◌, ⊤, List, Result}
 use Rattle.engine_ports.specs.Source.{SourceView}
 use Rattle.engine_ports.specs.Sink.{SinkView, SinkTook}
-use Rattle.engine_ports.specs.Link.{LinkView}
+use Rattle.engine_ports.specs.Link.{LinkView, apart_from}
 use Rattle.machine_model.specs.History.{greatest_moment}
 use Rattle.client_model.specs.Faults.{status_of, fault_line}
 use Rattle.client_model.specs.Lines.{command_names}
@@ -18,15 +18,15 @@ use Rattle.client_program.specs.Replaying.{Judged}
 abbrev pub outside : LinkView → SourceView → SinkView → SinkView → Outside
 outside link input out err = record { link = link; input = input; out = out; err = err }
 
--- what requests reach of it
-abbrev pub reach_of : Outside → Reach
-reach_of o = reach o.link o.out o.err
+-- what requests to this address reach of it
+abbrev pub reach_of : List ℕ → Outside → Reach
+reach_of address o = reach (apart_from address o.link) o.out o.err
 
--- what was done of a plan, before a fault is told
-abbrev pub Ran : Plan → Result ℕ Fault → Outside → Outside → Type 0
-Ran plan result o o' =
-    FedDoes plan result o.input o'.input (reach_of o) (reach_of o')
-    ⊎ Judged plan result o.input o'.input (reach_of o) (reach_of o')
+-- what was done of a plan by requests to this address, before a fault is told
+abbrev pub Ran : List ℕ → Plan → Result ℕ Fault → Outside → Outside → Type 0
+Ran address plan result o o' =
+    FedDoes plan result o.input o'.input (reach_of address o) (reach_of address o')
+    ⊎ Judged plan result o.input o'.input (reach_of address o) (reach_of address o')
 
 -- a journal's daemon was opened at a moment that has a text
 abbrev pub IsTimed : Command → Type 0

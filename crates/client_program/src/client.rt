@@ -1,5 +1,4 @@
 // The program `dockc`.
-ghost use Rattle.engine_ports.specs.Link.{beside};
 ghost use Rattle.client_model.specs.Lines.{address_in};
 ghost use Rattle.client_model.specs.Client.{plan_for};
 ghost use Rattle.client_model.specs.Runs.{Runs};
@@ -23,11 +22,9 @@ fn run_words<W: Wait, L: Link, N: Source, K: Sink, E: Sink>(
     out: &mut K,
     errors: &mut E,
 ) -> Result<u8, Fault>
-    ensures { Ran (plan_for words.now) result
-        (outside (beside (address_in words.now) (L.links link.old)) (N.gives input.old)
-        (K.takes out.old) (E.takes errors.old))
-        (outside (beside (address_in words.now) (L.links link.new)) (N.gives input.new)
-        (K.takes out.new) (E.takes errors.new)) }
+    ensures { Ran (address_in words.now) (plan_for words.now) result
+        (outside (L.links link.old) (N.gives input.old) (K.takes out.old) (E.takes errors.old))
+        (outside (L.links link.new) (N.gives input.new) (K.takes out.new) (E.takes errors.new)) }
 {
     match read_line(alloc, words) {
         Ok(line) => run_command(
@@ -64,10 +61,8 @@ pub fn run_client<W: Wait, L: Link, N: Source, K: Sink, E: Sink>(
     errors: &mut E,
 ) -> u8
     ensures { Runs words.now result
-        (outside (beside (address_in words.now) (L.links link.old)) (N.gives input.old)
-        (K.takes out.old) (E.takes errors.old))
-        (outside (beside (address_in words.now) (L.links link.new)) (N.gives input.new)
-        (K.takes out.new) (E.takes errors.new)) }
+        (outside (L.links link.old) (N.gives input.old) (K.takes out.old) (E.takes errors.old))
+        (outside (L.links link.new) (N.gives input.new) (K.takes out.new) (E.takes errors.new)) }
 {
     match run_words(rt, alloc, words, link, input, out, errors) {
         Ok(status) => status,

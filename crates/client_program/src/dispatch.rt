@@ -1,5 +1,4 @@
 // The table of commands, each run by its plan.
-ghost use Rattle.engine_ports.specs.Link.{beside};
 ghost use Rattle.client_model.specs.Client.{plan_of};
 ghost use Rattle.client_program.specs.Running.{IsTimed, Ran, outside};
 
@@ -28,13 +27,11 @@ pub(crate) fn run_command<W: Wait, L: Link, N: Source, K: Sink, E: Sink>(
     errors: &mut E,
 ) -> Result<u8, Fault>
     requires { IsTimed command.now }
-    ensures { Ran (plan_of command.now) result
-        (outside (beside address.now (L.links link.old)) (N.gives stdin.old)
-        (K.takes out.old) (E.takes errors.old))
-        (outside (beside address.now (L.links link.new)) (N.gives stdin.new)
-        (K.takes out.new) (E.takes errors.new)) }
+    ensures { Ran address.now (plan_of command.now) result
+        (outside (L.links link.old) (N.gives stdin.old) (K.takes out.old) (E.takes errors.old))
+        (outside (L.links link.new) (N.gives stdin.new) (K.takes out.new) (E.takes errors.new)) }
 {
-    // the command with its own words, beside what every command is handed
+    // the command with its own words, and what every command is handed
     macro_rules! run {
         ($command:ident($($word:expr),*)) => {
             $command(rt, alloc, link, address, $($word,)* out, errors)

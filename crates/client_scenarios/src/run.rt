@@ -59,6 +59,27 @@ fn tell_line<W: Wait, L: Link>(
     tell_lines(told, "status ", status.as_bytes())
 }
 
+// Tells how often a link was asked for this address, and how often for another.
+fn tell_asked(
+    alloc: Global,
+    address: &str,
+    asked: &[String],
+    told: &mut Vec<u8>,
+) -> Result<(), NoMemory> {
+    let here = asked
+        .iter()
+        .filter(|other| other.as_str() == address)
+        .count();
+    let elsewhere = asked
+        .iter()
+        .filter(|other| other.as_str() != address)
+        .count();
+    let Ok(counts) = format!(in alloc; "{here}, elsewhere {elsewhere}") else {
+        return Err(NoMemory);
+    };
+    tell_lines(told, "asked ", counts.as_bytes())
+}
+
 /// Runs and tells all lines: those that have nothing in the place of the daemon over this link.
 pub fn tell_all<W: Wait, L: Link>(
     rt: &W,
@@ -74,6 +95,7 @@ pub fn tell_all<W: Wait, L: Link>(
         } else {
             let mut link = link_of(alloc, line)?;
             tell_line(rt, alloc, address, line, &mut link, told)?;
+            tell_asked(alloc, address, link.asked(), told)?;
         }
     }
     Ok(())

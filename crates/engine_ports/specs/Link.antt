@@ -1,9 +1,9 @@
 -- What a link tells of its connections. own: a client's view of where its connections lead.
-use Rattle.std.specs.Prelude.{ℕ, ◌≡◌, ◌≤◌, ◌+◌, not, List, filter, bytes_eq, Option, option_map, Result, Ok, Err}
-use Rattle.engine_ports.specs.Rose.{Rose}
+use Rattle.std.specs.Prelude.{ℕ, ◌≡◌, ◌≤◌, ◌+◌, ◌⊎◌, not, List, filter, bytes_eq, Option, option_map, Result, Ok, Err}
+use Rattle.engine_ports.specs.Rose.{Rose, raised}
 use Rattle.engine_ports.specs.Source.{SourceView}
 use Rattle.engine_ports.specs.Sink.{SinkView}
-use Rattle.engine_ports.specs.Door.{Came, Left, IsFresh}
+use Rattle.engine_ports.specs.Door.{Came, Adds, IsFresh}
 use Rattle.engine_ports.specs.declared.ports.Failed.{Failed}
 
 -- what the two parts of a connection tell
@@ -35,17 +35,17 @@ pub record Connects (address : List ℕ) (w : Wire) (v v' : LinkView) : Type 0 w
   pub came : Came v.coming w v'.coming
   pub new : IsNewWire w
   pub past : v'.past ≡ v.past
-  pub addresses : Left v.addresses address v'.addresses
+  pub addresses : Adds v.addresses address v'.addresses
   pub owed : Rose v.owed v'.owed
-  pub faults : v.faults ≤ v'.faults
+  pub faults : v'.faults ≡ v.faults
 
--- no connection to the address was made, and a fault is counted
+-- the address was asked for, which may go untold, no connection was made, and the fault is counted
 pub record Misses (address : List ℕ) (v v' : LinkView) : Type 0 where
   pub coming : v'.coming ≡ v.coming
   pub past : v'.past ≡ v.past
-  pub addresses : Left v.addresses address v'.addresses
+  pub addresses : Adds v.addresses address v'.addresses ⊎ (v'.addresses ≡ v.addresses)
   pub owed : v'.owed ≡ v.owed
-  pub faults : Rose v.faults v'.faults
+  pub faults : v'.faults ≡ raised v.faults
 
 -- what connecting to an address says
 abbrev pub ConnectSays : {S K : Type 0} → List ℕ → (S → K → Wire) → Result (S × K) Failed → LinkView → LinkView → Type 0
@@ -54,12 +54,16 @@ ConnectSays address tells (Err x) v v' = Misses address v v'
 
 -- what leaving says: the connection is the last of the past
 pub record Leaves (w : Wire) (v v' : LinkView) : Type 0 where
-  pub past : Left v.past w v'.past
+  pub past : Adds v.past w v'.past
   pub coming : v'.coming ≡ v.coming
   pub addresses : v'.addresses ≡ v.addresses
   pub owed : v.owed ≤ v'.owed + 1
   pub faults : v'.faults ≡ v.faults
 
--- a link beside this address: of the addresses that were asked for, the others
-abbrev pub beside : List ℕ → LinkView → LinkView
-beside address v = record v { addresses = option_map (filter (λ other. not (bytes_eq other address))) v.addresses }
+-- of addresses that are told, those other than this
+abbrev pub others : List ℕ → Option (List (List ℕ)) → Option (List (List ℕ))
+others address = option_map (filter (λ other. not (bytes_eq other address)))
+
+-- a link apart from this address: of the addresses that were asked for, the others
+abbrev pub apart_from : List ℕ → LinkView → LinkView
+apart_from address v = record v { addresses = others address v.addresses }

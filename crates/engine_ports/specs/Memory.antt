@@ -1,6 +1,7 @@
 -- What a source, a sink and a clock in memory are, and what each call of them does. own: they fail
 -- where they are told to, so that a test can show each cause.
-use Rattle.std.specs.Prelude.{ℕ, ◌≡◌, ◌≤◌, ◌<◌, ◌⊎◌, ◌+◌, ◌++◌, min, Bool, true, false, List, [], ◌∷◌, take, drop, length, Contains, Option, None, Some, Result, Ok, Err}
+use Rattle.std.specs.Prelude.{ℕ, ◌≡◌, ◌≤◌, ◌<◌, ◌⊎◌, ◌+◌, ◌++◌, min, Bool, true, false, List, [], ◌∷◌, map, take, drop, length, Contains, Option, None, Some, Result, Ok, Err, String, string_bytes}
+use Rattle.std.specs.declared.alloc.Global.{Global}
 use Rattle.engine_ports.specs.Rose.{raised, greatest_count}
 use Rattle.engine_ports.specs.Source.{SourceView}
 use Rattle.engine_ports.specs.Sink.{SinkView}
@@ -105,6 +106,10 @@ pub record Misses : Type 0 where
   pub failing : List ℕ
   pub calls : ℕ
   pub faults : ℕ
+
+-- the addresses that a link was asked for
+abbrev pub texts_of : List (String Global) → List (List ℕ)
+texts_of = map string_bytes
 
 -- a call fails exactly where its number says so
 abbrev pub IsCall : Misses → Bool → Misses → Type 0

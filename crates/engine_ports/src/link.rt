@@ -12,7 +12,7 @@ pub trait Link {
 
     ghost links: { Self → LinkView };
 
-    /// Makes a connection to an address. It asks for no other.
+    /// Makes a connection to an address, or counts a fault.
     fn connect(&mut self, addr: &str) -> Result<(Self::From, Self::Into), Failed>
         ensures { ConnectSays addr.now (λ s k. wire (Self.From.gives s) (Self.Into.takes k)) result
             (links self.old) (links self.new) };

@@ -1,6 +1,7 @@
 // A source and a sink in memory, whose calls fail where they are told to.
 ghost use Rattle.std.specs.Prelude.{◌≡◌, ◌<◌, ◌≤◌, ℕ, List, [], Some, Ok, length, IfOk};
 
+mod asked;
 mod coming;
 mod leading;
 mod misses;

@@ -55,5 +55,9 @@ fn a_link_leads_to_what_was_put_there(rt: HostRuntime) -> Result<(), Fail> {
     }
     assert!(rt; link.connect("127.0.0.1:1").is_err());
     assert_eq!(rt; link.past().len(), 1);
+    assert_eq!(rt; link.asked().len(), 3);
+    for asked in link.asked() {
+        assert_eq!(rt; asked.as_str(), "127.0.0.1:1");
+    }
     Ok(())
 }

@@ -1,7 +1,8 @@
 // A link in memory, whose connections were put there.
-ghost use Rattle.std.specs.Prelude.{◌≡◌, ◌+◌, ◌≤◌, ◌++◌, ◌∷◌, [], length, Some, None, vec_len, vec_capacity, IfOk, OnOk, OnErr};
+ghost use Rattle.std.specs.Prelude.{◌≡◌, ◌+◌, ◌≤◌, ◌++◌, ◌∷◌, [], length, Some, vec_len, vec_capacity, IfOk, OnOk, OnErr};
 ghost use Rattle.engine_ports.specs.Link.{IsNewWire};
 
+use super::asked::Asked;
 use super::misses::Misses;
 use super::{MemSink, MemSource, NoMemory};
 use crate::{Failed, Link};
@@ -26,11 +27,12 @@ pub struct Closed {
     pub into: MemSink,
 }
 
-/// A link whose calls of `connect` fail where they are told to. It tells no addresses.
+/// A link whose calls of `connect` fail where they are told to, and where there is no memory for the address.
 #[derive(Drop)]
 pub struct MemLink {
     coming: VecDeque<Ready>,
     past: Vec<Closed>,
+    asked: Asked,
     owed: usize,
     misses: Misses,
     ghost room: { length coming.items + owed + vec_len past ≤ vec_capacity past },
@@ -38,15 +40,17 @@ pub struct MemLink {
 
 impl MemLink {
     ghost use Rattle.engine_ports.specs.Links.{memory_wire, ready_of, closed_of};
+    ghost use Rattle.engine_ports.specs.Memory.{texts_of};
 
     /// A link that leads nowhere yet, and whose calls numbered in `failing` (from 0) fail.
     pub fn new(alloc: Global, failing: &[u64]) -> Result<MemLink, NoMemory>
         ensures { IfOk result (λ l. ⟦<MemLink as Link>⟧.links l
-            ≡ record { coming = Some []; past = Some []; addresses = None; owed = 0; faults = 0 }) }
+            ≡ record { coming = Some []; past = Some []; addresses = Some []; owed = 0; faults = 0 }) }
     {
         Ok(MemLink {
             coming: VecDeque::new(alloc),
             past: Vec::new(alloc),
+            asked: Asked::new(alloc),
             owed: 0,
             misses: Misses::new(alloc, failing)?,
         })
@@ -74,10 +78,17 @@ impl MemLink {
     {
         &self.past
     }
+
+    /// The addresses that were asked for, in that order, but for those for which there was no memory.
+    pub fn asked(&self) -> &[String]
+        ensures { (⟦<MemLink as Link>⟧.links self.now).addresses ≡ Some (texts_of result.now) }
+    {
+        self.asked.addresses()
+    }
 }
 
 impl Link for MemLink {
-    ghost use Rattle.std.specs.Prelude.{Some, None};
+    ghost use Rattle.std.specs.Prelude.{Some};
     ghost use Rattle.engine_ports.specs.Links.{ready_of, closed_of};
 
     type From = MemSource;
@@ -87,12 +98,16 @@ impl Link for MemLink {
     ghost links = { λ l. record {
       coming = Some (ready_of l.coming.items);
       past = Some (closed_of l.past.items);
-      addresses = None;
+      addresses = Some l.asked;
       owed = l.owed;
       faults = l.misses.faults;
     } };
 
-    fn connect(&mut self, _: &str) -> Result<(MemSource, MemSink), Failed> {
+    fn connect(&mut self, addr: &str) -> Result<(MemSource, MemSink), Failed> {
+        if self.asked.add(addr).is_err() {
+            self.misses.count();
+            return Err(Failed);
+        }
         if self.misses.fails() {
             return Err(Failed);
         }
