@@ -26,7 +26,8 @@ pub(crate) fn cut_at(text: &str, mark: char) -> (&str, &str)
 
 // What follows the slash that a path begins with.
 fn after_slash(path: &str) -> Option<&str>
-    ensures { MatchOption result (segments path.now ≡ []) (λ rest. segments path.now ≡ pieces rest.now) }
+    ensures { MatchOption result (segments path.now ≡ [])
+        (λ rest. segments path.now ≡ pieces rest.now) }
 {
     path.strip_prefix('/')
 }

@@ -44,7 +44,8 @@ impl Routes {
 
     // The route of a request.
     fn route_of(&self, method: &str, path: &str) -> Result<Route, Refused>
-        ensures { Reads result (spec.or_not_found (route_for (method_of method.now) (segments path.now))) }
+        ensures { Reads result
+            (spec.or_not_found (route_for (method_of method.now) (segments path.now))) }
     {
         let Some(method) = Method::of(method) else {
             return Err(Refused::Fault(Fault::PageNotFound));

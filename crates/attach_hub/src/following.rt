@@ -52,7 +52,8 @@ fn line_from<T: Turns>(
     out: &mut Vec<u8>,
 ) -> Part
     requires { IsNumber (T.pass turns.old).number conn }
-    ensures { JournalPart conn count place result out.old.items out.new.items (T.pass turns.old) (T.pass turns.new) }
+    ensures { JournalPart conn count place result out.old.items out.new.items
+        (T.pass turns.old) (T.pass turns.new) }
 {
     if count <= place {
         return Part::Whole;
@@ -90,8 +91,10 @@ fn event_part<T: Turns, C: Clock>(
     clock: &mut C,
 ) -> Part
     requires number { IsNumber (T.pass turns.old).number conn }
-    requires counted { place ≤ length (events_of (T.pass turns.old).charter (T.pass turns.old).seen) }
-    ensures { (first : ℕ) → PartOf conn (EventStream first until filter.now) place result out.old.items out.new.items
+    requires counted { place ≤ length
+        (events_of (T.pass turns.old).charter (T.pass turns.old).seen) }
+    ensures { (first : ℕ) → PartOf conn (EventStream first until filter.now) place result
+        out.old.items out.new.items
         (T.pass turns.old) (T.pass turns.new) (C.times clock.old) (C.times clock.new) }
 {
     let handed = clock.now();
@@ -109,7 +112,8 @@ fn part_of<T: Turns, C: Clock>(
     clock: &mut C,
 ) -> Part
     requires number { IsNumber (T.pass turns.old).number conn }
-    requires stands { StandsIn (T.pass turns.old).charter (T.pass turns.old).seen (reply_of stream.now) place }
+    requires stands { StandsIn (T.pass turns.old).charter (T.pass turns.old).seen
+        (reply_of stream.now) place }
     ensures { PartOf conn (reply_of stream.now) place result out.old.items out.new.items
         (T.pass turns.old) (T.pass turns.new) (C.times clock.old) (C.times clock.new) }
 {
@@ -124,7 +128,8 @@ fn part_of<T: Turns, C: Clock>(
 
 /// Writes a piece of a body, as a chunk or as it is; of an empty one nothing. It takes no memory.
 fn write_piece<K: Sink>(sink: &mut K, chunked: bool, piece: &[u8]) -> Result<(), Failed>
-    ensures { WriteSays result (written_of chunked piece.now) (K.takes sink.old) (K.takes sink.new) }
+    ensures { WriteSays result (written_of chunked piece.now)
+        (K.takes sink.old) (K.takes sink.new) }
 {
     if piece.is_empty() {
         return Ok(());
@@ -152,7 +157,8 @@ pub(crate) fn follow<W: Wait, T: Turns, K: Sink, C: Clock>(
     requires stands { StandsIn (T.pass turns.old).charter (T.pass turns.old).seen
         (reply_of stream.now) (first_of (reply_of stream.now)) }
     ensures { FollowsSince conn (reply_of stream.now) chunked result
-        (T.pass turns.old) (T.pass turns.new) (K.takes sink.old) (K.takes sink.new) (C.times clock.old) (C.times clock.new) }
+        (T.pass turns.old) (T.pass turns.new) (K.takes sink.old) (K.takes sink.new)
+        (C.times clock.old) (C.times clock.new) }
 {
     let mut place = first_of(stream);
     for _ in rt.forever() {
@@ -189,9 +195,11 @@ pub fn follow_log<W: Wait, T: Turns, K: Sink, C: Clock>(
     clock: &mut C,
 ) -> Followed
     requires number { IsNumber (T.pass turns.old).number conn }
-    requires may { MayFollow (state_after (T.pass turns.old).charter (T.pass turns.old).seen) spec.now }
+    requires may { MayFollow (state_after (T.pass turns.old).charter (T.pass turns.old).seen)
+        spec.now }
     ensures { Follows conn (LogStream spec.now) chunked result
-        (T.pass turns.old) (T.pass turns.new) (K.takes sink.old) (K.takes sink.new) (C.times clock.old) (C.times clock.new) }
+        (T.pass turns.old) (T.pass turns.new) (K.takes sink.old) (K.takes sink.new)
+        (C.times clock.old) (C.times clock.new) }
 {
     let stream = Stream::Log(spec);
     follow(rt, turns, alloc, conn, &stream, chunked, sink, clock)
@@ -213,9 +221,11 @@ pub fn follow_events<W: Wait, T: Turns, K: Sink, C: Clock>(
     clock: &mut C,
 ) -> Followed
     requires number { IsNumber (T.pass turns.old).number conn }
-    requires counted { first ≤ length (events_of (T.pass turns.old).charter (T.pass turns.old).seen) }
+    requires counted { first ≤ length
+        (events_of (T.pass turns.old).charter (T.pass turns.old).seen) }
     ensures { Follows conn (EventStream first until filter.now) chunked result
-        (T.pass turns.old) (T.pass turns.new) (K.takes sink.old) (K.takes sink.new) (C.times clock.old) (C.times clock.new) }
+        (T.pass turns.old) (T.pass turns.new) (K.takes sink.old) (K.takes sink.new)
+        (C.times clock.old) (C.times clock.new) }
 {
     let stream = Stream::Events {
         first,
@@ -237,9 +247,11 @@ pub fn follow_journal<W: Wait, T: Turns, K: Sink, C: Clock>(
     clock: &mut C,
 ) -> Followed
     requires number { IsNumber (T.pass turns.old).number conn }
-    requires counted { count ≤ length (entries_of (T.pass turns.old).charter (T.pass turns.old).seen) }
+    requires counted { count ≤ length
+        (entries_of (T.pass turns.old).charter (T.pass turns.old).seen) }
     ensures { Follows conn (JournalStream count) chunked result
-        (T.pass turns.old) (T.pass turns.new) (K.takes sink.old) (K.takes sink.new) (C.times clock.old) (C.times clock.new) }
+        (T.pass turns.old) (T.pass turns.new) (K.takes sink.old) (K.takes sink.new)
+        (C.times clock.old) (C.times clock.new) }
 {
     let stream = Stream::Journal { count };
     follow(rt, turns, alloc, conn, &stream, chunked, sink, clock)

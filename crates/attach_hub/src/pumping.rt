@@ -38,7 +38,8 @@ fn ask_once<T: Turns>(turns: &mut T, alloc: Global, conn: u32, handed: u64, call
     requires number { IsNumber (T.pass turns.old).number (input_of conn) }
     requires sound { IsSound call.now }
     requires kind { IsTrue (is_feed call.now) }
-    ensures { Turn (input_of conn) handed (Some call.now) result (T.pass turns.old) (T.pass turns.new) }
+    ensures { Turn (input_of conn) handed (Some call.now) result
+        (T.pass turns.old) (T.pass turns.new) }
 {
     turns.turn(alloc, input_of(conn), handed, Some(call))
 }
@@ -56,7 +57,8 @@ fn ask<W: Wait, T: Turns, C: Clock>(
     requires number { IsNumber (T.pass turns.old).number (input_of conn) }
     requires sound { IsSound call.now }
     requires kind { IsTrue (is_feed call.now) }
-    ensures { Hears conn call.now result (T.pass turns.old) (T.pass turns.new) (C.times clock.old) (C.times clock.new) }
+    ensures { Hears conn call.now result (T.pass turns.old) (T.pass turns.new)
+        (C.times clock.old) (C.times clock.new) }
 {
     for _ in rt.forever() {
         let handed = clock.now();
@@ -152,7 +154,8 @@ fn feed_next<W: Wait, T: Turns, S: Source, C: Clock>(
     requires place { length place.old ≡ 32_768 }
     ensures place { length place.new ≡ 32_768 }
     ensures says { FeedsOrEnds conn spec.now run result (T.pass turns.old) (T.pass turns.new)
-        reader.old.ahead reader.new.ahead (S.gives source.old) (S.gives source.new) (C.times clock.old) (C.times clock.new) }
+        reader.old.ahead reader.new.ahead (S.gives source.old) (S.gives source.new)
+        (C.times clock.old) (C.times clock.new) }
 {
     match reader.take_rest(source, place) {
         Got::Bytes(count) => {
@@ -186,7 +189,8 @@ fn pump_by<W: Wait, T: Turns, S: Source, C: Clock>(
     requires run { 1 ≤ run }
     requires place { length place.old ≡ 32_768 }
     ensures { PumpsInput conn spec.now result (T.pass turns.old) (T.pass turns.new)
-        reader.old.ahead (S.gives source.old) (S.gives source.new) (C.times clock.old) (C.times clock.new) }
+        reader.old.ahead (S.gives source.old) (S.gives source.new)
+        (C.times clock.old) (C.times clock.new) }
 {
     for _ in rt.forever() {
         match feed_next(
@@ -225,7 +229,8 @@ pub fn pump_stdin<W: Wait, T: Turns, S: Source, C: Clock>(
     requires number { IsNumber (T.pass turns.old).number (input_of conn) }
     requires input { IsSomeAnd spec.now.feed (λ run. 1 ≤ run) }
     ensures { PumpsInput conn spec.now result (T.pass turns.old) (T.pass turns.new)
-        reader.old.ahead (S.gives source.old) (S.gives source.new) (C.times clock.old) (C.times clock.new) }
+        reader.old.ahead (S.gives source.old) (S.gives source.new)
+        (C.times clock.old) (C.times clock.new) }
 {
     let Some(run) = spec.feed else { unreachable!() };
     let Ok(mut place) = new_place(alloc) else {

@@ -31,7 +31,8 @@ pub fn follow_whole<W: Wait, T: Turns, K: Sink, C: Clock>(
 ) -> Followed
     requires { IsNumber (T.pass turns.old).number conn }
     ensures { FollowsSince conn (LogStream spec.now) false result
-        (T.pass turns.old) (T.pass turns.new) (K.takes sink.old) (K.takes sink.new) (C.times clock.old) (C.times clock.new) }
+        (T.pass turns.old) (T.pass turns.new) (K.takes sink.old) (K.takes sink.new)
+        (C.times clock.old) (C.times clock.new) }
 {
     let stream = Stream::Log(spec);
     let followed = follow(rt, turns, alloc, conn, &stream, false, sink, clock);
@@ -63,9 +64,11 @@ fn side_by_side<R: Threads + Wait + Sync, T: Turns + Send, U: Turns, S: Source, 
     requires mine { IsNumber (U.pass mine.old).number conn }
     requires input { IsSomeAnd spec.now.feed (λ run. 1 ≤ run) }
     ensures pumped { PumpsInput conn spec.now result.0 (T.pass theirs.old) (T.pass theirs.new)
-        reader.old.ahead (S.gives source.old) (S.gives source.new) (C.times twin.old) (C.times twin.new) }
+        reader.old.ahead (S.gives source.old) (S.gives source.new)
+        (C.times twin.old) (C.times twin.new) }
     ensures followed { FollowsSince conn (LogStream spec.now) false result.1
-        (U.pass mine.old) (U.pass mine.new) (K.takes sink.old) (K.takes sink.new) (C.times clock.old) (C.times clock.new) }
+        (U.pass mine.old) (U.pass mine.new) (K.takes sink.old) (K.takes sink.new)
+        (C.times clock.old) (C.times clock.new) }
 {
     let mut one = move ||
         requires connection { IsConnection conn }
@@ -95,9 +98,11 @@ pub fn both<R: Threads + Wait + Sync, T: Pairs, S: Source, K: Sink, C: Clock>(
     requires number { IsNumber (T.pass turns.old).number conn }
     requires pair { IsTrue (T.pass turns.old).pair }
     requires input { IsSome spec.now.feed }
-    requires may { MayFollow (state_after (T.pass turns.old).charter (T.pass turns.old).seen) spec.now }
+    requires may { MayFollow (state_after (T.pass turns.old).charter (T.pass turns.old).seen)
+        spec.now }
     ensures { Paired conn spec.now result.0 result.1 (T.pass turns.old) (T.pass turns.new)
-        reader.old.ahead (S.gives source.old) (S.gives source.new) (K.takes sink.old) (K.takes sink.new)
+        reader.old.ahead (S.gives source.old) (S.gives source.new)
+        (K.takes sink.old) (K.takes sink.new)
         (C.times clock.old) (C.times clock.new) }
 {
     let mut twin = clock.twin();

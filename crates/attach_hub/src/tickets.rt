@@ -19,7 +19,8 @@ pub(crate) const POLL: u64 = 50;
 fn take<T: Turns>(turns: &mut T, alloc: Global, conn: u32, handed: u64, ticket: u64) -> Turned
     requires number { IsNumber (T.pass turns.old).number conn }
     requires begun { HasBegun (T.pass turns.old).charter conn ticket (T.pass turns.old).seen }
-    ensures { Turn conn handed (Some (calls.Call.Take ticket)) result (T.pass turns.old) (T.pass turns.new) }
+    ensures { Turn conn handed (Some (calls.Call.Take ticket)) result
+        (T.pass turns.old) (T.pass turns.new) }
 {
     let call = Call::Take { ticket };
     turns.turn(alloc, conn, handed, Some(&call))
@@ -29,7 +30,8 @@ fn take<T: Turns>(turns: &mut T, alloc: Global, conn: u32, handed: u64, ticket: 
 fn give_up<T: Turns>(turns: &mut T, alloc: Global, conn: u32, ticket: u64) -> Turned
     requires number { IsNumber (T.pass turns.old).number conn }
     requires begun { HasBegun (T.pass turns.old).charter conn ticket (T.pass turns.old).seen }
-    ensures { Turn conn 0 (Some (calls.Call.Drop ticket)) result (T.pass turns.old) (T.pass turns.new) }
+    ensures { Turn conn 0 (Some (calls.Call.Drop ticket)) result
+        (T.pass turns.old) (T.pass turns.new) }
 {
     let call = Call::Drop { ticket };
     turns.turn(alloc, conn, 0, Some(&call))
@@ -65,7 +67,8 @@ pub fn await_ticket<W: Wait, T: Turns, C: Clock>(
     requires number { IsNumber (T.pass turns.old).number conn }
     requires pair { IsTrue (T.pass turns.old).pair }
     requires begun { HasBegun (T.pass turns.old).charter conn ticket (T.pass turns.old).seen }
-    ensures { Awaits conn ticket result (T.pass turns.old) (T.pass turns.new) (C.times clock.old) (C.times clock.new) }
+    ensures { Awaits conn ticket result (T.pass turns.old) (T.pass turns.new)
+        (C.times clock.old) (C.times clock.new) }
 {
     for _ in rt.forever() {
         let handed = clock.now();

@@ -69,7 +69,8 @@ pub(crate) fn ask_and_print<W: Wait, L: Link, K: Sink, E: Sink>(
     out: &mut K,
     errors: &mut E,
 ) -> Result<u8, Fault>
-    ensures { (r : Request) → IfOk request (λ v. v.items ≡ request_bytes r) → Does (asks_and_prints r line.now) result
+    ensures { (r : Request) → IfOk request (λ v. v.items ≡ request_bytes r)
+        → Does (asks_and_prints r line.now) result
         (reach (apart_from address.now (L.links link.old)) (K.takes out.old) (E.takes errors.old))
         (reach (apart_from address.now (L.links link.new)) (K.takes out.new) (E.takes errors.new)) }
 {
@@ -92,7 +93,8 @@ pub(crate) fn ask_and_show<W: Wait, L: Link, K: Sink, E: Sink>(
     out: &mut K,
     errors: &mut E,
 ) -> Result<u8, Fault>
-    ensures { (r : Request) → IfOk request (λ v. v.items ≡ request_bytes r) → Does (asks_and_shows r) result
+    ensures { (r : Request) → IfOk request (λ v. v.items ≡ request_bytes r)
+        → Does (asks_and_shows r) result
         (reach (apart_from address.now (L.links link.old)) (K.takes out.old) (E.takes errors.old))
         (reach (apart_from address.now (L.links link.new)) (K.takes out.new) (E.takes errors.new)) }
 {
@@ -113,7 +115,8 @@ pub(crate) fn show_some<W: Wait, L: Link, K: Sink, E: Sink>(
     out: &mut K,
     errors: &mut E,
 ) -> Result<(), Fault>
-    ensures { (r : Request) → IfOk request (λ v. v.items ≡ request_bytes r) → ShowSays showing r result
+    ensures { (r : Request) → IfOk request (λ v. v.items ≡ request_bytes r)
+        → ShowSays showing r result
         (reach (apart_from address.now (L.links link.old)) (K.takes out.old) (E.takes errors.old))
         (reach (apart_from address.now (L.links link.new)) (K.takes out.new) (E.takes errors.new)) }
 {
@@ -134,7 +137,8 @@ pub(crate) fn show_all<W: Wait, L: Link, K: Sink, E: Sink>(
     out: &mut K,
     errors: &mut E,
 ) -> Result<u8, Fault>
-    ensures { (r : Request) → IfOk request (λ v. v.items ≡ request_bytes r) → Does (shown_by showing r false done) result
+    ensures { (r : Request) → IfOk request (λ v. v.items ≡ request_bytes r)
+        → Does (shown_by showing r false done) result
         (reach (apart_from address.now (L.links link.old)) (K.takes out.old) (E.takes errors.old))
         (reach (apart_from address.now (L.links link.new)) (K.takes out.new) (E.takes errors.new)) }
 {
@@ -156,7 +160,8 @@ pub(crate) fn show_fed<W: Wait, L: Link, N: Source, K: Sink, E: Sink>(
     out: &mut K,
     errors: &mut E,
 ) -> Result<(), Fault>
-    ensures { (r : Request) → IfOk request (λ v. v.items ≡ request_bytes r) → ShowFedSays showing r result
+    ensures { (r : Request) → IfOk request (λ v. v.items ≡ request_bytes r)
+        → ShowFedSays showing r result
         (N.gives input.old) (N.gives input.new)
         (reach (apart_from address.now (L.links link.old)) (K.takes out.old) (E.takes errors.old))
         (reach (apart_from address.now (L.links link.new)) (K.takes out.new) (E.takes errors.new)) }

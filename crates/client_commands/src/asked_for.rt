@@ -28,7 +28,8 @@ pub(crate) fn ask_id<W: Wait, L: Link, K: Sink, E: Sink>(
     out: &mut K,
     errors: &mut E,
 ) -> Result<Text, Fault>
-    ensures { (r : Request) → IfOk request (λ v. v.items ≡ request_bytes r) → AskReadSays r spec.id_in result
+    ensures { (r : Request) → IfOk request (λ v. v.items ≡ request_bytes r)
+        → AskReadSays r spec.id_in result
         (reach (apart_from address.now (L.links link.old)) (K.takes out.old) (E.takes errors.old))
         (reach (apart_from address.now (L.links link.new)) (K.takes out.new) (E.takes errors.new)) }
 {
@@ -48,7 +49,8 @@ pub(crate) fn ask_status_code<W: Wait, L: Link, K: Sink, E: Sink>(
     out: &mut K,
     errors: &mut E,
 ) -> Result<u8, Fault>
-    ensures { (r : Request) → IfOk request (λ v. v.items ≡ request_bytes r) → AskReadSays r spec.status_code_in result
+    ensures { (r : Request) → IfOk request (λ v. v.items ≡ request_bytes r)
+        → AskReadSays r spec.status_code_in result
         (reach (apart_from address.now (L.links link.old)) (K.takes out.old) (E.takes errors.old))
         (reach (apart_from address.now (L.links link.new)) (K.takes out.new) (E.takes errors.new)) }
 {
@@ -68,7 +70,8 @@ pub(crate) fn ask_exit_code<W: Wait, L: Link, K: Sink, E: Sink>(
     out: &mut K,
     errors: &mut E,
 ) -> Result<Option<u8>, Fault>
-    ensures { (r : Request) → IfOk request (λ v. v.items ≡ request_bytes r) → AskReadSays r exec.exit_code_in result
+    ensures { (r : Request) → IfOk request (λ v. v.items ≡ request_bytes r)
+        → AskReadSays r exec.exit_code_in result
         (reach (apart_from address.now (L.links link.old)) (K.takes out.old) (E.takes errors.old))
         (reach (apart_from address.now (L.links link.new)) (K.takes out.new) (E.takes errors.new)) }
 {
@@ -88,7 +91,8 @@ pub(crate) fn ask_container_lines<W: Wait, L: Link, K: Sink, E: Sink>(
     out: &mut K,
     errors: &mut E,
 ) -> Result<Words, Fault>
-    ensures { (r : Request) → IfOk request (λ v. v.items ≡ request_bytes r) → AskReadSays r spec.container_lines_in result
+    ensures { (r : Request) → IfOk request (λ v. v.items ≡ request_bytes r)
+        → AskReadSays r spec.container_lines_in result
         (reach (apart_from address.now (L.links link.old)) (K.takes out.old) (E.takes errors.old))
         (reach (apart_from address.now (L.links link.new)) (K.takes out.new) (E.takes errors.new)) }
 {
@@ -108,7 +112,8 @@ pub(crate) fn ask_volume_names<W: Wait, L: Link, K: Sink, E: Sink>(
     out: &mut K,
     errors: &mut E,
 ) -> Result<Words, Fault>
-    ensures { (r : Request) → IfOk request (λ v. v.items ≡ request_bytes r) → AskReadSays r spec.volume_names_in result
+    ensures { (r : Request) → IfOk request (λ v. v.items ≡ request_bytes r)
+        → AskReadSays r spec.volume_names_in result
         (reach (apart_from address.now (L.links link.old)) (K.takes out.old) (E.takes errors.old))
         (reach (apart_from address.now (L.links link.new)) (K.takes out.new) (E.takes errors.new)) }
 {

@@ -35,7 +35,8 @@ fn write_lines<K: Sink>(out: &mut K, lines: &[Text]) -> Result<(), Failed>
 /// Prints a line, and ends.
 pub(crate) fn print<K: Sink>(out: &mut K, line: &[u8]) -> Result<u8, Fault>
     ensures { (link : LinkView) (e : SinkView)
-        → Prints (prints line.now done) result (reach link (K.takes out.old) e) (reach link (K.takes out.new) e) }
+        → Prints (prints line.now done) result (reach link (K.takes out.old) e)
+        (reach link (K.takes out.new) e) }
 {
     match write_line(out, line) {
         Ok(()) => Ok(0),
@@ -46,7 +47,8 @@ pub(crate) fn print<K: Sink>(out: &mut K, line: &[u8]) -> Result<u8, Fault>
 /// Prints an exit code, and ends.
 pub(crate) fn print_code<K: Sink>(out: &mut K, code: u8) -> Result<u8, Fault>
     ensures { (link : LinkView) (e : SinkView)
-        → Prints (prints (decimal code) done) result (reach link (K.takes out.old) e) (reach link (K.takes out.new) e) }
+        → Prints (prints (decimal code) done) result (reach link (K.takes out.old) e)
+        (reach link (K.takes out.new) e) }
 {
     let mut digits = Buffer::new();
     print(out, digits.format(code).as_bytes())
@@ -55,7 +57,8 @@ pub(crate) fn print_code<K: Sink>(out: &mut K, code: u8) -> Result<u8, Fault>
 /// Prints lines, and ends with this status.
 pub fn print_all<K: Sink>(out: &mut K, lines: &[Text], status: u8) -> Result<u8, Fault>
     ensures { (link : LinkView) (e : SinkView)
-        → Prints (prints_all lines.now (ends status)) result (reach link (K.takes out.old) e) (reach link (K.takes out.new) e) }
+        → Prints (prints_all lines.now (ends status)) result (reach link (K.takes out.old) e)
+        (reach link (K.takes out.new) e) }
 {
     match write_lines(out, lines) {
         Ok(()) => Ok(status),

@@ -26,7 +26,8 @@ fn cut_line(text: &[u8]) -> Option<(&[u8], &[u8])>
 
 /// The event that a line is, with its line end.
 fn read_event(alloc: Global, line: &[u8]) -> Result<Event, Fault>
-    ensures reads { (front : List ℕ) → line.now ≡ front ++ 10 ∷ [] → ReadsOrFails result (event_in front) }
+    ensures reads { (front : List ℕ) → line.now ≡ front ++ 10 ∷ []
+        → ReadsOrFails result (event_in front) }
     ensures line { IfOk result (λ e. IsLine e) }
 {
     match read_event_line(alloc, line) {

@@ -49,9 +49,11 @@ fn refusal_kept<W: Wait, S: Source, K: Sink, E: Sink>(
     requires place { 0 < length place.old }
     requires fresh { taker.old ≡ taken taker.old.showing [] }
     requires kept { taker.old.showing ≡ Kept }
-    ensures { (came : SourceView) (h : Head) → came.ends ≡ 0 → Stands came h [] reader.old (S.gives source.old)
+    ensures { (came : SourceView) (h : Head) → came.ends ≡ 0
+        → Stands came h [] reader.old (S.gives source.old)
         → nat_lt h.status 400 ≡ false → RefusalSays result came (S.gives source.new)
-        (outputs (K.takes out.old) (E.takes errors.old)) (outputs (K.takes out.new) (E.takes errors.new)) }
+        (outputs (K.takes out.old) (E.takes errors.old))
+        (outputs (K.takes out.new) (E.takes errors.new)) }
 {
     match follow(rt, reader, source, place, taker, out, errors) {
         Ok(whole) => fault_in(alloc, whole, taker.kept()),
@@ -71,9 +73,11 @@ fn refusal<W: Wait, S: Source, K: Sink, E: Sink>(
 ) -> Fault
     requires stage { IsInBody reader.old.stage }
     requires place { 0 < length place.old }
-    ensures { (came : SourceView) (h : Head) → came.ends ≡ 0 → Stands came h [] reader.old (S.gives source.old)
+    ensures { (came : SourceView) (h : Head) → came.ends ≡ 0
+        → Stands came h [] reader.old (S.gives source.old)
         → nat_lt h.status 400 ≡ false → RefusalSays result came (S.gives source.new)
-        (outputs (K.takes out.old) (E.takes errors.old)) (outputs (K.takes out.new) (E.takes errors.new)) }
+        (outputs (K.takes out.old) (E.takes errors.old))
+        (outputs (K.takes out.new) (E.takes errors.new)) }
 {
     let mut taker = fresh_taker(alloc, Showing::Kept);
     refusal_kept(rt, alloc, reader, source, place, &mut taker, out, errors)
@@ -93,10 +97,12 @@ fn go_on<W: Wait, S: Source, K: Sink, E: Sink>(
     requires stage { IsInBody reader.old.stage }
     requires place { 0 < length place.old }
     requires fresh { taker.old ≡ taken taker.old.showing [] }
-    ensures { (came : SourceView) (h : Head) → came.ends ≡ 0 → Stands came h [] reader.old (S.gives source.old)
+    ensures { (came : SourceView) (h : Head) → came.ends ≡ 0
+        → Stands came h [] reader.old (S.gives source.old)
         → nat_lt h.status 400 ≡ true → first ≡ first_in h.form
         → AnswerSays result taker.old.showing taker.new came (S.gives source.new)
-        (outputs (K.takes out.old) (E.takes errors.old)) (outputs (K.takes out.new) (E.takes errors.new)) }
+        (outputs (K.takes out.old) (E.takes errors.old))
+        (outputs (K.takes out.new) (E.takes errors.new)) }
 {
     match follow(rt, reader, source, place, taker, out, errors) {
         Ok(whole) => Ok(Got { first, whole }),
@@ -119,8 +125,10 @@ pub(crate) fn read_answer<W: Wait, S: Source, K: Sink, E: Sink>(
     requires unread { reader.old ≡ unread_answer }
     requires place { 0 < length place.old }
     requires fresh { taker.old ≡ taken taker.old.showing [] }
-    ensures { AnswerSays result taker.old.showing taker.new (S.gives source.old) (S.gives source.new)
-        (outputs (K.takes out.old) (E.takes errors.old)) (outputs (K.takes out.new) (E.takes errors.new)) }
+    ensures { AnswerSays result taker.old.showing taker.new
+        (S.gives source.old) (S.gives source.new)
+        (outputs (K.takes out.old) (E.takes errors.old))
+        (outputs (K.takes out.new) (E.takes errors.new)) }
 {
     match reader.head(source) {
         Answered::Head { status, first } => {

@@ -46,7 +46,8 @@ fn converse<W: Wait, S: Source, I: Sink, K: Sink, E: Sink>(
     requires fresh { taker.old ≡ taken taker.old.showing [] }
     ensures { ConverseSays request.now ⊥ result taker.old.showing taker.new
         (S.gives from.old) (S.gives from.new) (I.takes into.old) (I.takes into.new)
-        (outputs (K.takes out.old) (E.takes errors.old)) (outputs (K.takes out.new) (E.takes errors.new)) }
+        (outputs (K.takes out.old) (E.takes errors.old))
+        (outputs (K.takes out.new) (E.takes errors.new)) }
 {
     match into.write(request) {
         Ok(()) => read_answer(rt, alloc, reader, from, place, taker, out, errors),

@@ -36,9 +36,11 @@ fn talk<W: Wait, N: Source, S: Source, I: Sink, K: Sink, E: Sink>(
     requires unread { reader.old ≡ unread_answer }
     requires place { 0 < length place.old }
     requires fresh { taker.old ≡ taken taker.old.showing [] }
-    ensures { TalkSays request.now result taker.old.showing taker.new (N.gives input.old) (N.gives input.new)
+    ensures { TalkSays request.now result taker.old.showing taker.new
+        (N.gives input.old) (N.gives input.new)
         (S.gives from.old) (S.gives from.new) (I.takes into.old) (I.takes into.new)
-        (outputs (K.takes out.old) (E.takes errors.old)) (outputs (K.takes out.new) (E.takes errors.new)) }
+        (outputs (K.takes out.old) (E.takes errors.old))
+        (outputs (K.takes out.new) (E.takes errors.new)) }
 {
     match send_with_input(rt, request, input, into, place) {
         Ok(()) => read_answer(rt, alloc, reader, from, place, taker, out, errors),
@@ -60,7 +62,8 @@ pub fn exchange_with_input<W: Wait, L: Link, N: Source, K: Sink, E: Sink>(
     errors: &mut E,
 ) -> Result<Got, Fault>
     requires { taker.old ≡ taken taker.old.showing [] }
-    ensures { FedSays request.now result taker.old.showing taker.new (N.gives input.old) (N.gives input.new)
+    ensures { FedSays request.now result taker.old.showing taker.new
+        (N.gives input.old) (N.gives input.new)
         (reach (apart_from address.now (L.links link.old)) (K.takes out.old) (E.takes errors.old))
         (reach (apart_from address.now (L.links link.new)) (K.takes out.new) (E.takes errors.new)) }
 {

@@ -26,9 +26,11 @@ pub(crate) fn follow<W: Wait, S: Source, K: Sink, E: Sink>(
     requires stage { IsInBody reader.old.stage }
     requires place { 0 < length place.old }
     requires fresh { taker.old ≡ taken taker.old.showing [] }
-    ensures { (came : SourceView) (h : Head) → came.ends ≡ 0 → Stands came h [] reader.old (S.gives source.old)
+    ensures { (came : SourceView) (h : Head) → came.ends ≡ 0
+        → Stands came h [] reader.old (S.gives source.old)
         → FollowSays result came h taker.old.showing taker.new (S.gives source.new)
-        (outputs (K.takes out.old) (E.takes errors.old)) (outputs (K.takes out.new) (E.takes errors.new)) }
+        (outputs (K.takes out.old) (E.takes errors.old))
+        (outputs (K.takes out.new) (E.takes errors.new)) }
 {
     for _ in rt.forever() {
         match reader.body(source, place) {

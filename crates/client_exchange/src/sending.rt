@@ -14,7 +14,8 @@ fn send_input<W: Wait, S: Source, I: Sink>(
     place: &mut [u8],
 ) -> Result<(), Fault>
     requires { 0 < length place.old }
-    ensures { SendSays [] result (S.gives input.old) (S.gives input.new) (I.takes into.old) (I.takes into.new) }
+    ensures { SendSays [] result (S.gives input.old) (S.gives input.new)
+        (I.takes into.old) (I.takes into.new) }
 {
     for _ in rt.forever() {
         match input.read(place) {
@@ -41,7 +42,8 @@ pub(crate) fn send_with_input<W: Wait, S: Source, I: Sink>(
     place: &mut [u8],
 ) -> Result<(), Fault>
     requires { 0 < length place.old }
-    ensures { SendSays request.now result (S.gives input.old) (S.gives input.new) (I.takes into.old) (I.takes into.new) }
+    ensures { SendSays request.now result (S.gives input.old) (S.gives input.new)
+        (I.takes into.old) (I.takes into.new) }
 {
     match into.write(request) {
         Ok(()) => send_input(rt, input, into, place),

@@ -18,7 +18,8 @@ fn read_all<W: Wait, N: Source>(
     text: &mut Vec<u8>,
 ) -> Result<(), Fault>
     requires { 0 < length place.old }
-    ensures { ReadsAll result text.old.items text.new.items (N.gives input.old) (N.gives input.new) }
+    ensures { ReadsAll result text.old.items text.new.items
+        (N.gives input.old) (N.gives input.new) }
 {
     for _ in rt.forever() {
         match input.read(place) {

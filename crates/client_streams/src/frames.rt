@@ -18,7 +18,8 @@ fn write_part<K: Sink, E: Sink>(
     errors: &mut E,
 ) -> Result<(), Fault>
     ensures { WritesBoth result (part_written (stream, bytes.now))
-        (outputs (K.takes out.old) (E.takes errors.old)) (outputs (K.takes out.new) (E.takes errors.new)) }
+        (outputs (K.takes out.old) (E.takes errors.old))
+        (outputs (K.takes out.new) (E.takes errors.new)) }
 {
     match stream {
         Stream::Stdin => Ok(()),
@@ -40,7 +41,8 @@ fn write_item<K: Sink, E: Sink>(
     errors: &mut E,
 ) -> Result<(), Fault>
     ensures { WritesBoth result (items_written (seen_item item.entry ∷ []))
-        (outputs (K.takes out.old) (E.takes errors.old)) (outputs (K.takes out.new) (E.takes errors.new)) }
+        (outputs (K.takes out.old) (E.takes errors.old))
+        (outputs (K.takes out.new) (E.takes errors.new)) }
 {
     match item {
         Ok((stream, bytes)) => write_part(stream, bytes, out, errors),
@@ -56,7 +58,8 @@ pub(crate) fn write_frames<K: Sink, E: Sink>(
     errors: &mut E,
 ) -> Result<(), Fault>
     ensures written { WritesBoth result (piece_written demux.old piece.now)
-        (outputs (K.takes out.old) (E.takes errors.old)) (outputs (K.takes out.new) (E.takes errors.new)) }
+        (outputs (K.takes out.old) (E.takes errors.old))
+        (outputs (K.takes out.new) (E.takes errors.new)) }
     ensures after { demux.new ≡ held_after demux.old piece.now }
 {
     let items = demux.push(piece);

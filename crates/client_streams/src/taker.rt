@@ -73,7 +73,8 @@ impl Taker {
         errors: &mut E,
     ) -> Result<(), Fault>
         ensures written { WritesBoth result (adds self.old piece.now)
-            (outputs (K.takes out.old) (E.takes errors.old)) (outputs (K.takes out.new) (E.takes errors.new)) }
+            (outputs (K.takes out.old) (E.takes errors.old))
+            (outputs (K.takes out.new) (E.takes errors.new)) }
         ensures after { IfOk result (λ x. self.new ≡ after self.old piece.now) }
     {
         match self.showing {
@@ -120,7 +121,8 @@ fn keep(kept: &mut Vec<u8>, piece: &[u8]) -> Result<(), Fault>
 
 /// Writes a piece to standard output.
 fn copy<K: Sink>(out: &mut K, piece: &[u8]) -> Result<(), Fault>
-    ensures { (e : SinkView) → WritesBoth result (to_out piece.now) (outputs (K.takes out.old) e) (outputs (K.takes out.new) e) }
+    ensures { (e : SinkView) → WritesBoth result (to_out piece.now) (outputs (K.takes out.old) e)
+        (outputs (K.takes out.new) e) }
 {
     match out.write(piece) {
         Ok(()) => Ok(()),

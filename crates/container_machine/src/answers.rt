@@ -12,7 +12,8 @@ use serde_json::{Value, json};
 use std::alloc::{AllocError, Global};
 
 fn message_value(alloc: Global, text: &str) -> Result<Value, AllocError>
-    ensures { IfOk result (λ v. view v ≡ object (member (codes "message") (string text.now) no_members)) }
+    ensures { IfOk result
+        (λ v. view v ≡ object (member (codes "message") (string text.now) no_members)) }
 {
     json!(in alloc; { "message": text })
 }

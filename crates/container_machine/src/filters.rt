@@ -88,14 +88,16 @@ fn fits(h: &Held, key: FilterKey, value: &Text) -> bool
 }
 
 fn any_fits(h: &Held, row: &FilterRow) -> bool
-    ensures { result ≡ list_any (spec.container_fits (container_in h.now) row.now.key) row.now.values }
+    ensures { result ≡ list_any (spec.container_fits (container_in h.now) row.now.key)
+        row.now.values }
 {
     let key = row.key;
     row.values.as_slice().iter().any(|v| fits(h, key, v))
 }
 
 fn all_fit(h: &Held, row: &FilterRow) -> bool
-    ensures { result ≡ list_all (spec.container_fits (container_in h.now) row.now.key) row.now.values }
+    ensures { result ≡ list_all (spec.container_fits (container_in h.now) row.now.key)
+        row.now.values }
 {
     let key = row.key;
     row.values.as_slice().iter().all(|v| fits(h, key, v))
@@ -103,7 +105,8 @@ fn all_fit(h: &Held, row: &FilterRow) -> bool
 
 // Whether a container passes a row: for a label all values, else one.
 fn row_passes(h: &Held, row: &FilterRow) -> bool
-    ensures { result ≡ spec.row_passes row.now.key (spec.container_fits (container_in h.now) row.now.key) row.now.values }
+    ensures { result ≡ spec.row_passes row.now.key
+        (spec.container_fits (container_in h.now) row.now.key) row.now.values }
 {
     match row.key {
         FilterKey::Label => all_fit(h, row),

@@ -74,7 +74,8 @@ pub fn prepare(
     signal: Option<Signal>,
 ) -> Result<Prepared, NoMemory>
     requires signal { IfSome signal (λ s. s.number < 32) }
-    requires stands { container_numbered h.now.container.number tables.now.state ≡ Some (container_in h.now) }
+    requires stands { container_numbered h.now.container.number tables.now.state
+        ≡ Some (container_in h.now) }
     requires starts { h.now.container.life.starts < 2 ^ 63 }
     requires kept { IsConsistent tables.now.state }
     ensures { IfOk result (λ p. Makes p moment tables.now.state

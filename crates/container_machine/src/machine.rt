@@ -63,7 +63,8 @@ impl Machine {
         requires sound { IsSound call.now }
         requires until { moment ≤ greatest_moment }
         requires heard { IsFalse (is_drop call.now) }
-        ensures { IfOk result (λ p. Makes p moment self.now.memory.state (outcome_of call.now conn)) }
+        ensures { IfOk result
+            (λ p. Makes p moment self.now.memory.state (outcome_of call.now conn)) }
     {
         self.kept();
         match call {
@@ -242,7 +243,8 @@ impl Machine {
     pub fn commit(&mut self, prepared: Prepared) -> Reply
         requires { IsForSome prepared self.old }
         ensures { (asked : Asked) → IsFor prepared self.old asked
-            → IsCommitted (call_outcome asked.connection asked.moment asked.call self.old.memory.state) result self.old self.new }
+            → IsCommitted (call_outcome asked.connection asked.moment asked.call
+            self.old.memory.state) result self.old self.new }
     {
         let Prepared {
             moment,

@@ -31,7 +31,8 @@ fn all_fit(volume: &Volume, row: &FilterRow) -> bool
 
 // Whether a volume passes a row: for a label all values, else one.
 fn row_passes(volume: &Volume, row: &FilterRow) -> bool
-    ensures { result ≡ spec.row_passes row.now.key (spec.volume_fits volume.now row.now.key) row.now.values }
+    ensures { result ≡ spec.row_passes row.now.key (spec.volume_fits volume.now row.now.key)
+        row.now.values }
 {
     match row.key {
         FilterKey::Label => all_fit(volume, row),

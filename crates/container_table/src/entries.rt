@@ -136,7 +136,8 @@ pub fn place_of(held: &Boxes, number: u64) -> Result<usize, usize>
 pub fn is_above(held: &Boxes, number: u64) -> bool
     requires { IsBoxed held.now }
     ensures value { result ≡ is_above number (contents held.now.list.items) }
-    ensures all { IsTrue result → AllByRecursion (λ c. c.number < number) (contents held.now.list.items) }
+    ensures all { IsTrue result → AllByRecursion (λ c. c.number < number)
+        (contents held.now.list.items) }
 {
     match held.list.as_slice().last() {
         None => true,
@@ -149,7 +150,8 @@ pub fn held_at(held: &Boxes, i: usize, number: u64) -> &Held
     requires boxed { IsBoxed held.now }
     requires bound { i < length held.now.list.items }
     requires place { IsPlaced (contents held.now.list.items) number (Ok i) }
-    ensures found { numbered number (contents held.now.list.items) ≡ Some (container_in result.now) }
+    ensures found { numbered number (contents held.now.list.items)
+        ≡ Some (container_in result.now) }
     ensures number { result.now.container.number ≡ number }
 {
     &held.list[i]
@@ -202,13 +204,18 @@ fn locate_between(
 ) -> Result<usize, usize>
     requires boxed { IsBoxed held.now }
     requires start { start.now ≡ front 8 text.now }
-    requires rises { IsNonDecreasingBy (λ e. ordering_index (entry_order key (contents held.now.list.items) text.now e)) entries.now.items }
+    requires rises { IsNonDecreasingBy
+        (λ e. ordering_index (entry_order key (contents held.now.list.items) text.now e))
+        entries.now.items }
     requires order { low ≤ high }
     requires bound { high ≤ length entries.now.items }
-    requires below { AllWithin (λ e. entry_order key (contents held.now.list.items) text.now e ≡ Ordering.Less) entries.now.items 0 low }
-    requires above { AllWithin (λ e. entry_order key (contents held.now.list.items) text.now e ≡ Ordering.Greater) entries.now.items high (length entries.now.items) }
+    requires below { AllWithin (λ e. entry_order key (contents held.now.list.items) text.now e
+        ≡ Ordering.Less) entries.now.items 0 low }
+    requires above { AllWithin (λ e. entry_order key (contents held.now.list.items) text.now e
+        ≡ Ordering.Greater) entries.now.items high (length entries.now.items) }
     ensures bound { IsSearchInRange result (length entries.now.items) }
-    ensures place { IsBinarySearchResult (entry_order key (contents held.now.list.items) text.now) entries.now.items result }
+    ensures place { IsBinarySearchResult (entry_order key (contents held.now.list.items) text.now)
+        entries.now.items result }
 {
     if high <= low {
         return Err(low);
@@ -246,9 +253,11 @@ fn entry_of(key: Key, one: &Held) -> Entry
 pub fn file(entries: &mut Rows<Entry>, held: &Boxes, key: Key, one: &Held)
     requires boxed { IsBoxed held.now }
     requires index { IsIndex key (contents held.now.list.items) entries.old.items }
-    requires fresh { IsFresh key (key_text key (container_in one.now)) (contents held.now.list.items) }
+    requires fresh { IsFresh key (key_text key (container_in one.now))
+        (contents held.now.list.items) }
     requires room { length entries.old.items < entries.old.places }
-    ensures index { IsIndex key (contents held.now.list.items ++ container_in one.now ∷ []) entries.new.items }
+    ensures index { IsIndex key (contents held.now.list.items ++ container_in one.now ∷ [])
+        entries.new.items }
     ensures len { length entries.new.items ≡ length entries.old.items + 1 }
     ensures places { entries.new.places ≡ entries.old.places }
 {
@@ -275,10 +284,13 @@ pub fn unfile(entries: &mut Rows<Entry>, held: &Boxes, key: Key, one: &Held, num
 pub fn refile(entries: &mut Rows<Entry>, held: &Boxes, one: &Held, name: &str)
     requires boxed { IsBoxed held.now }
     requires index { IsIndex keys.Name (contents held.now.list.items) entries.old.items }
-    requires held { numbered one.now.container.number (contents held.now.list.items) ≡ Some (container_in one.now) }
+    requires held { numbered one.now.container.number (contents held.now.list.items)
+        ≡ Some (container_in one.now) }
     requires fresh { IsFresh keys.Name name.now (contents held.now.list.items) }
     requires room { length entries.old.items ≤ entries.old.places }
-    ensures index { IsIndex keys.Name (renamed one.now.container.number name.now (contents held.now.list.items)) entries.new.items }
+    ensures index { IsIndex keys.Name
+        (renamed one.now.container.number name.now (contents held.now.list.items))
+        entries.new.items }
     ensures len { length entries.new.items ≡ length entries.old.items }
     ensures places { entries.new.places ≡ entries.old.places }
 {

@@ -51,7 +51,8 @@ pub fn is_new(entries: &Rows<Entry>, held: &Boxes, key: Key, text: &str) -> bool
     requires boxed { IsBoxed held.now }
     requires index { IsIndex key (contents held.now.list.items) entries.now.items }
     ensures { result
-        ≡ is_none (find (λ c. same_bytes (key_text key c) text.now) (contents held.now.list.items)) }
+        ≡ is_none (find (λ c. same_bytes (key_text key c) text.now)
+        (contents held.now.list.items)) }
 {
     locate(entries, held, key, text).is_err()
 }
@@ -60,7 +61,8 @@ pub fn is_new(entries: &Rows<Entry>, held: &Boxes, key: Key, text: &str) -> bool
 pub fn named_in<'a>(names: &Rows<Entry>, held: &'a Boxes, name: &str) -> Option<&'a Held>
     requires boxed { IsBoxed held.now }
     requires names { IsIndex keys.Name (contents held.now.list.items) names.now.items }
-    ensures { option_map container_in (option_copied result) ≡ named name.now (contents held.now.list.items) }
+    ensures { option_map container_in (option_copied result)
+        ≡ named name.now (contents held.now.list.items) }
 {
     match locate(names, held, Key::Name, name) {
         Ok(i) => numbered_in(held, names.at(i).number),

@@ -70,5 +70,6 @@ impl Turns for Alone {
 
     ghost sound = { λ a. a.daemon.legal };
 
-    ghost counted = { λ a. record { own = refl; joined = none_joined (history_of a.daemon.stored.journal) } };
+    ghost counted = { λ a.
+        record { own = refl; joined = none_joined (history_of a.daemon.stored.journal) } };
 }

@@ -9,8 +9,10 @@ use crate::daemon::Daemon;
 impl Daemon {
     /// How many events there were, and how many containers there are.
     pub fn counts(&self) -> (u64, u64)
-        ensures events { result.0 ≡ length (events_of (charter self.now) (history_of self.now.stored.journal)) }
-        ensures containers { result.1 ≡ length (state_after (charter self.now) (history_of self.now.stored.journal)).containers }
+        ensures events { result.0 ≡ length
+            (events_of (charter self.now) (history_of self.now.stored.journal)) }
+        ensures containers { result.1 ≡ length
+            (state_after (charter self.now) (history_of self.now.stored.journal)).containers }
     {
         (self.stored.ring.count(), self.stored.machine.containers())
     }

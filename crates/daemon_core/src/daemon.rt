@@ -27,9 +27,25 @@ pub struct Daemon {
     pub(crate) seed: [u8; 32],
     pub(crate) opening: u64,
     pub(crate) greatest: u64,
-    pub(crate) ghost state: { stored ≡ record stored { machine = record stored.machine { memory = record stored.machine.memory { state = state_after (charter_of seed opening greatest) (history_of stored.journal) } } } } by { Coded-set stored-code stored _ },
+    pub(crate) ghost state: { stored
+        ≡ record stored {
+          machine = record stored.machine {
+            memory = record stored.machine.memory {
+              state = state_after
+                  (charter_of seed opening greatest) (history_of stored.journal);
+            };
+          };
+        } } by { Coded-set stored-code stored _ },
     // The ring holds the last events of the history, and the journal's entries are its calls with their replies.
-    pub(crate) ghost told: { stored ≡ record stored { ring = last_events (charter_of seed opening greatest) (history_of stored.journal); journal = record stored.journal { entries = told_entries (charter_of seed opening greatest) (history_of stored.journal) } } } by { Coded-set stored-code stored _ },
+    pub(crate) ghost told: { stored
+        ≡ record stored {
+          ring = last_events (charter_of seed opening greatest)
+              (history_of stored.journal);
+          journal = record stored.journal {
+            entries = told_entries (charter_of seed opening greatest)
+                (history_of stored.journal);
+          };
+        } } by { Coded-set stored-code stored _ },
     pub(crate) ghost legal: { IsLegal (charter_of seed opening greatest) (history_of stored.journal) } by { IsLegal-prop (charter_of seed opening greatest) (history_of stored.journal) },
     // The end of each ticket that stands has its place behind the entries.
     pub(crate) ghost ends: { HasEnds stored },
@@ -89,8 +105,10 @@ impl Daemon {
     /// Makes every step that is due at or before the moment that counts, and then the call. A drop is
     /// made at once, and takes no memory.
     pub fn turn(&mut self, alloc: Global, conn: u32, handed: u64, call: Option<&Call>) -> Turned
-        requires { MayAsk (charter self.old) conn (history_of self.old.stored.journal) (option_map (λ c. c.now) call) }
-        ensures { Turn conn handed (option_map (λ c. c.now) call.entry) result (whole_pass self.old) (whole_pass self.new) }
+        requires { MayAsk (charter self.old) conn (history_of self.old.stored.journal)
+            (option_map (λ c. c.now) call) }
+        ensures { Turn conn handed (option_map (λ c. c.now) call.entry) result
+            (whole_pass self.old) (whole_pass self.new) }
     {
         match drop_of(call) {
             Some(ticket) => self.drop_ticket(alloc, conn, ticket),
@@ -100,8 +118,10 @@ impl Daemon {
 
     // Ends a ticket at once.
     fn drop_ticket(&mut self, alloc: Global, conn: u32, ticket: u64) -> Turned
-        requires { MayAsk (charter self.old) conn (history_of self.old.stored.journal) (Some (calls.Call.Drop ticket)) }
-        ensures { (handed : ℕ) → Turn conn handed (Some (calls.Call.Drop ticket)) result (whole_pass self.old) (whole_pass self.new) }
+        requires { MayAsk (charter self.old) conn (history_of self.old.stored.journal)
+            (Some (calls.Call.Drop ticket)) }
+        ensures { (handed : ℕ) → Turn conn handed (Some (calls.Call.Drop ticket)) result
+            (whole_pass self.old) (whole_pass self.new) }
     {
         let moment = self.stored.machine.now();
         match self.stored.make(alloc, conn, moment, Call::Drop { ticket }) {
@@ -112,9 +132,11 @@ impl Daemon {
 
     // Makes what is due, and then the call, which is no drop.
     fn ask(&mut self, alloc: Global, conn: u32, handed: u64, call: Option<&Call>) -> Turned
-        requires may { MayAsk (charter self.old) conn (history_of self.old.stored.journal) (option_map (λ c. c.now) call) }
+        requires may { MayAsk (charter self.old) conn (history_of self.old.stored.journal)
+            (option_map (λ c. c.now) call) }
         requires kind { drop_of (option_map (λ c. c.now) call) ≡ None }
-        ensures { Turn conn handed (option_map (λ c. c.now) call.entry) result (whole_pass self.old) (whole_pass self.new) }
+        ensures { Turn conn handed (option_map (λ c. c.now) call.entry) result
+            (whole_pass self.old) (whole_pass self.new) }
     {
         let moment = moment_used(self.stored.machine.now(), handed);
         match self.stored.run_due(alloc, moment) {
@@ -133,7 +155,9 @@ impl Daemon {
         requires holds { HoldsTicket self.old.stored.machine.memory.state conn call.now }
         requires at { IsClear self.old.stored.machine.memory.state moment }
         ensures charter { charter self.new ≡ charter self.old }
-        ensures ends { Ends (charter self.old) self.old.stored.machine.memory.state conn moment call.now result (history_of self.old.stored.journal) (history_of self.new.stored.journal) }
+        ensures ends { Ends (charter self.old) self.old.stored.machine.memory.state conn moment
+            call.now result (history_of self.old.stored.journal)
+            (history_of self.new.stored.journal) }
     {
         if !has_room(&self.stored.machine, self.greatest, call) {
             return Turned::JournalFull;

@@ -59,7 +59,8 @@ impl Daemon {
         part: RingPart<'_>,
     ) -> Part
         requires { IsPartFrom (charter self.now) (history_of self.now.stored.journal) number part }
-        ensures { EventsSay (charter self.now) (history_of self.now.stored.journal) handed filter.now until number result
+        ensures { EventsSay (charter self.now) (history_of self.now.stored.journal) handed
+            filter.now until number result
             out.old.items out.new.items }
     {
         let mut part = part;
@@ -86,8 +87,10 @@ impl Daemon {
         filter: &Filter,
         until: Option<u64>,
     ) -> Part
-        requires { number ≤ length (events_of (charter self.now) (history_of self.now.stored.journal)) }
-        ensures { EventsSay (charter self.now) (history_of self.now.stored.journal) handed filter.now until number result
+        requires { number ≤ length
+            (events_of (charter self.now) (history_of self.now.stored.journal)) }
+        ensures { EventsSay (charter self.now) (history_of self.now.stored.journal) handed
+            filter.now until number result
             out.old.items out.new.items }
     {
         match self.stored.ring.from(number) {
@@ -114,7 +117,8 @@ impl Daemon {
         filter: &Filter,
         until: Option<u64>,
     ) -> Part
-        requires { number ≤ length (events_of (charter self.old) (history_of self.old.stored.journal)) }
+        requires { number ≤ length
+            (events_of (charter self.old) (history_of self.old.stored.journal)) }
         ensures { EventTurn conn handed filter.now until number result out.old.items out.new.items
             (whole_pass self.old) (whole_pass self.new) }
     {

@@ -24,7 +24,8 @@ impl Daemon {
     /// The line of the journal's entry of that number is appended; no step is made, and no moment counts. At
     /// every other answer `out` is as before.
     pub fn journal_from(&self, alloc: Global, number: u64, out: &mut Vec<u8>) -> Part
-        ensures { (k : ℕ) → JournalTurn k number result out.old.items out.new.items (whole_pass self.now) (whole_pass self.now) }
+        ensures { (k : ℕ) → JournalTurn k number result out.old.items out.new.items
+            (whole_pass self.now) (whole_pass self.now) }
     {
         if self.stored.journal.len() <= number {
             return Part::UpToDate;

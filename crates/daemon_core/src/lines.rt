@@ -57,7 +57,8 @@ fn put_lines(
     first: &PreparedEvent,
     rest: RingPart<'_>,
 ) -> Result<usize, NoMemory>
-    ensures ok { IfOk result (λ n. PassesEvents filter.now until (first.now ∷ rest.entry) n out.old.items out.new.items) }
+    ensures ok { IfOk result (λ n. PassesEvents filter.now until (first.now ∷ rest.entry) n
+        out.old.items out.new.items) }
     ensures err { OnErr result (Longer out.old.items out.new.items) }
 {
     let full = out.len().saturating_add(PART);
@@ -83,7 +84,8 @@ pub fn append_lines(
     first: &PreparedEvent,
     rest: RingPart<'_>,
 ) -> Result<usize, NoMemory>
-    ensures ok { IfOk result (λ n. PassesEvents filter.now until (first.now ∷ rest.entry) n out.old.items out.new.items) }
+    ensures ok { IfOk result (λ n. PassesEvents filter.now until (first.now ∷ rest.entry) n
+        out.old.items out.new.items) }
     ensures err { OnErr result (out.new.items ≡ out.old.items) }
 {
     let before = out.len();

@@ -14,7 +14,8 @@ use std::alloc::Global;
 impl Daemon {
     // What the log tells now.
     fn read_log(&self, spec: &LogSpec, place: u64, out: &mut Vec<u8>) -> Part
-        ensures { LogSays (state_after (charter self.now) (history_of self.now.stored.journal)) spec.now place result
+        ensures { LogSays (state_after (charter self.now) (history_of self.now.stored.journal))
+            spec.now place result
             out.old.items out.new.items }
     {
         match self.stored.machine.log_part(spec, place) {

@@ -40,7 +40,8 @@ impl Stored {
         ensures machine { self.new.machine ≡ self.old.machine }
         ensures ring { self.new.ring ≡ self.old.ring }
         ensures journal { IsLike self.old.journal self.new.journal }
-        ensures room { OnOk result (length self.new.journal.entries + ends_of self.new.journal.entries
+        ensures room { OnOk result
+            (length self.new.journal.entries + ends_of self.new.journal.entries
             + (length self.new.machine.memory.state.tickets + 2) ≤ self.new.journal.room) }
     {
         match self.machine.tickets().checked_add(2) {
@@ -73,13 +74,18 @@ impl Stored {
         moment: u64,
         call: &Call,
     ) -> Result<(Reply, Reply), NoMemory>
-        requires lawful { IsLawful self.old.machine.memory.state (steps.Step.Call conn moment call.now) }
+        requires lawful { IsLawful self.old.machine.memory.state
+            (steps.Step.Call conn moment call.now) }
         requires told { IsToldBySome self.old }
         ensures journal { self.new.journal ≡ self.old.journal }
-        ensures made { IfOk result (λ r. Plays (steps.Step.Call conn moment call.now) self.old self.new) }
-        ensures kept { IfOk result (λ r. r.0 ≡ reply_of self.old.machine.memory.state conn moment call.now) }
-        ensures reply { IfOk result (λ r. r.1 ≡ reply_of self.old.machine.memory.state conn moment call.now) }
-        ensures state { OnErr result (self.new.machine.memory.state ≡ self.old.machine.memory.state) }
+        ensures made { IfOk result
+            (λ r. Plays (steps.Step.Call conn moment call.now) self.old self.new) }
+        ensures kept { IfOk result
+            (λ r. r.0 ≡ reply_of self.old.machine.memory.state conn moment call.now) }
+        ensures reply { IfOk result
+            (λ r. r.1 ≡ reply_of self.old.machine.memory.state conn moment call.now) }
+        ensures state { OnErr result
+            (self.new.machine.memory.state ≡ self.old.machine.memory.state) }
         ensures ring { OnErr result (self.new.ring ≡ self.old.ring) }
         ensures drop { OnErr result (IsFalse (is_drop call.now)) }
     {
@@ -98,7 +104,8 @@ impl Stored {
         requires told { IsToldBySome self.old }
         ensures journal { self.new.journal ≡ self.old.journal }
         ensures made { IfOk result (λ r. Plays steps.Step.Due self.old self.new) }
-        ensures state { OnErr result (self.new.machine.memory.state ≡ self.old.machine.memory.state) }
+        ensures state { OnErr result
+            (self.new.machine.memory.state ≡ self.old.machine.memory.state) }
         ensures ring { OnErr result (self.new.ring ≡ self.old.ring) }
     {
         self.machine.kept();
@@ -118,14 +125,18 @@ impl Stored {
         moment: u64,
         call: Call,
     ) -> Result<Reply, NoMemory>
-        requires lawful { IsLawful self.old.machine.memory.state (steps.Step.Call conn moment call) }
+        requires lawful { IsLawful self.old.machine.memory.state
+            (steps.Step.Call conn moment call) }
         requires told { IsToldBySome self.old }
         requires ends { HasEnds self.old }
-        ensures made { IfOk result (λ r. Adds conn moment call r self.old.machine.memory.state self.new.machine.memory.state
+        ensures made { IfOk result
+            (λ r. Adds conn moment call r self.old.machine.memory.state
+            self.new.machine.memory.state
             (history_of self.old.journal) (history_of self.new.journal)) }
         ensures ends { HasEnds self.new }
         ensures told { KeepsTold self.old self.new }
-        ensures state { OnErr result (self.new.machine.memory.state ≡ self.old.machine.memory.state) }
+        ensures state { OnErr result
+            (self.new.machine.memory.state ≡ self.old.machine.memory.state) }
         ensures steps { OnErr result (history_of self.new.journal ≡ history_of self.old.journal) }
         ensures drop { OnErr result (IsFalse (is_drop call)) }
     {
@@ -150,11 +161,13 @@ impl Stored {
         requires lawful { IsLawful self.old.machine.memory.state steps.Step.Due }
         requires told { IsToldBySome self.old }
         requires ends { HasEnds self.old }
-        ensures made { IfOk result (λ r. AddsDue self.old.machine.memory.state self.new.machine.memory.state
+        ensures made { IfOk result
+            (λ r. AddsDue self.old.machine.memory.state self.new.machine.memory.state
             (history_of self.old.journal) (history_of self.new.journal)) }
         ensures ends { HasEnds self.new }
         ensures told { KeepsTold self.old self.new }
-        ensures state { OnErr result (self.new.machine.memory.state ≡ self.old.machine.memory.state) }
+        ensures state { OnErr result
+            (self.new.machine.memory.state ≡ self.old.machine.memory.state) }
         ensures journal { OnErr result (self.new.journal ≡ self.old.journal) }
     {
         self.machine.kept();

@@ -37,7 +37,8 @@ pub fn with_lines(alloc: Global, events: &[Event]) -> Result<Vec<PreparedEvent>,
 /// The ring keeps these events behind its own. It takes no memory.
 pub fn keep_all(ring: &mut Ring, lines: Vec<PreparedEvent>)
     requires { ring.old.count + length lines.items ≤ 2 ^ 63 }
-    ensures { (all : List AnEvent) → ring.old ≡ ring_of all → ring.new ≡ ring_of (all ++ lines.items) }
+    ensures { (all : List AnEvent) → ring.old ≡ ring_of all
+        → ring.new ≡ ring_of (all ++ lines.items) }
 {
     for line in lines {
         ring.push(line);

@@ -10,7 +10,8 @@ use crate::daemon::Daemon;
 impl Daemon {
     /// Does nothing: its clause says that each entry of its history is what its types hold.
     pub fn texts(&self)
-        ensures { All EntryHasTexts (entries_of (charter self.now) (history_of self.now.stored.journal)) }
+        ensures { All EntryHasTexts
+            (entries_of (charter self.now) (history_of self.now.stored.journal)) }
     {
         self.stored.journal.texts();
     }

@@ -20,8 +20,10 @@ pub trait Turns: Sized {
     /// milliseconds, and then the call. It may want memory, but not for a drop.
     fn turn(&mut self, alloc: Global, conn: u32, handed: u64, call: Option<&Call>) -> Turned
         requires number { IsNumber (pass self.old).number conn }
-        requires may { MayAsk (pass self.old).charter conn (pass self.old).seen (option_map (λ c. c.now) call) }
-        ensures { Turn conn handed (option_map (λ c. c.now) call.entry) result (pass self.old) (pass self.new) };
+        requires may { MayAsk (pass self.old).charter conn (pass self.old).seen
+            (option_map (λ c. c.now) call) }
+        ensures { Turn conn handed (option_map (λ c. c.now) call.entry) result
+            (pass self.old) (pass self.new) };
 
     /// A part of a log's stream from a place on, behind all that is due by the moment that counts of
     /// the handed one: its frames are appended. At every other answer `out` is as before.
@@ -35,7 +37,8 @@ pub trait Turns: Sized {
         out: &mut Vec<u8>,
     ) -> Part
         requires number { IsNumber (pass self.old).number conn }
-        ensures { LogTurn conn handed spec.now place result out.old.items out.new.items (pass self.old) (pass self.new) };
+        ensures { LogTurn conn handed spec.now place result out.old.items out.new.items
+            (pass self.old) (pass self.new) };
 
     /// A part of the stream of events from a number on, behind all that is due by the moment that counts
     /// of the handed one: the lines of those that the filter lets pass, at or before the moment `until`,
@@ -51,14 +54,17 @@ pub trait Turns: Sized {
         until: Option<u64>,
     ) -> Part
         requires number { IsNumber (pass self.old).number conn }
-        requires counted { number ≤ length (events_of (pass self.old).charter (pass self.old).seen) }
-        ensures { EventTurn conn handed filter.now until number result out.old.items out.new.items (pass self.old) (pass self.new) };
+        requires counted { number ≤ length
+            (events_of (pass self.old).charter (pass self.old).seen) }
+        ensures { EventTurn conn handed filter.now until number result out.old.items out.new.items
+            (pass self.old) (pass self.new) };
 
     /// A part of the journal, as the history stands: the line of the entry of that number, counted from 0, is
     /// appended. No step is made, and no moment counts. At every other answer `out` is as before.
     fn journal_from(&mut self, alloc: Global, conn: u32, number: u64, out: &mut Vec<u8>) -> Part
         requires number { IsNumber (pass self.old).number conn }
-        ensures { JournalTurn conn number result out.old.items out.new.items (pass self.old) (pass self.new) };
+        ensures { JournalTurn conn number result out.old.items out.new.items
+            (pass self.old) (pass self.new) };
 
     /// What was seen is legal.
     ghost sound: { (t : Self) → IsLegal (pass t).charter (pass t).seen };

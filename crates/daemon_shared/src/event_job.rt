@@ -31,7 +31,8 @@ impl<'c> Job<OneDaemon> for EventJob<'c> {
 
     ghost may_answer = { λ j o h k a i.
         MakesPart o j.conn j.handed a
-        (λ ch x. EventsSay ch x j.handed j.filter.now j.until j.place a j.out.items i.out.items) h k };
+        (λ ch x. EventsSay ch x j.handed j.filter.now j.until j.place a j.out.items i.out.items)
+        h k };
 
     fn run(&mut self, value: &mut OneDaemon) -> Part {
         value.daemon.events_from(

@@ -22,7 +22,8 @@ fn is_bare(status: u16) -> bool
 /// The status in the first line.
 fn status_in(bytes: &[u8]) -> Option<u16>
     ensures known { IfSome result IsFinal }
-    ensures found { (status : ℕ) → IsFinal status → BeginsWithNumber (drop 9 bytes.now) status → result ≡ Some status }
+    ensures found { (status : ℕ) → IsFinal status → BeginsWithNumber (drop 9 bytes.now) status
+        → result ≡ Some status }
 {
     let number = leading_number(&bytes[bytes.len().min(9)..]);
     if number < 200 {
@@ -52,7 +53,8 @@ fn head_of(status: u16, size: u64) -> Head
 
 /// The length that the head of a status with a body tells.
 fn told_length(bytes: &[u8], status: u16) -> u64
-    ensures { (n : ℕ) → n < 2 ^ 64 → BeginsWithNumber (drop (length (before_length status)) bytes.now) n → result ≡ n }
+    ensures { (n : ℕ) → n < 2 ^ 64 → BeginsWithNumber
+        (drop (length (before_length status)) bytes.now) n → result ≡ n }
 {
     let none = Head {
         status,
@@ -93,7 +95,8 @@ fn behind_head<'a>(bytes: &'a [u8], head: &Head) -> Option<&'a [u8]>
 
 /// The status of the answer that the bytes begin with, and what stands behind it.
 pub fn first_answer(bytes: &[u8]) -> Option<(u16, &[u8])>
-    ensures some { IfSome result (λ p. (one : List ℕ) × IsAnswer one p.0 × (bytes.now ≡ one ++ p.1.now)) }
+    ensures some { IfSome result
+        (λ p. (one : List ℕ) × IsAnswer one p.0 × (bytes.now ≡ one ++ p.1.now)) }
     ensures known { IfSome result (λ p. IsFinal p.0) }
     ensures shorter { IfSome result (λ p. length p.1.now < length bytes.now) }
     ensures none { IfNone result (HasNoAnswer bytes.now) }

@@ -47,7 +47,8 @@ pub struct Drill {
 fn report_of(alloc: Global, daemon: &Daemon, drill: Drill, written: &[u8]) -> Result<Text, NoMemory>
     requires opening { drill.opening ≤ greatest_moment }
     requires charter { charter daemon.now ≡ charter_by drill }
-    ensures { IfOk result (λ text. IsReport (charter_by drill) drill.requests written.now (history_of daemon.now.stored.journal) text) }
+    ensures { IfOk result (λ text. IsReport (charter_by drill) drill.requests written.now
+        (history_of daemon.now.stored.journal) text) }
 {
     law_complete();
     law_one_verdict();
@@ -79,7 +80,8 @@ pub fn run_drill<R: Threads + Wait + Sync, C: Clock>(
     clock: &mut C,
 ) -> Result<Drilled, NoMemory>
     requires { drill.opening ≤ greatest_moment }
-    ensures { Drills (charter_by drill) drill.requests result (C.times clock.old) (C.times clock.new) }
+    ensures { Drills (charter_by drill) drill.requests result
+        (C.times clock.old) (C.times clock.new) }
 {
     let bytes = requests(alloc, drill.seed, drill.requests)?;
     let mut source = Given::new(bytes);

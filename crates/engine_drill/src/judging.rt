@@ -11,7 +11,8 @@ use std::alloc::Global;
 
 /// The whole journal of a daemon.
 pub fn journal_text(alloc: Global, daemon: &Daemon) -> Result<Vec<u8>, NoMemory>
-    ensures { IfOk result (λ v. v.items ≡ journal_of (charter daemon.now) (history_of daemon.now.stored.journal)) }
+    ensures { IfOk result
+        (λ v. v.items ≡ journal_of (charter daemon.now) (history_of daemon.now.stored.journal)) }
 {
     let mut text = Vec::new(alloc);
     let mut number = 0;

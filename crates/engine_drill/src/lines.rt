@@ -7,7 +7,8 @@ use std::alloc::{AllocError, Global};
 
 /// Adds a line of a word and a text.
 fn put_text(alloc: Global, out: &mut String, word: &str, text: &str) -> Result<(), AllocError>
-    ensures { OnOk result (string_bytes out.new ≡ string_bytes out.old ++ spec.text_line word.now text.now) }
+    ensures { OnOk result
+        (string_bytes out.new ≡ string_bytes out.old ++ spec.text_line word.now text.now) }
 {
     let line = format!(in alloc; "{word} {text}\n")?;
     out.push_str(&line)
@@ -20,7 +21,8 @@ pub fn put_number(
     word: &str,
     number: u64,
 ) -> Result<(), AllocError>
-    ensures { OnOk result (string_bytes out.new ≡ string_bytes out.old ++ spec.number_line word.now number) }
+    ensures { OnOk result
+        (string_bytes out.new ≡ string_bytes out.old ++ spec.number_line word.now number) }
 {
     let line = format!(in alloc; "{word} {number}\n")?;
     out.push_str(&line)
@@ -33,7 +35,8 @@ fn put_answered(
     status: usize,
     count: u64,
 ) -> Result<(), AllocError>
-    ensures { OnOk result (string_bytes out.new ≡ string_bytes out.old ++ spec.answered_line status count) }
+    ensures { OnOk result
+        (string_bytes out.new ≡ string_bytes out.old ++ spec.answered_line status count) }
 {
     let line = format!(in alloc; "status {status} {count}\n")?;
     out.push_str(&line)
@@ -41,7 +44,8 @@ fn put_answered(
 
 /// Adds the line of a status, if it was answered.
 fn put_status(alloc: Global, out: &mut String, status: usize, count: u64) -> Result<(), AllocError>
-    ensures { OnOk result (string_bytes out.new ≡ string_bytes out.old ++ spec.status_line status count) }
+    ensures { OnOk result
+        (string_bytes out.new ≡ string_bytes out.old ++ spec.status_line status count) }
 {
     if count == 0 {
         return Ok(());
@@ -51,7 +55,8 @@ fn put_status(alloc: Global, out: &mut String, status: usize, count: u64) -> Res
 
 /// Adds the lines of all statuses, by how often each was answered.
 pub fn put_statuses(alloc: Global, out: &mut String, counts: &[u64]) -> Result<(), AllocError>
-    ensures { OnOk result (string_bytes out.new ≡ string_bytes out.old ++ spec.status_lines 0 counts.now) }
+    ensures { OnOk result
+        (string_bytes out.new ≡ string_bytes out.old ++ spec.status_lines 0 counts.now) }
 {
     for (status, count) in counts.iter().enumerate() {
         put_status(alloc, out, status, *count)?;
@@ -67,7 +72,8 @@ fn put_illegal(
     kept: &str,
     found: &str,
 ) -> Result<(), AllocError>
-    ensures { OnOk result (string_bytes out.new ≡ string_bytes out.old ++ spec.illegal_lines line kept.now found.now) }
+    ensures { OnOk result (string_bytes out.new
+        ≡ string_bytes out.old ++ spec.illegal_lines line kept.now found.now) }
 {
     put_number(alloc, out, "illegal line", line)?;
     put_text(alloc, out, "kept", kept)?;
@@ -77,7 +83,8 @@ fn put_illegal(
 
 /// Adds what is said of a journal.
 pub fn put_verdict(alloc: Global, out: &mut String, verdict: &Verdict) -> Result<(), AllocError>
-    ensures { OnOk result (string_bytes out.new ≡ string_bytes out.old ++ spec.verdict_lines verdict.now) }
+    ensures { OnOk result
+        (string_bytes out.new ≡ string_bytes out.old ++ spec.verdict_lines verdict.now) }
 {
     match verdict {
         Verdict::Legal { steps } => put_number(alloc, out, "legal", *steps),

@@ -15,7 +15,8 @@ pub fn report(
     containers: u64,
     verdict: &Verdict,
 ) -> Result<String, AllocError>
-    ensures { IfOk result (λ s. string_bytes s ≡ report_by requests counts.now events containers verdict.now) }
+    ensures { IfOk result
+        (λ s. string_bytes s ≡ report_by requests counts.now events containers verdict.now) }
 {
     let mut out = String::new(alloc);
     put_number(alloc, &mut out, "requests", u64::from(requests))?;

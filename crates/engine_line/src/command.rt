@@ -12,7 +12,8 @@ fn with_option<'a>(
     command: Command<'a>,
     name: &'a str,
 ) -> Result<Command<'a>, AllocError>
-    ensures { IfOk result (λ c. app_of c ≡ with_rule (app_of command.entry) (spec.valued name.now)) }
+    ensures { IfOk result
+        (λ c. app_of c ≡ with_rule (app_of command.entry) (spec.valued name.now)) }
 {
     command.arg(Arg::new(alloc, name).long(name).action(ArgAction::Set))
 }

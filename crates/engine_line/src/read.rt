@@ -19,7 +19,8 @@ use std::alloc::Global;
 /// What the words say, by option.
 fn matches_in<'a>(alloc: Global, words: &'a [&'a str]) -> Result<ArgMatches<'a>, Error>
     ensures fails { FailsBy (fault_in (map (λ w. w.now) words.entry.now)) result }
-    ensures matches { IfOk result (λ m. rows_of (found_of m) ≡ rows_in (map (λ w. w.now) words.entry.now)) }
+    ensures matches { IfOk result
+        (λ m. rows_of (found_of m) ≡ rows_in (map (λ w. w.now) words.entry.now)) }
 {
     line_command(alloc)?.try_get_matches_from(words)
 }

@@ -95,7 +95,8 @@ fn requests_in(word: &str) -> Option<u32>
 
 /// The work: exactly one of the three kinds.
 pub fn work_of(is_stdio: bool, listen: Option<&str>, drill: Option<&str>) -> Option<Work>
-    ensures { result ≡ spec.work_of is_stdio (option_map (λ w. w.now) listen.entry) (option_map (λ w. w.now) drill.entry) }
+    ensures { result ≡ spec.work_of is_stdio (option_map (λ w. w.now) listen.entry)
+        (option_map (λ w. w.now) drill.entry) }
 {
     match (is_stdio, listen, drill) {
         (true, None, None) => Some(Work::Stdio),

@@ -32,7 +32,8 @@ impl StepClock {
     /// A clock that begins at `start`, adds `step` at each reading, and from the pause numbered
     /// `stop_at` (from 0) on answers each pause by Stop.
     pub fn new(start: u64, step: u64, stop_at: Option<u64>) -> StepClock
-        ensures { result ≡ record { moment = start; step = step; stop_at = stop_at; pauses = 0; stops = 0 } }
+        ensures { result
+            ≡ record { moment = start; step = step; stop_at = stop_at; pauses = 0; stops = 0 } }
     {
         StepClock {
             moment: start,
@@ -55,7 +56,8 @@ impl Clock for StepClock {
     // The moment that is held, and then the next.
     fn now(&mut self) -> u64
         ensures held { result ≡ self.old.moment }
-        ensures step { self.new ≡ record self.old { moment = sum_at_most self.old.moment self.old.step } }
+        ensures step { self.new
+            ≡ record self.old { moment = sum_at_most self.old.moment self.old.step } }
     {
         let moment = self.moment;
         self.moment = moment.saturating_add(self.step);

@@ -43,7 +43,8 @@ pub trait Door {
 
     /// Takes the next connection.
     fn accept(&mut self) -> Arrival<Self::From, Self::Into, Self::Time>
-        ensures { AcceptSays (λ s k c. outside (Self.From.gives s) (Self.Into.takes k) (Self.Time.times c)) result (opens self.old) (opens self.new) };
+        ensures { AcceptSays (λ s k c. outside (Self.From.gives s) (Self.Into.takes k)
+            (Self.Time.times c)) result (opens self.old) (opens self.new) };
 
     /// Keeps what is left of a connection that came, under this number. It takes no memory.
     fn leave(&mut self, number: u32, past: Self::Past)

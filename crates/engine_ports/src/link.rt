@@ -20,5 +20,6 @@ pub trait Link {
     /// Ends a connection that was made. It takes no memory.
     fn leave(&mut self, from: Self::From, into: Self::Into)
         requires { 0 < (links self.old).owed }
-        ensures { Leaves (wire (Self.From.gives from) (Self.Into.takes into)) (links self.old) (links self.new) };
+        ensures { Leaves (wire (Self.From.gives from) (Self.Into.takes into))
+            (links self.old) (links self.new) };
 }

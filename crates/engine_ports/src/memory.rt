@@ -70,7 +70,15 @@ impl MemSource {
         failing: &[u64],
     ) -> Result<MemSource, NoMemory>
         requires { 0 < cut }
-        ensures { IfOk result (λ s. s ≡ record { left = bytes.now; cut = cut; failing = failing.now; reads = 0; faults = 0; ends = 0 }) }
+        ensures { IfOk result (λ s. s
+            ≡ record {
+              left = bytes.now;
+              cut = cut;
+              failing = failing.now;
+              reads = 0;
+              faults = 0;
+              ends = 0;
+            }) }
     {
         Ok(MemSource {
             bytes: bytes.to_vec(alloc)?,
@@ -142,7 +150,8 @@ impl MemSink {
     /// A sink whose writes numbered in `failing` (from 0) fail. Any other fails for want of memory
     /// alone, and takes nothing then.
     pub fn new(alloc: Global, failing: &[u64]) -> Result<MemSink, NoMemory>
-        ensures { IfOk result (λ s. s ≡ record { wrote = []; failing = failing.now; writes = 0; faults = 0; short = 0 }) }
+        ensures { IfOk result (λ s. s
+            ≡ record { wrote = []; failing = failing.now; writes = 0; faults = 0; short = 0 }) }
     {
         Ok(MemSink {
             bytes: Vec::new(alloc),

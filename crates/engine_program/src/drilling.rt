@@ -27,7 +27,8 @@ fn drill_by<R: Threads + Wait + Sync, C: Clock>(
     clock: &mut C,
 ) -> Result<Drilled, NoMemory>
     requires { drill.opening ≤ greatest_moment }
-    ensures { DrillsBy steps (spec.charter_by drill) drill.requests result (C.times clock.old) (C.times clock.new) }
+    ensures { DrillsBy steps (spec.charter_by drill) drill.requests result
+        (C.times clock.old) (C.times clock.new) }
 {
     match steps {
         Some((moment, step)) => {
@@ -69,7 +70,8 @@ pub fn run_line_drill<R: Threads + Wait + Sync, K: Sink, C: Clock>(
     clock: &mut C,
 ) -> u8
     requires { StartsWithin line }
-    ensures { RunsDrill line requests result (K.takes sink.old) (K.takes sink.new) (C.times clock.old) (C.times clock.new) }
+    ensures { RunsDrill line requests result (K.takes sink.old) (K.takes sink.new)
+        (C.times clock.old) (C.times clock.new) }
 {
     let opening = opening_by(line.clock, clock);
     let seed = line.seed;

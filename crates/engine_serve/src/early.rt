@@ -46,7 +46,8 @@ fn write_early<K: Sink>(sink: &mut K, terms: Terms) -> Result<(), Failed>
 
 /// Writes a body as one chunk, or as none where it is empty, and the last chunk.
 fn write_chunked<K: Sink>(sink: &mut K, body: &[u8]) -> Result<(), Failed>
-    ensures { WriteSays result (one_chunk body.now ++ last_chunk) (K.takes sink.old) (K.takes sink.new) }
+    ensures { WriteSays result (one_chunk body.now ++ last_chunk)
+        (K.takes sink.old) (K.takes sink.new) }
 {
     if body.is_empty() {
         return write_last(sink);
@@ -96,7 +97,8 @@ pub(crate) fn wait_early<W: Wait, T: Turns, K: Sink, C: Clock>(
     requires number { IsNumber (T.pass turns.old).number conn }
     requires pair { IsTrue (T.pass turns.old).pair }
     requires begun { HasBegun (T.pass turns.old).charter conn ticket (T.pass turns.old).seen }
-    ensures { WaitsEarly conn ticket terms result (T.pass turns.old) (T.pass turns.new) (K.takes sink.old) (K.takes sink.new) (C.times clock.old) (C.times clock.new) }
+    ensures { WaitsEarly conn ticket terms result (T.pass turns.old) (T.pass turns.new)
+        (K.takes sink.old) (K.takes sink.new) (C.times clock.old) (C.times clock.new) }
 {
     match write_early(sink, terms) {
         Ok(()) => {

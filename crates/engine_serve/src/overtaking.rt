@@ -57,7 +57,8 @@ pub(crate) fn open<T: Turns, K: Sink, C: Clock>(
     requires class { class_of (request_of request.now) ≡ Stream call.now (takeover upgrade) }
     requires sound { IsSound call.now }
     requires attaching { IsAttaching call.now }
-    ensures { TriesSo conn (request_of request.now) result (T.pass turns.old) (T.pass turns.new) (K.takes sink.old) (K.takes sink.new) (C.times clock.old) (C.times clock.new) }
+    ensures { TriesSo conn (request_of request.now) result (T.pass turns.old) (T.pass turns.new)
+        (K.takes sink.old) (K.takes sink.new) (C.times clock.old) (C.times clock.new) }
 {
     let terms = Terms::of(request);
     let handed = clock.now();
@@ -74,7 +75,8 @@ pub(crate) fn open<T: Turns, K: Sink, C: Clock>(
 
 /// Writes the head of a takeover. It takes no memory.
 fn write_takeover<K: Sink>(sink: &mut K, upgrade: bool) -> Result<(), Failed>
-    ensures { WriteSays result (takeover_head (takeover upgrade)) (K.takes sink.old) (K.takes sink.new) }
+    ensures { WriteSays result (takeover_head (takeover upgrade))
+        (K.takes sink.old) (K.takes sink.new) }
 {
     let head = Head {
         status: if upgrade { 101 } else { 200 },
@@ -101,8 +103,10 @@ pub(crate) fn overtake<R: Threads + Wait + Sync, T: Pairs, S: Source, K: Sink, C
     requires connection { IsConnection conn }
     requires number { IsNumber (T.pass turns.old).number conn }
     requires pair { IsTrue (T.pass turns.old).pair }
-    requires may { MayFollow (state_after (T.pass turns.old).charter (T.pass turns.old).seen) spec.now }
-    ensures { Overtakes conn upgrade spec.now result (T.pass turns.old) (T.pass turns.new) reader.old.ahead
+    requires may { MayFollow (state_after (T.pass turns.old).charter (T.pass turns.old).seen)
+        spec.now }
+    ensures { Overtakes conn upgrade spec.now result (T.pass turns.old) (T.pass turns.new)
+        reader.old.ahead
         (outside (S.gives source.old) (K.takes sink.old) (C.times clock.old))
         (outside (S.gives source.new) (K.takes sink.new) (C.times clock.new)) }
 {

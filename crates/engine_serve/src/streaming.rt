@@ -90,7 +90,8 @@ fn follow<W: Wait, T: Turns, K: Sink, C: Clock>(
     requires pair { IsTrue (T.pass turns.old).pair }
     requires may { CanFollow (T.pass turns.old).charter (T.pass turns.old).seen reply.now }
     ensures { Follows conn reply.now true result
-        (T.pass turns.old) (T.pass turns.new) (K.takes sink.old) (K.takes sink.new) (C.times clock.old) (C.times clock.new) }
+        (T.pass turns.old) (T.pass turns.new) (K.takes sink.old) (K.takes sink.new)
+        (C.times clock.old) (C.times clock.new) }
 {
     match reply {
         Reply::LogStream { spec } => follow_log(rt, turns, alloc, conn, spec, true, sink, clock),
@@ -125,7 +126,8 @@ fn send_stream<W: Wait, T: Turns, K: Sink, C: Clock>(
     requires form { chunked_form reply.now ≡ Some form }
     requires may { CanFollow (T.pass turns.old).charter (T.pass turns.old).seen reply.now }
     ensures { SendsStream conn terms reply.now result
-        (T.pass turns.old) (T.pass turns.new) (K.takes sink.old) (K.takes sink.new) (C.times clock.old) (C.times clock.new) }
+        (T.pass turns.old) (T.pass turns.new) (K.takes sink.old) (K.takes sink.new)
+        (C.times clock.old) (C.times clock.new) }
 {
     let head = Head {
         status: 200,
@@ -158,7 +160,8 @@ pub(crate) fn stream<W: Wait, T: Turns, K: Sink, C: Clock>(
     requires class { class_of (request_of request.now) ≡ Stream call.now takes.None }
     requires sound { IsSound call.now }
     requires streamed { IsStreamed call.now }
-    ensures { Tries conn (request_of request.now) result (T.pass turns.old) (T.pass turns.new) (K.takes sink.old) (K.takes sink.new) (C.times clock.old) (C.times clock.new) }
+    ensures { Tries conn (request_of request.now) result (T.pass turns.old) (T.pass turns.new)
+        (K.takes sink.old) (K.takes sink.new) (C.times clock.old) (C.times clock.new) }
 {
     let terms = Terms::of(request);
     let handed = clock.now();

@@ -22,7 +22,8 @@ fn say(
     line: u64,
 ) -> Result<Option<Verdict>, NoMemory>
     requires { HasLine entry.now }
-    ensures { IfOk result (λ said. IsLineSaid machine.old.memory.state line (journal_line entry.now) machine.new.memory.state said) }
+    ensures { IfOk result (λ said. IsLineSaid machine.old.memory.state line (journal_line entry.now)
+        machine.new.memory.state said) }
 {
     match check_entry(machine, alloc, entry)? {
         Said::Right => Ok(None),
@@ -38,7 +39,8 @@ fn say_once(
     line: u64,
 ) -> Result<Option<Verdict>, NoMemory>
     requires { HasLine entry }
-    ensures { IfOk result (λ said. IsLineSaid machine.old.memory.state line (journal_line entry) machine.new.memory.state said) }
+    ensures { IfOk result (λ said. IsLineSaid machine.old.memory.state line (journal_line entry)
+        machine.new.memory.state said) }
 {
     say(machine, alloc, &entry, line)
 }
@@ -51,7 +53,8 @@ fn check_line(
     line: u64,
 ) -> Result<Option<Verdict>, NoMemory>
     requires { IsFirstLine bytes.now }
-    ensures { IfOk result (λ said. IsLineSaid machine.old.memory.state line bytes.now machine.new.memory.state said) }
+    ensures { IfOk result (λ said. IsLineSaid machine.old.memory.state line bytes.now
+        machine.new.memory.state said) }
 {
     match read_line(alloc, bytes) {
         Ok(entry) => say_once(machine, alloc, entry, line),

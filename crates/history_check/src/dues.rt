@@ -68,7 +68,8 @@ pub fn spelled(alloc: Global, number: u64) -> Result<Text, NoMemory>
 
 /// Makes the due steps before an entry's call, or tells how many there should be.
 pub fn run_dues(machine: &mut Machine, alloc: Global, entry: &Entry) -> Result<Dues, NoMemory>
-    ensures { IfOk result (λ d. IsRun machine.old.memory.state entry.now machine.new.memory.state d) }
+    ensures { IfOk result
+        (λ d. IsRun machine.old.memory.state entry.now machine.new.memory.state d) }
 {
     let mut count = 0;
     let mut serves = is_timed(machine, entry.moment, &entry.call);

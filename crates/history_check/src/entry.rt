@@ -56,11 +56,14 @@ fn kept_reply(alloc: Global, entry: &Entry) -> Result<Text, NoMemory>
 
 // Makes an entry's call, and gives the text of the machine's reply.
 fn found_reply(machine: &mut Machine, alloc: Global, entry: &Entry) -> Result<Text, NoMemory>
-    requires { IsLawful machine.old.memory.state (steps.Step.Call entry.now.conn entry.now.moment entry.now.call) }
+    requires { IsLawful machine.old.memory.state
+        (steps.Step.Call entry.now.conn entry.now.moment entry.now.call) }
     ensures text { IfOk result (λ text. text ≡ compact_text
-        (reply_value entry.now.call (reply_of machine.old.memory.state entry.now.conn entry.now.moment entry.now.call))) }
+        (reply_value entry.now.call
+        (reply_of machine.old.memory.state entry.now.conn entry.now.moment entry.now.call))) }
     ensures made { OnOk result (machine.new.memory.state
-        ≡ after_step machine.old.memory.state (steps.Step.Call entry.now.conn entry.now.moment entry.now.call)) }
+        ≡ after_step machine.old.memory.state
+        (steps.Step.Call entry.now.conn entry.now.moment entry.now.call)) }
 {
     let reply = ask(machine, alloc, entry.conn, entry.moment, &entry.call)?;
     reply_text(alloc, &entry.call, &reply)
@@ -79,7 +82,8 @@ fn wrong(alloc: Global, entry: &Entry, found: &str) -> Result<Said, NoMemory>
 /// somewhere, and nothing more is made on it.
 pub fn check_entry(machine: &mut Machine, alloc: Global, entry: &Entry) -> Result<Said, NoMemory>
     requires { HasLine entry.now }
-    ensures { IfOk result (λ s. IsSaid machine.old.memory.state entry.now machine.new.memory.state s) }
+    ensures { IfOk result
+        (λ s. IsSaid machine.old.memory.state entry.now machine.new.memory.state s) }
 {
     if lacks_ticket(machine, entry.conn, &entry.call) {
         return wrong(alloc, entry, "no ticket");

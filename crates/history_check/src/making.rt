@@ -10,8 +10,10 @@ use std::alloc::Global;
 /// Makes the step that is due first.
 pub fn step_due(machine: &mut Machine, alloc: Global) -> Result<(), NoMemory>
     requires { IsLawful machine.old.memory.state steps.Step.Due }
-    ensures made { OnOk result (machine.new.memory.state ≡ after_step machine.old.memory.state steps.Step.Due) }
-    ensures counted { OnOk result (machine.new.memory.state.step_count ≡ machine.old.memory.state.step_count + 1) }
+    ensures made { OnOk result
+        (machine.new.memory.state ≡ after_step machine.old.memory.state steps.Step.Due) }
+    ensures counted { OnOk result
+        (machine.new.memory.state.step_count ≡ machine.old.memory.state.step_count + 1) }
     ensures stays { OnErr result (machine.new.memory.state ≡ machine.old.memory.state) }
 {
     let prepared = machine.prepare_due(alloc)?;
@@ -29,7 +31,8 @@ pub fn ask(
 ) -> Result<Reply, NoMemory>
     requires { IsLawful machine.old.memory.state (steps.Step.Call conn moment call.now) }
     ensures reply { IfOk result (λ r. r ≡ reply_of machine.old.memory.state conn moment call.now) }
-    ensures made { OnOk result (machine.new.memory.state ≡ after_step machine.old.memory.state (steps.Step.Call conn moment call.now)) }
+    ensures made { OnOk result (machine.new.memory.state
+        ≡ after_step machine.old.memory.state (steps.Step.Call conn moment call.now)) }
     ensures stays { OnErr result (machine.new.memory.state ≡ machine.old.memory.state) }
 {
     let prepared = machine.prepare(alloc, conn, moment, call)?;

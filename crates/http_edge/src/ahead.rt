@@ -86,7 +86,8 @@ impl Ahead {
     /// Reads on behind the bytes that stand here, where there is room for more.
     pub fn read<S: Source>(&mut self, source: &mut S) -> Got
         requires { length self.old < head_limit }
-        ensures reads { ReadsMore result self.old self.new (S.gives source.old) (S.gives source.new) }
+        ensures reads { ReadsMore result self.old self.new
+            (S.gives source.old) (S.gives source.new) }
         ensures within { length self.new ≤ head_limit }
     {
         let len = make_place(&mut self.bytes, self.used, self.len);
@@ -106,7 +107,8 @@ fn widen(bytes: &mut Vec<u8>)
     requires room { head_limit ≤ vec_capacity bytes.old }
     ensures room { head_limit ≤ vec_capacity bytes.new }
     ensures whole { length bytes.new.items ≡ head_limit }
-    ensures before { (n : ℕ) → n ≤ length bytes.old.items → take n bytes.new.items ≡ take n bytes.old.items }
+    ensures before { (n : ℕ) → n ≤ length bytes.old.items
+        → take n bytes.new.items ≡ take n bytes.old.items }
 {
     let Ok(()) = bytes.resize(HEAD_LIMIT, 0) else {
         unreachable!()

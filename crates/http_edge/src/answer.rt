@@ -10,7 +10,8 @@ use engine_ports::{Failed, Sink};
 /// Writes a head and its body: at once where they have at most 4,096 bytes, and else one after the
 /// other. It takes no memory.
 pub fn write_answer<K: Sink>(sink: &mut K, head: &Head, body: &[u8]) -> Result<(), Failed>
-    ensures { WriteSays result (head_text head.now ++ body.now) (K.takes sink.old) (K.takes sink.new) }
+    ensures { WriteSays result (head_text head.now ++ body.now)
+        (K.takes sink.old) (K.takes sink.new) }
 {
     let mut line = head_line(head);
     if body.len() <= LINE_ROOM - line.len() {

@@ -32,7 +32,8 @@ pub(crate) fn read_body<S: Source>(
     requires fits { IsWithinLimit framing }
     requires room { body_limit ≤ vec_capacity body.old }
     ensures room { body_limit ≤ vec_capacity body.new }
-    ensures says { BodySays framing result ahead.old ahead.new body.new.items (S.gives source.old) (S.gives source.new) }
+    ensures says { BodySays framing result ahead.old ahead.new body.new.items
+        (S.gives source.old) (S.gives source.new) }
 {
     match framing {
         Framing::Length(size) => read_sized(source, ahead, body, size),
@@ -51,7 +52,8 @@ fn read_sized<S: Source>(
     requires fits { size ≤ body_limit }
     requires room { body_limit ≤ vec_capacity body.old }
     ensures room { body_limit ≤ vec_capacity body.new }
-    ensures says { BodySays (Length size) result ahead.old ahead.new body.new.items (S.gives source.old) (S.gives source.new) }
+    ensures says { BodySays (Length size) result ahead.old ahead.new body.new.items
+        (S.gives source.old) (S.gives source.new) }
 {
     let Ok(()) = body.resize(size, 0) else {
         unreachable!()

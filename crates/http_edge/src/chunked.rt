@@ -34,7 +34,8 @@ pub(crate) fn read_chunked<S: Source>(
 ) -> BodyRead
     requires room { body_limit ≤ vec_capacity body.old }
     ensures room { body_limit ≤ vec_capacity body.new }
-    ensures says { BodySays Chunked result ahead.old ahead.new body.new.items (S.gives source.old) (S.gives source.new) }
+    ensures says { BodySays Chunked result ahead.old ahead.new body.new.items
+        (S.gives source.old) (S.gives source.new) }
 {
     body.clear();
     let mut count = 0;
@@ -54,7 +55,8 @@ fn read_chunk<S: Source>(source: &mut S, ahead: &mut Ahead, body: &mut Vec<u8>) 
     requires fits { length body.old.items ≤ body_limit }
     requires room { body_limit ≤ vec_capacity body.old }
     ensures room { body_limit ≤ vec_capacity body.new }
-    ensures says { ChunkSays result ahead.old ahead.new body.old.items body.new.items (S.gives source.old) (S.gives source.new) }
+    ensures says { ChunkSays result ahead.old ahead.new body.old.items body.new.items
+        (S.gives source.old) (S.gives source.new) }
 {
     match read_part(source, ahead, Part::Line) {
         PartRead::Whole(size, count) => read_sized(source, ahead, body, size, count),
@@ -76,7 +78,8 @@ fn read_sized<S: Source>(
     requires short { count ≤ line_limit }
     requires room { body_limit ≤ vec_capacity body.old }
     ensures room { body_limit ≤ vec_capacity body.new }
-    ensures says { BehindLine result size count ahead.old ahead.new body.old.items body.new.items (S.gives source.old) (S.gives source.new) }
+    ensures says { BehindLine result size count ahead.old ahead.new body.old.items body.new.items
+        (S.gives source.old) (S.gives source.new) }
 {
     if size == 0 {
         return read_last(source, ahead, count);
@@ -90,7 +93,8 @@ fn read_sized<S: Source>(
 /// Reads the trailers behind a line that tells no bytes, and has so many.
 fn read_last<S: Source>(source: &mut S, ahead: &mut Ahead, count: usize) -> ChunkRead
     requires short { count ≤ line_limit }
-    ensures { (body : List ℕ) → BehindLine result 0 count ahead.old ahead.new body body (S.gives source.old) (S.gives source.new) }
+    ensures { (body : List ℕ) → BehindLine result 0 count ahead.old ahead.new body body
+        (S.gives source.old) (S.gives source.new) }
 {
     match read_part(source, ahead, Part::Trailers) {
         PartRead::Whole(_, more) => ChunkRead::Last(count + more),
@@ -113,7 +117,8 @@ fn read_piece<S: Source>(
     requires short { count ≤ line_limit }
     requires room { body_limit ≤ vec_capacity body.old }
     ensures room { body_limit ≤ vec_capacity body.new }
-    ensures says { BehindLine result size count ahead.old ahead.new body.old.items body.new.items (S.gives source.old) (S.gives source.new) }
+    ensures says { BehindLine result size count ahead.old ahead.new body.old.items body.new.items
+        (S.gives source.old) (S.gives source.new) }
 {
     match grow(source, ahead, body, size) {
         Filled::Whole => {}
@@ -133,7 +138,8 @@ fn grow<S: Source>(source: &mut S, ahead: &mut Ahead, body: &mut Vec<u8>, size: 
     requires fits { length body.old.items + size ≤ body_limit }
     requires room { body_limit ≤ vec_capacity body.old }
     ensures room { body_limit ≤ vec_capacity body.new }
-    ensures says { GrowSays result size ahead.old ahead.new body.old.items body.new.items (S.gives source.old) (S.gives source.new) }
+    ensures says { GrowSays result size ahead.old ahead.new body.old.items body.new.items
+        (S.gives source.old) (S.gives source.new) }
 {
     let start = body.len();
     let Ok(()) = body.resize(start + size, 0) else {
@@ -151,7 +157,8 @@ fn fill_behind<S: Source>(
 ) -> Filled
     requires { start ≤ length buffer.old }
     ensures front { take start buffer.new ≡ take start buffer.old }
-    ensures says { FillSays result ahead.old ahead.new (drop start buffer.new) (S.gives source.old) (S.gives source.new) }
+    ensures says { FillSays result ahead.old ahead.new (drop start buffer.new)
+        (S.gives source.old) (S.gives source.new) }
 {
     fill(source, ahead, &mut buffer[start..])
 }

@@ -17,7 +17,8 @@ pub(crate) enum Occurrences<'b> {
 impl<'b> Occurrences<'b> {
     /// With one value more.
     fn with(self, value: &'b [u8]) -> Occurrences<'b>
-        ensures { (values : List (List ℕ)) → Counts self.entry values → Counts result (values ++ value.now ∷ []) }
+        ensures { (values : List (List ℕ)) → Counts self.entry values
+            → Counts result (values ++ value.now ∷ []) }
     {
         match self {
             Occurrences::None => Occurrences::One(value),

@@ -19,7 +19,8 @@ pub(crate) fn shift(buffer: &mut [u8], used: usize, len: usize) -> usize
 /// Reads on behind the first `len` bytes of the buffer.
 pub(crate) fn read_behind<S: Source>(source: &mut S, buffer: &mut [u8], len: usize) -> Got
     requires { len < length buffer.old }
-    ensures reads { ReadsBehind result buffer.old buffer.new len (S.gives source.old) (S.gives source.new) }
+    ensures reads { ReadsBehind result buffer.old buffer.new len
+        (S.gives source.old) (S.gives source.new) }
     ensures before { take len buffer.new ≡ take len buffer.old }
 {
     source.read(&mut buffer[len..])
@@ -37,8 +38,10 @@ pub(crate) enum Filled {
 fn fill_on<S: Source>(source: &mut S, buffer: &mut [u8], start: usize) -> (Filled, usize)
     requires within { start ≤ length buffer.old }
     ensures len { result.1 ≤ length buffer.new }
-    ensures fills { Fills (take start buffer.old) (take result.1 buffer.new) (S.gives source.old) (S.gives source.new) }
-    ensures facts { FillFacts result.0 result.1 (length buffer.new) (S.gives source.old) (S.gives source.new) }
+    ensures fills { Fills (take start buffer.old) (take result.1 buffer.new)
+        (S.gives source.old) (S.gives source.new) }
+    ensures facts { FillFacts result.0 result.1 (length buffer.new)
+        (S.gives source.old) (S.gives source.new) }
 {
     let mut len = start;
     'more: loop {
@@ -55,7 +58,8 @@ fn fill_on<S: Source>(source: &mut S, buffer: &mut [u8], start: usize) -> (Fille
 
 /// Fills the place: first with what was read ahead, and then from the source.
 pub(crate) fn fill<S: Source>(source: &mut S, ahead: &mut Ahead, place: &mut [u8]) -> Filled
-    ensures { FillSays result ahead.old ahead.new place.new (S.gives source.old) (S.gives source.new) }
+    ensures { FillSays result ahead.old ahead.new place.new
+        (S.gives source.old) (S.gives source.new) }
 {
     let start = ahead.take(place);
     let (filled, _) = fill_on(source, place, start);

@@ -49,7 +49,8 @@ pub(crate) fn frame_head(bytes: &[u8], minor: u8, fields: &[HeaderSpan]) -> Fram
 
 /// The framing by the values of Transfer-Encoding and Content-Length.
 fn body_framing(codings: Occurrences<'_>, lengths: Occurrences<'_>) -> Framing
-    ensures framing { (cs ls : List (List ℕ)) → Counts codings.entry cs → Counts lengths.entry ls → result ≡ body_framing cs ls }
+    ensures framing { (cs ls : List (List ℕ)) → Counts codings.entry cs → Counts lengths.entry ls
+        → result ≡ body_framing cs ls }
     ensures fits { IsWithinLimit result }
 {
     match (codings, lengths) {

@@ -86,7 +86,8 @@ pub(crate) fn read_head<S: Source>(
     ensures room { field_places ≤ vec_capacity spans.new }
     ensures within { length ahead.new ≤ head_limit }
     ensures fills { Fills ahead.old ahead.new (S.gives source.old) (S.gives source.new) }
-    ensures facts { HeadFacts result ahead.new spans.new.items (S.gives source.old) (S.gives source.new) }
+    ensures facts { HeadFacts result ahead.new spans.new.items
+        (S.gives source.old) (S.gives source.new) }
 {
     'more: loop {
         let len = ahead.len();

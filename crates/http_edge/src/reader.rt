@@ -73,7 +73,8 @@ impl RequestReader {
     /// Reads the next request. It takes no memory, and reads no more once the input was refused, ended
     /// inside a request, or failed. A head that comes in pieces is parsed again after each piece.
     pub fn next<S: Source>(&mut self, source: &mut S) -> Next<'_>
-        ensures* says { sem 𝓛 (RestsAfter self.entry result (S.gives source.old) (S.gives source.new)) }
+        ensures* says { sem 𝓛
+            (RestsAfter self.entry result (S.gives source.old) (S.gives source.new)) }
     {
         match self.stopped {
             Some(Stopped::Bad { status, at }) => return Next::Bad { status, at },
@@ -115,7 +116,8 @@ impl RequestReader {
     /// first what was read ahead, and then from the source. It takes no memory.
     pub fn take_rest<S: Source>(&mut self, source: &mut S, into: &mut [u8]) -> Got
         requires { 0 < length into.old }
-        ensures { RestSays result into.new self.old self.new (S.gives source.old) (S.gives source.new) }
+        ensures { RestSays result into.new self.old self.new
+            (S.gives source.old) (S.gives source.new) }
     {
         if self.ahead.len() == 0 {
             return source.read(into);

@@ -52,7 +52,8 @@ pub struct RequestView<'r> {
     pub(crate) found: RequestSpans,
     pub(crate) coded: usize,
     ghost len_fits: { found.len ≤ length buffers.now.head.items },
-    ghost shown: { ∥ IsShown (take found.len buffers.now.head.items) buffers.now.spans.items found ∥₁ },
+    ghost shown: { ∥ IsShown (take found.len buffers.now.head.items) buffers.now.spans.items found
+        ∥₁ },
 }
 
 impl<'r> RequestView<'r> {

@@ -49,7 +49,8 @@ impl Containers {
 
     /// That is noted in the container's life.
     pub fn renew(&mut self, number: u64, noted: Mark)
-        ensures containers { self.new.containers ≡ with_life number (marked noted) self.old.containers }
+        ensures containers { self.new.containers
+            ≡ with_life number (marked noted) self.old.containers }
         ensures timers { self.new.timers ≡ self.old.timers }
         ensures room { self.new.room ≡ self.old.room }
     {
@@ -190,7 +191,8 @@ impl Containers {
 
     /// The container that has the name.
     pub fn holder(&self, name: &str) -> Option<&Held>
-        ensures { option_map container_in (option_copied result) ≡ holder name.now self.now.containers }
+        ensures { option_map container_in (option_copied result)
+            ≡ holder name.now self.now.containers }
     {
         self.table.find_name(name)
     }

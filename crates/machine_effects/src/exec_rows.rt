@@ -35,7 +35,8 @@ pub fn has_exec(execs: &[Exec], number: u64) -> bool
 
 /// The exec has ended with that code.
 pub fn end_row(execs: &mut Vec<Exec>, number: u64, code: u8)
-    ensures { execs.new.items ≡ update_first (λ x. x.number == number) (exec_ended code) execs.old.items }
+    ensures { execs.new.items ≡ update_first (λ x. x.number == number) (exec_ended code)
+        execs.old.items }
 {
     if let Some(i) = exec_at(execs.as_slice(), number) {
         let x = &mut execs[i];
@@ -53,7 +54,8 @@ fn is_running(x: &Exec, number: u64, kernel: &Kernel) -> bool
 /// Lists the numbers of the container's running execs.
 pub fn list_running(execs: &[Exec], kernel: &Kernel, number: u64, into: &mut Vec<u64>)
     requires { length execs.now ≤ vec_capacity into.old }
-    ensures items { into.new.items ≡ map (λ x. x.number) (filter (is_running number kernel.now.processes) execs.now) }
+    ensures items { into.new.items ≡ map (λ x. x.number)
+        (filter (is_running number kernel.now.processes) execs.now) }
     ensures capacity { vec_capacity into.new ≡ vec_capacity into.old }
 {
     into.clear();
@@ -66,7 +68,8 @@ pub fn list_running(execs: &[Exec], kernel: &Kernel, number: u64, into: &mut Vec
 
 /// The numbers of the container's execs.
 pub fn numbers_of(execs: &[Exec], alloc: Global, number: u64) -> Result<Numbers, NoMemory>
-    ensures { IfOk result (λ l. l ≡ map (λ x. x.number) (filter (λ x. x.container == number) execs.now)) }
+    ensures { IfOk result
+        (λ l. l ≡ map (λ x. x.number) (filter (λ x. x.container == number) execs.now)) }
 {
     let mut numbers = Numbers::new(alloc);
     for x in execs {

@@ -8,7 +8,8 @@ use super::execs::Execs;
 use engine_text::Exec;
 
 fn start_row(execs: &mut Vec<Exec>, number: u64, pid: u64)
-    ensures { execs.new.items ≡ update_first (λ x. x.number == number) (started_as pid) execs.old.items }
+    ensures { execs.new.items ≡ update_first (λ x. x.number == number) (started_as pid)
+        execs.old.items }
 {
     if let Some(i) = exec_at(execs.as_slice(), number) {
         let x = &mut execs[i];

@@ -32,7 +32,8 @@ pub fn tell_mounts(
     moment: u64,
     out: &mut Vec<Event>,
 ) -> Result<(), NoMemory>
-    ensures { OnOk result (out.new.items ≡ out.old.items ++ told_mounts action (container_in h.now) moment) }
+    ensures { OnOk result
+        (out.new.items ≡ out.old.items ++ told_mounts action (container_in h.now) moment) }
 {
     let mounts = h.container.life.mounts.as_slice();
     for m in mounts {
@@ -49,7 +50,8 @@ pub fn tell_launch(
     moment: u64,
     out: &mut Vec<Event>,
 ) -> Result<(), NoMemory>
-    ensures { OnOk result (out.new.items ≡ out.old.items ++ told_launch script.now (container_in h.now) moment) }
+    ensures { OnOk result
+        (out.new.items ≡ out.old.items ++ told_launch script.now (container_in h.now) moment) }
 {
     match script {
         None => Ok(()),
@@ -68,7 +70,8 @@ pub fn tell_restart(
     moment: u64,
     out: &mut Vec<Event>,
 ) -> Result<(), NoMemory>
-    ensures { OnOk result (out.new.items ≡ out.old.items ++ told_goal goals.Goal.Restart script.now (container_in h.now) moment) }
+    ensures { OnOk result (out.new.items
+        ≡ out.old.items ++ told_goal goals.Goal.Restart script.now (container_in h.now) moment) }
 {
     let event = plain_event(alloc, Action::Stop, &h.container, moment)?;
     add(out, event)?;
@@ -84,7 +87,9 @@ fn tell_goal(
     moment: u64,
     out: &mut Vec<Event>,
 ) -> Result<(), NoMemory>
-    ensures { OnOk result (out.new.items ≡ out.old.items ++ told_goal h.now.container.life.goal script.now (container_in h.now) moment) }
+    ensures { OnOk result (out.new.items
+        ≡ out.old.items ++ told_goal h.now.container.life.goal script.now (container_in h.now)
+        moment) }
 {
     match h.container.life.goal {
         Goal::Remove => {
@@ -107,7 +112,9 @@ pub fn tell_status(
     moment: u64,
     out: &mut Vec<Event>,
 ) -> Result<(), NoMemory>
-    ensures { OnOk result (out.new.items ≡ out.old.items ++ told_status h.now.container.life.status script.now (container_in h.now) moment) }
+    ensures { OnOk result (out.new.items
+        ≡ out.old.items ++ told_status h.now.container.life.status script.now (container_in h.now)
+        moment) }
 {
     match h.container.life.status {
         Status::Dead => Ok(()),
@@ -129,7 +136,8 @@ impl Tables {
         moment: u64,
         out: &mut Vec<Event>,
     ) -> Result<(), NoMemory>
-        ensures { OnOk result (out.new.items ≡ out.old.items ++ told_number (at_moment moment self.now.state) number) }
+        ensures { OnOk result (out.new.items
+            ≡ out.old.items ++ told_number (at_moment moment self.now.state) number) }
     {
         let Some(x) = self.exec(number) else {
             return Ok(());
@@ -149,7 +157,8 @@ impl Tables {
         moment: u64,
         out: &mut Vec<Event>,
     ) -> Result<(), NoMemory>
-        ensures { OnOk result (out.new.items ≡ out.old.items ++ told_execs number (at_moment moment self.now.state)) }
+        ensures { OnOk result (out.new.items
+            ≡ out.old.items ++ told_execs number (at_moment moment self.now.state)) }
     {
         let running = self.running(alloc, number)?;
         self.tell_numbers(alloc, running.as_slice(), moment, out)
@@ -183,7 +192,8 @@ impl Tables {
         out: &mut Vec<Event>,
     ) -> Result<(), NoMemory>
         ensures { OnOk result (out.new.items ≡ out.old.items
-            ++ told_end code h.now.container.number (container_in h.now) script.now (at_moment moment self.now.state)) }
+            ++ told_end code h.now.container.number (container_in h.now) script.now
+            (at_moment moment self.now.state)) }
     {
         self.tell_execs(alloc, h.container.number, moment, out)?;
         let event = die_event(alloc, code, &h.container, moment)?;
@@ -203,7 +213,8 @@ impl Tables {
         out: &mut Vec<Event>,
     ) -> Result<(), NoMemory>
         ensures { OnOk result (out.new.items ≡ out.old.items
-            ++ told_code code h.now.container.number (container_in h.now) script.now (at_moment moment self.now.state)) }
+            ++ told_code code h.now.container.number (container_in h.now) script.now
+            (at_moment moment self.now.state)) }
     {
         match code {
             None => Ok(()),

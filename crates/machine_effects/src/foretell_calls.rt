@@ -44,7 +44,8 @@ impl Tables {
 
     /// The code with which the next op of the owner's process ends it, if it does.
     pub fn due_code(&self, owner: Owner) -> Option<u8>
-        ensures { (t : ℕ) → result ≡ code_at (run_due t) (process_of owner self.now.state.processes) }
+        ensures { (t : ℕ) → result ≡ code_at (run_due t)
+            (process_of owner self.now.state.processes) }
     {
         self.kernel.due_code(owner)
     }
@@ -60,7 +61,8 @@ impl Tables {
         out: &mut Vec<Event>,
     ) -> Result<(), NoMemory>
         ensures { OnOk result (out.new.items ≡ out.old.items
-            ++ told_unpause code (container_in h.now) script.now (at_moment moment self.now.state)) }
+            ++ told_unpause code (container_in h.now) script.now
+            (at_moment moment self.now.state)) }
     {
         self.tell_woken(alloc, code, h, script, moment, out)
     }

@@ -65,7 +65,8 @@ fn tell_aimed_status(
     out: &mut Vec<Event>,
 ) -> Result<(), NoMemory>
     ensures { OnOk result (out.new.items ≡ out.old.items
-        ++ told_status h.now.container.life.status script.now (aimed goal (container_in h.now)) moment) }
+        ++ told_status h.now.container.life.status script.now (aimed goal (container_in h.now))
+        moment) }
 {
     match h.container.life.status {
         Status::Dead => Ok(()),
@@ -114,7 +115,8 @@ impl Tables {
         out: &mut Vec<Event>,
     ) -> Result<(), NoMemory>
         ensures { OnOk result (out.new.items ≡ out.old.items
-            ++ told_end_with (running_numbers h.now.container.number (at_moment moment self.now.state))
+            ++ told_end_with
+            (running_numbers h.now.container.number (at_moment moment self.now.state))
             code (aimed goal (container_in h.now)) script.now (at_moment moment self.now.state)) }
     {
         let running = self.running(alloc, h.container.number)?;
@@ -163,7 +165,8 @@ impl Tables {
         out: &mut Vec<Event>,
     ) -> Result<(), NoMemory>
         ensures { OnOk result (out.new.items ≡ out.old.items
-            ++ told_end_with (running_after h.now.container.number (at_moment moment self.now.state))
+            ++ told_end_with
+            (running_after h.now.container.number (at_moment moment self.now.state))
             code (aimed goal (container_in h.now)) script.now (at_moment moment self.now.state)) }
     {
         let after = self.running_after(alloc, h.container.number, moment)?;
@@ -182,8 +185,10 @@ impl Tables {
         out: &mut Vec<Event>,
     ) -> Result<(), NoMemory>
         ensures { OnOk result (out.new.items ≡ out.old.items
-            ++ (told_wake h.now.container.number (container_in h.now) (at_moment moment self.now.state)
-            ++ told_code_with (running_after h.now.container.number (at_moment moment self.now.state))
+            ++ (told_wake h.now.container.number (container_in h.now)
+            (at_moment moment self.now.state)
+            ++ told_code_with
+            (running_after h.now.container.number (at_moment moment self.now.state))
             code (aimed goal (container_in h.now)) script.now (at_moment moment self.now.state))) }
     {
         self.tell_wake(alloc, h, moment, out)?;

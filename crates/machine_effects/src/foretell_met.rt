@@ -75,7 +75,8 @@ impl Tables {
         out: &mut Vec<Event>,
     ) -> Result<(), NoMemory>
         ensures { OnOk result (out.new.items ≡ out.old.items
-            ++ told_wake h.now.container.number (container_in h.now) (at_moment moment self.now.state)) }
+            ++ told_wake h.now.container.number (container_in h.now)
+            (at_moment moment self.now.state)) }
     {
         let event = plain_event(alloc, Action::Unpause, &h.container, moment)?;
         add(out, event)?;
@@ -109,7 +110,8 @@ impl Tables {
         number: u64,
         moment: u64,
     ) -> Result<Vec<u64>, NoMemory>
-        ensures { IfOk result (λ v. v.items ≡ running_after number (at_moment moment self.now.state)) }
+        ensures { IfOk result
+            (λ v. v.items ≡ running_after number (at_moment moment self.now.state)) }
     {
         let running = self.running(alloc, number)?;
         let numbers = running.as_slice();
@@ -155,7 +157,8 @@ impl Tables {
         out: &mut Vec<Event>,
     ) -> Result<(), NoMemory>
         ensures { OnOk result (out.new.items ≡ out.old.items
-            ++ told_end_with (running_after h.now.container.number (at_moment moment self.now.state))
+            ++ told_end_with
+            (running_after h.now.container.number (at_moment moment self.now.state))
             code (container_in h.now) script.now (at_moment moment self.now.state)) }
     {
         let after = self.running_after(alloc, h.container.number, moment)?;
@@ -173,8 +176,10 @@ impl Tables {
         out: &mut Vec<Event>,
     ) -> Result<(), NoMemory>
         ensures { OnOk result (out.new.items ≡ out.old.items
-            ++ (told_wake h.now.container.number (container_in h.now) (at_moment moment self.now.state)
-            ++ told_code_with (running_after h.now.container.number (at_moment moment self.now.state))
+            ++ (told_wake h.now.container.number (container_in h.now)
+            (at_moment moment self.now.state)
+            ++ told_code_with
+            (running_after h.now.container.number (at_moment moment self.now.state))
             code (container_in h.now) script.now (at_moment moment self.now.state))) }
     {
         self.tell_wake(alloc, h, moment, out)?;
@@ -195,7 +200,8 @@ impl Tables {
         out: &mut Vec<Event>,
     ) -> Result<(), NoMemory>
         ensures { OnOk result (out.new.items ≡ out.old.items
-            ++ told_meet h.now.container.life.status code h.now.container.number (container_in h.now)
+            ++ told_meet h.now.container.life.status code h.now.container.number
+            (container_in h.now)
             script.now (at_moment moment self.now.state)) }
     {
         match h.container.life.status {

@@ -110,7 +110,8 @@ impl Removals {
 impl Tables {
     /// The output of the exec with that number, lent.
     pub fn output_of(&self, number: u64) -> Option<&[LogRecord]>
-        ensures { option_copied result ≡ log_among (owners.Owner.Exec number) self.now.state.outputs }
+        ensures { option_copied result ≡ log_among (owners.Owner.Exec number)
+            self.now.state.outputs }
     {
         self.outputs.output_of(number)
     }

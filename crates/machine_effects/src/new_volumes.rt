@@ -34,7 +34,8 @@ fn is_among(made: &[Volume], name: &str) -> bool
 // Whether the volume of that name is made, or stands.
 fn is_known(volumes: &Volumes, made: &[Volume], name: &str) -> bool
     ensures { result
-        ≡ (list_any (λ v. same_bytes v.name name.now) made.now || stands volumes.now.volumes name.now) }
+        ≡ (list_any (λ v. same_bytes v.name name.now) made.now
+        || stands volumes.now.volumes name.now) }
 {
     is_among(made, name) || stands(volumes, name)
 }
@@ -99,12 +100,14 @@ pub fn make_volumes(volumes: &mut Volumes, mut made: Vec<Volume>)
 
 /// The container refers to the volumes of these mounts, which stand; there was room for it.
 pub fn refer_to(volumes: &mut Volumes, mounts: &[Mount], number: u64)
-    requires stand { AllByRecursion (λ m. IsTrue (is_there (find (λ v. same_bytes v.name m.volume) volumes.old.volumes)))
+    requires stand { AllByRecursion
+        (λ m. IsTrue (is_there (find (λ v. same_bytes v.name m.volume) volumes.old.volumes)))
         mounts.now }
     requires room { length volumes.old.uses + length mounts.now ≤ volumes.old.use_room }
     ensures volumes { volumes.new.volumes ≡ volumes.old.volumes }
     ensures uses { volumes.new.uses
-        ≡ volumes.old.uses ++ map (λ m. record { volume = m.volume; container = number }) mounts.now }
+        ≡ volumes.old.uses ++ map (λ m. record { volume = m.volume; container = number })
+        mounts.now }
 {
     for m in mounts {
         volumes.refer(m.volume.as_str(), number);

@@ -70,7 +70,8 @@ fn sift(held: &mut Vec<HeldOutput>, execs: &Execs, number: u64, into: &mut Vec<O
     ensures held { outputs_in held.new.items
         ≡ filter (λ o. not (is_output_of number execs.now.execs o)) (outputs_in held.old.items) }
     ensures into { into.new.items
-        ≡ into.old.items ++ filter (is_output_of number execs.now.execs) (outputs_in held.old.items) }
+        ≡ into.old.items ++ filter (is_output_of number execs.now.execs)
+        (outputs_in held.old.items) }
 {
     let mut i = 0;
     while i < held.len() {

@@ -56,7 +56,8 @@ pub fn code_of(death: Option<Death>, code: u8) -> u8
 
 /// Ready with that, where it holds.
 pub fn ready_if(holds: bool, ready: Ready) -> Option<Ready>
-    ensures { (seed : List ℕ) (n : ℕ) → replies_in seed n result ≡ reply_if holds (reply_in seed n ready) }
+    ensures { (seed : List ℕ) (n : ℕ) → replies_in seed n result ≡ reply_if holds
+        (reply_in seed n ready) }
 {
     if holds { Some(ready) } else { None }
 }

@@ -144,7 +144,8 @@ impl Tables {
 
     /// The container with that number.
     pub fn numbered(&self, number: u64) -> Option<&Held>
-        ensures { option_map container_in (option_copied result) ≡ container_numbered number self.now.state }
+        ensures { option_map container_in (option_copied result)
+            ≡ container_numbered number self.now.state }
     {
         self.containers.numbered(number)
     }
@@ -172,7 +173,8 @@ impl Tables {
 
     /// The numbers of the container's running execs.
     pub fn running(&self, alloc: Global, number: u64) -> Result<Vec<u64>, NoMemory>
-        ensures { IfOk result (λ v. v.items ≡ map (λ x. x.number) (running_execs number self.now.state)) }
+        ensures { IfOk result
+            (λ v. v.items ≡ map (λ x. x.number) (running_execs number self.now.state)) }
     {
         let mut numbers = Vec::new(alloc);
         if numbers.reserve(self.execs.len()).is_err() {
@@ -214,7 +216,8 @@ impl Tables {
         ensures state { self.new.state ≡ self.old.state }
         ensures room { self.new.room ≡ self.old.room }
         ensures spare { self.new.spare ≡ self.old.spare }
-        ensures scratch { self.new.scratch ≡ map (λ x. x.number) (running_execs number self.old.state) }
+        ensures scratch { self.new.scratch
+            ≡ map (λ x. x.number) (running_execs number self.old.state) }
     {
         self.execs
             .list_running(&self.kernel, number, &mut self.scratch);
@@ -237,7 +240,8 @@ impl Tables {
     pub fn thaw_process(&mut self, owner: Owner) -> Effect
         requires { AreTimely self.old.state }
         ensures state { self.new.state ≡ stepped thaw owner self.old.state }
-        ensures effect { result ≡ effect_of (thaw self.old.state.clock) (process_of owner self.old.state.processes) }
+        ensures effect { result ≡ effect_of (thaw self.old.state.clock)
+            (process_of owner self.old.state.processes) }
         ensures room { self.new.room ≡ self.old.room }
         ensures spare { self.new.spare ≡ self.old.spare }
         ensures scratch { self.new.scratch ≡ self.old.scratch }
@@ -251,7 +255,8 @@ impl Tables {
         requires signal { sent.number < 32 }
         ensures state { self.new.state ≡ stepped (signal sent.number thaws) owner self.old.state }
         ensures effect { result
-            ≡ effect_of (signal sent.number thaws self.old.state.clock) (process_of owner self.old.state.processes) }
+            ≡ effect_of (signal sent.number thaws self.old.state.clock)
+            (process_of owner self.old.state.processes) }
         ensures room { self.new.room ≡ self.old.room }
         ensures spare { self.new.spare ≡ self.old.spare }
     {
@@ -260,12 +265,14 @@ impl Tables {
 
     /// The next op of the owner's process takes effect.
     pub fn run_process(&mut self, owner: Owner) -> Effect
-        requires due { due_at (process_of owner self.old.state.processes) ≡ Some self.old.state.clock }
+        requires due { due_at (process_of owner self.old.state.processes)
+            ≡ Some self.old.state.clock }
         requires spare { 0 < self.old.spare }
         requires clock { self.old.state.clock ≤ 9000000000000 }
         requires length { length_at (process_of owner self.old.state.processes) ≤ self.old.bytes }
         ensures state { self.new.state ≡ stepped run_due owner self.old.state }
-        ensures effect { result ≡ effect_of (run_due self.old.state.clock) (process_of owner self.old.state.processes) }
+        ensures effect { result ≡ effect_of (run_due self.old.state.clock)
+            (process_of owner self.old.state.processes) }
         ensures room { self.new.room ≡ self.old.room }
         ensures spare { self.new.spare + 1 ≡ self.old.spare }
         ensures logs { self.new.logs ≡ self.old.logs }
@@ -334,7 +341,8 @@ impl Tables {
         requires steps { self.old.state.step_count < 2 ^ 60 }
         requires calls { self.old.state.call_count + calls < 2 ^ 63 }
         requires events { self.old.state.event_count + length events.now < 2 ^ 64 }
-        requires moments { min 65536 (length self.old.state.event_moments + length events.now) ≤ self.old.room.moments }
+        requires moments { min 65536 (length self.old.state.event_moments + length events.now)
+            ≤ self.old.room.moments }
         ensures state { self.new.state ≡ counted events.now calls self.old.state }
         ensures room { self.new.room ≡ self.old.room }
         ensures spare { self.new.spare ≡ self.old.spare }

@@ -147,7 +147,8 @@ impl Tickets {
 
     /// The ticket with that number is gone.
     pub fn remove(&mut self, number: u64)
-        ensures tickets { self.new.tickets ≡ remove_first (λ t. t.number == number) self.old.tickets }
+        ensures tickets { self.new.tickets
+            ≡ remove_first (λ t. t.number == number) self.old.tickets }
         ensures room { self.new.room ≡ self.old.room }
     {
         ticket_rows::remove(&mut self.items, number);
@@ -176,7 +177,8 @@ impl Tickets {
     // The ticket at that place is answered, if it is of the container.
     fn answer_at(&mut self, place: usize, number: u64, fate: Fate)
         requires { place < length self.old.tickets }
-        ensures tickets { self.new.tickets ≡ at_place (answered_by fate number) place self.old.tickets }
+        ensures tickets { self.new.tickets
+            ≡ at_place (answered_by fate number) place self.old.tickets }
         ensures room { self.new.room ≡ self.old.room }
     {
         let ready = self.answered_at(place, number, fate);

@@ -33,7 +33,8 @@ pub(crate) fn read_line<S: Source>(source: &mut S, ahead: &mut Ahead) -> LineRea
 /// Reads the trailers behind a line that tells no bytes. The line tells this size, and has so many bytes.
 fn read_behind<S: Source>(source: &mut S, ahead: &mut Ahead, size: u64, count: usize) -> LineRead
     requires { count ≤ line_limit }
-    ensures { AfterLine result size count ahead.old ahead.new (S.gives source.old) (S.gives source.new) }
+    ensures { AfterLine result size count ahead.old ahead.new
+        (S.gives source.old) (S.gives source.new) }
 {
     if size > 0 {
         return LineRead::Piece(size, count);

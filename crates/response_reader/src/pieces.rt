@@ -33,7 +33,8 @@ pub(crate) fn hand_out(ahead: &mut Ahead, into: &mut [u8], most: u64) -> usize
     requires some { ahead.old ≢ [] }
     requires place { 0 < length into.old }
     requires most { 0 < most }
-    ensures count { (0 < result) × (result ≤ length into.new) × (result ≤ most) × (result ≤ length ahead.old) }
+    ensures count { (0 < result) × (result ≤ length into.new) × (result ≤ most)
+        × (result ≤ length ahead.old) }
     ensures front { take result into.new ≡ take result ahead.old }
     ensures left { ahead.new ≡ drop result ahead.old }
 {

@@ -27,7 +27,12 @@ impl Model for ResponseReader {
 
     ghost Value = { Reading };
 
-    ghost view = { λ r. record { ahead = r.ahead; taken = r.taken; from = r.from; stage = r.stage } };
+    ghost view = { λ r. record {
+      ahead = r.ahead;
+      taken = r.taken;
+      from = r.from;
+      stage = r.stage;
+    } };
 }
 
 impl ResponseReader {
@@ -37,7 +42,8 @@ impl ResponseReader {
     /// Takes all memory that reading needs: room for 16,384 bytes that are read ahead. It is written only
     /// as far as the response needs it.
     pub fn new(alloc: Global) -> Result<ResponseReader, NoMemory>
-        ensures { IfOk result (λ r. r ≡ record { ahead = []; taken = 0; from = 0; stage = Stage.Head }) }
+        ensures { IfOk result
+            (λ r. r ≡ record { ahead = []; taken = 0; from = 0; stage = Stage.Head }) }
     {
         Ok(ResponseReader {
             ahead: Ahead::new(alloc)?,
@@ -69,7 +75,8 @@ impl ResponseReader {
     pub fn body<S: Source>(&mut self, source: &mut S, into: &mut [u8]) -> BodyGot
         requires stage { IsInBody self.old.stage }
         requires place { 0 < length into.old }
-        ensures says { BodySays result into.new self.old self.new (S.gives source.old) (S.gives source.new) }
+        ensures says { BodySays result into.new self.old self.new
+            (S.gives source.old) (S.gives source.new) }
         ensures stage { IsInBody self.new.stage }
     {
         if let Stage::Stopped(why) = self.stage {
@@ -112,7 +119,8 @@ impl ResponseReader {
     fn go_on<S: Source>(&mut self, source: &mut S, into: &mut [u8]) -> Result<BodyGot, Stopped>
         requires stage { IsRunning self.old.stage }
         requires place { 0 < length into.old }
-        ensures says { GoSays result into.new self.old self.new (S.gives source.old) (S.gives source.new) }
+        ensures says { GoSays result into.new self.old self.new
+            (S.gives source.old) (S.gives source.new) }
         ensures stage { IfOk result (λ got. IsRunning self.new.stage) }
     {
         self.end_piece(source)?;
@@ -183,7 +191,8 @@ impl ResponseReader {
     fn give<S: Source>(&mut self, source: &mut S, into: &mut [u8]) -> Result<BodyGot, Stopped>
         requires stage { IsGiving self.old.stage }
         requires place { 0 < length into.old }
-        ensures says { GoSays result into.new self.old self.new (S.gives source.old) (S.gives source.new) }
+        ensures says { GoSays result into.new self.old self.new
+            (S.gives source.old) (S.gives source.new) }
         ensures stage { IfOk result (λ got. IsRunning self.new.stage) }
     {
         let left = self.left();

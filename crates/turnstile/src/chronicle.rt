@@ -41,7 +41,8 @@ pub trait Job<V: Chronicle> {
 
     /// Of the job before, the charter, the history met, the history after, the answer, and the job
     /// after: which may be so.
-    ghost may_answer: { Self → V.Charter → List V.Step → List V.Step → Self.Answer → Self → Type 0 };
+    ghost may_answer: { Self → V.Charter → List V.Step → List V.Step → Self.Answer → Self
+        → Type 0 };
 
     /// Does it: the value's history grows by steps of its number and by steps of none.
     fn run(&mut self, value: &mut V) -> Self::Answer

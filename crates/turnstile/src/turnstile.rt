@@ -59,7 +59,8 @@ impl<V: Chronicle> Turnstile<V> {
     fn enter(&self, pass: &mut Pass<V>) -> Option<V>
         requires { IsPass self.now.table.shared.table_id pass.old }
         ensures same { IsSame pass.old pass.new }
-        ensures some { IfSome result (Met V.author V.legal V.history V.charter pass.old.me.0 pass.new.me) }
+        ensures some { IfSome result
+            (Met V.author V.legal V.history V.charter pass.old.me.0 pass.new.me) }
         ensures none { IfNone result (pass.new.me ≡ (refused pass.old.me.0, [])) }
     {
         let shared = &self.table.shared;
@@ -92,7 +93,8 @@ impl<V: Chronicle> Turnstile<V> {
         requires own { pass.old.table_id ≡ self.now.table.shared.table_id }
         requires hand { InTurn pass.old }
         requires value { IsUnder V.legal pass.old.me.0 (V.charter value.now) (V.history value.now) }
-        requires grown { ByOne V.author pass.old.me.0.number pass.old.me.0.seen (V.history value.now) }
+        requires grown { ByOne V.author pass.old.me.0.number pass.old.me.0.seen
+            (V.history value.now) }
         requires count { length pass.old.me.0.seen + more ≡ length (V.history value.now) }
         ensures same { IsSame pass.old pass.new }
         ensures raised { pass.new.me

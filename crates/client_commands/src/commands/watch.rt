@@ -23,7 +23,8 @@ use std::sync::Wait;
 
 /// It prints a line of each row.
 fn print_rows<K: Sink>(alloc: Global, rows: &[FoldRow], out: &mut K) -> Result<u8, Fault>
-    ensures { (link : LinkView) (e : SinkView) → PrintsOrLacks (prints_all (map row_line rows.now) done) result
+    ensures { (link : LinkView) (e : SinkView)
+        → PrintsOrLacks (prints_all (map row_line rows.now) done) result
         (reach link (K.takes out.old) e) (reach link (K.takes out.new) e) }
 {
     match row_lines(alloc, rows) {
@@ -45,7 +46,8 @@ fn print_events<K: Sink>(alloc: Global, body: &[u8], out: &mut K) -> Result<u8, 
 
 /// It prints what the events of a body tell, where all of that came.
 fn print_whole<K: Sink>(alloc: Global, whole: bool, body: &[u8], out: &mut K) -> Result<u8, Fault>
-    ensures { (link : LinkView) (e : SinkView) → Comes (watches (if_whole whole (events_in body.now))) result
+    ensures { (link : LinkView) (e : SinkView)
+        → Comes (watches (if_whole whole (events_in body.now))) result
         (reach link (K.takes out.old) e) (reach link (K.takes out.new) e) }
 {
     if whole {

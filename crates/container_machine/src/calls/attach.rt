@@ -94,7 +94,8 @@ fn prepare_stream(
     h: &Held,
     ask: &AttachAsk,
 ) -> Result<Prepared, NoMemory>
-    requires stands { container_numbered h.now.container.number tables.now.state ≡ Some (container_in h.now) }
+    requires stands { container_numbered h.now.container.number tables.now.state
+        ≡ Some (container_in h.now) }
     requires starts { h.now.container.life.starts < 2 ^ 63 }
     ensures { IfOk result (λ p. Makes p moment tables.now.state
         (replies (reply.Reply.LogStream (spec.attach_spec ask.now (container_in h.now)))
@@ -122,7 +123,8 @@ pub fn prepare(
     ask: &AttachAsk,
 ) -> Result<Prepared, NoMemory>
     requires { IsConsistent tables.now.state }
-    ensures { IfOk result (λ p. Makes p moment tables.now.state (spec.attach_outcome target.now ask.now)) }
+    ensures { IfOk result
+        (λ p. Makes p moment tables.now.state (spec.attach_outcome target.now ask.now)) }
 {
     match look(tables, alloc, moment, target)? {
         Looked::Stands(h) => prepare_stream(tables, alloc, moment, h, ask),

@@ -18,7 +18,8 @@ pub fn prepare(
     until: Option<u64>,
     filter: &Filter,
 ) -> Result<Prepared, NoMemory>
-    ensures { IfOk result (λ p. Makes p moment tables.now.state (spec.events_outcome since until filter.now)) }
+    ensures { IfOk result
+        (λ p. Makes p moment tables.now.state (spec.events_outcome since until filter.now)) }
 {
     let filter = filter.copy(alloc)?;
     let reply = Reply::EventStream {

@@ -32,7 +32,8 @@ pub fn prepare(
     run: u64,
     bytes: &Bytes,
 ) -> Result<Prepared, NoMemory>
-    ensures { IfOk result (λ p. Makes p moment tables.now.state (spec.feed_outcome owner run bytes.now)) }
+    ensures { IfOk result
+        (λ p. Makes p moment tables.now.state (spec.feed_outcome owner run bytes.now)) }
 {
     match run_of(tables, owner, run) {
         Run::Live => {

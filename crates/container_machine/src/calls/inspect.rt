@@ -22,9 +22,11 @@ fn prepare_shown(
     moment: u64,
     h: &Held,
 ) -> Result<Prepared, NoMemory>
-    requires stands { container_numbered h.now.container.number tables.now.state ≡ Some (container_in h.now) }
+    requires stands { container_numbered h.now.container.number tables.now.state
+        ≡ Some (container_in h.now) }
     requires kept { IsConsistent tables.now.state }
-    ensures { IfOk result (λ p. Makes p moment tables.now.state (answers 200 (container_body (container_in h.now)))) }
+    ensures { IfOk result (λ p. Makes p moment tables.now.state
+        (answers 200 (container_body (container_in h.now)))) }
 {
     let life = &h.container.life;
     let view = ContainerView {

@@ -60,10 +60,12 @@ fn prepare_running(
     sent: Signal,
 ) -> Result<Prepared, NoMemory>
     requires signal { sent.number < 32 }
-    requires stands { container_numbered h.now.container.number tables.now.state ≡ Some (container_in h.now) }
+    requires stands { container_numbered h.now.container.number tables.now.state
+        ≡ Some (container_in h.now) }
     requires starts { h.now.container.life.starts < 2 ^ 63 }
     requires kept { IsConsistent tables.now.state }
-    ensures { IfOk result (λ p. Makes p moment tables.now.state (spec.kill_running sent (container_in h.now))) }
+    ensures { IfOk result
+        (λ p. Makes p moment tables.now.state (spec.kill_running sent (container_in h.now))) }
 {
     let number = h.container.number;
     let last = is_final(sent, h);
@@ -96,9 +98,11 @@ fn prepare_restarting(
     h: &Held,
     sent: Signal,
 ) -> Result<Prepared, NoMemory>
-    requires { container_numbered h.now.container.number tables.now.state ≡ Some (container_in h.now) }
+    requires { container_numbered h.now.container.number tables.now.state
+        ≡ Some (container_in h.now) }
     ensures { IfOk result (λ p. Makes p moment tables.now.state
-        (spec.kill_restarting (spec.is_final sent (container_in h.now)) sent (container_in h.now))) }
+        (spec.kill_restarting (spec.is_final sent (container_in h.now)) sent
+        (container_in h.now))) }
 {
     if !is_final(sent, h) {
         let text = restarting(alloc, h.container.id.as_str())?;
@@ -125,7 +129,8 @@ fn prepare_by_status(
     sent: Signal,
 ) -> Result<Prepared, NoMemory>
     requires signal { sent.number < 32 }
-    requires stands { container_numbered h.now.container.number tables.now.state ≡ Some (container_in h.now) }
+    requires stands { container_numbered h.now.container.number tables.now.state
+        ≡ Some (container_in h.now) }
     requires starts { h.now.container.life.starts < 2 ^ 63 }
     requires kept { IsConsistent tables.now.state }
     ensures { IfOk result (λ p. Makes p moment tables.now.state
@@ -165,7 +170,8 @@ pub fn prepare(
 ) -> Result<Prepared, NoMemory>
     requires signal { sent.number < 32 }
     requires kept { IsConsistent tables.now.state }
-    ensures { IfOk result (λ p. Makes p moment tables.now.state (spec.kill_outcome target.now sent)) }
+    ensures { IfOk result
+        (λ p. Makes p moment tables.now.state (spec.kill_outcome target.now sent)) }
 {
     match look(tables, alloc, moment, target)? {
         Looked::Stands(h) => prepare_by_status(tables, alloc, moment, h, sent),

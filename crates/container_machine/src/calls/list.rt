@@ -86,7 +86,8 @@ fn add_shown(
     rows: &Filter,
 ) -> Result<(), NoMemory>
     ensures { OnOk result (items.new.items
-        ≡ items.old.items ++ map listed (filter (spec.is_shown all rows.now) (container_in h.now ∷ []))) }
+        ≡ items.old.items ++ map listed
+        (filter (spec.is_shown all rows.now) (container_in h.now ∷ []))) }
 {
     if !is_shown(h, all, rows) {
         return Ok(());
@@ -107,7 +108,8 @@ fn shown(
     rows: &Filter,
 ) -> Result<Vec<Listed>, NoMemory>
     ensures { IfOk result (λ v. v.items ≡ map listed
-        (option_map_or (λ n. take n (filter (spec.is_shown all rows.now) (reverse tables.now.state.containers))) limit
+        (option_map_or (λ n. take n
+        (filter (spec.is_shown all rows.now) (reverse tables.now.state.containers))) limit
         (filter (spec.is_shown all rows.now) (reverse tables.now.state.containers)))) }
 {
     let mut items = Vec::new(alloc);
@@ -131,7 +133,8 @@ pub fn prepare(
     limit: Option<u32>,
     filter: &Filter,
 ) -> Result<Prepared, NoMemory>
-    ensures { IfOk result (λ p. Makes p moment tables.now.state (spec.list_outcome all limit filter.now)) }
+    ensures { IfOk result
+        (λ p. Makes p moment tables.now.state (spec.list_outcome all limit filter.now)) }
 {
     let every = shows_all(all, limit, filter);
     let items = shown(alloc, tables, every, limit, filter)?;

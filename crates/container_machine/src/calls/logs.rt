@@ -49,7 +49,8 @@ pub fn prepare(
     target: &str,
     ask: &LogAsk,
 ) -> Result<Prepared, NoMemory>
-    ensures { IfOk result (λ p. Makes p moment tables.now.state (spec.logs_outcome target.now ask.now)) }
+    ensures { IfOk result
+        (λ p. Makes p moment tables.now.state (spec.logs_outcome target.now ask.now)) }
 {
     match look(tables, alloc, moment, target)? {
         Looked::Stands(h) => {

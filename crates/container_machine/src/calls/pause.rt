@@ -32,8 +32,10 @@ fn prepare_running(
     moment: u64,
     h: &Held,
 ) -> Result<Prepared, NoMemory>
-    requires { container_numbered h.now.container.number tables.now.state ≡ Some (container_in h.now) }
-    ensures { IfOk result (λ p. Makes p moment tables.now.state (done (spec.pause h.now.container.number))) }
+    requires { container_numbered h.now.container.number tables.now.state
+        ≡ Some (container_in h.now) }
+    ensures { IfOk result
+        (λ p. Makes p moment tables.now.state (done (spec.pause h.now.container.number))) }
 {
     let mut events = Vec::new(alloc);
     let event = plain_event(alloc, Action::Pause, &h.container, moment)?;
@@ -54,7 +56,8 @@ fn prepare_by_status(
     moment: u64,
     h: &Held,
 ) -> Result<Prepared, NoMemory>
-    requires { container_numbered h.now.container.number tables.now.state ≡ Some (container_in h.now) }
+    requires { container_numbered h.now.container.number tables.now.state
+        ≡ Some (container_in h.now) }
     ensures { IfOk result (λ p. Makes p moment tables.now.state
         (spec.by_status h.now.container.life.status (container_in h.now))) }
 {

@@ -51,8 +51,10 @@ fn prepare_launch(
     h: &Held,
     script: Script,
 ) -> Result<Prepared, NoMemory>
-    requires stands { container_numbered h.now.container.number tables.now.state ≡ Some (container_in h.now) }
-    requires named { program_of h.now.container.life.words (h.now.container.life.starts + 1) ≡ Some script }
+    requires stands { container_numbered h.now.container.number tables.now.state
+        ≡ Some (container_in h.now) }
+    requires named { program_of h.now.container.life.words (h.now.container.life.starts + 1)
+        ≡ Some script }
     ensures { IfOk result (λ p. Makes p moment tables.now.state (spec.run (container_in h.now))) }
 {
     let number = h.container.number;
@@ -70,7 +72,8 @@ fn prepare_launch(
 
 // Of a container that has no process.
 fn prepare_run(alloc: Global, moment: u64, tables: &Tables, h: &Held) -> Result<Prepared, NoMemory>
-    requires stands { container_numbered h.now.container.number tables.now.state ≡ Some (container_in h.now) }
+    requires stands { container_numbered h.now.container.number tables.now.state
+        ≡ Some (container_in h.now) }
     requires starts { h.now.container.life.starts < 2 ^ 63 }
     ensures { IfOk result (λ p. Makes p moment tables.now.state (spec.run (container_in h.now))) }
 {
@@ -91,7 +94,8 @@ fn prepare_restarting(
     tables: &Tables,
     h: &Held,
 ) -> Result<Prepared, NoMemory>
-    requires stands { container_numbered h.now.container.number tables.now.state ≡ Some (container_in h.now) }
+    requires stands { container_numbered h.now.container.number tables.now.state
+        ≡ Some (container_in h.now) }
     requires starts { h.now.container.life.starts < 2 ^ 63 }
     ensures { IfOk result (λ p. Makes p moment tables.now.state
         (done (restart_restarting_effect h.now.container.number))) }
@@ -120,7 +124,8 @@ fn prepare_by_status(
     signal: Option<Signal>,
 ) -> Result<Prepared, NoMemory>
     requires signal { IfSome signal (λ s. s.number < 32) }
-    requires stands { container_numbered h.now.container.number tables.now.state ≡ Some (container_in h.now) }
+    requires stands { container_numbered h.now.container.number tables.now.state
+        ≡ Some (container_in h.now) }
     requires starts { h.now.container.life.starts < 2 ^ 63 }
     requires kept { IsConsistent tables.now.state }
     ensures { IfOk result (λ p. Makes p moment tables.now.state
@@ -157,7 +162,8 @@ pub fn prepare(
 ) -> Result<Prepared, NoMemory>
     requires signal { IfSome signal (λ s. s.number < 32) }
     requires kept { IsConsistent tables.now.state }
-    ensures { IfOk result (λ p. Makes p moment tables.now.state (spec.restart_outcome conn target.now wait signal)) }
+    ensures { IfOk result
+        (λ p. Makes p moment tables.now.state (spec.restart_outcome conn target.now wait signal)) }
 {
     match look(tables, alloc, moment, target)? {
         Looked::Stands(h) => prepare_by_status(tables, alloc, conn, moment, h, wait, signal),

@@ -48,8 +48,10 @@ fn prepare_launch(
     h: &Held,
     script: Script,
 ) -> Result<Prepared, NoMemory>
-    requires stands { container_numbered h.now.container.number tables.now.state ≡ Some (container_in h.now) }
-    requires named { program_of h.now.container.life.words (h.now.container.life.starts + 1) ≡ Some script }
+    requires stands { container_numbered h.now.container.number tables.now.state
+        ≡ Some (container_in h.now) }
+    requires named { program_of h.now.container.life.words (h.now.container.life.starts + 1)
+        ≡ Some script }
     ensures { IfOk result (λ p. Makes p moment tables.now.state (spec.run (container_in h.now))) }
 {
     let number = h.container.number;
@@ -67,7 +69,8 @@ fn prepare_launch(
 
 // Of a container that has no process.
 fn prepare_run(alloc: Global, moment: u64, tables: &Tables, h: &Held) -> Result<Prepared, NoMemory>
-    requires stands { container_numbered h.now.container.number tables.now.state ≡ Some (container_in h.now) }
+    requires stands { container_numbered h.now.container.number tables.now.state
+        ≡ Some (container_in h.now) }
     requires starts { h.now.container.life.starts < 2 ^ 63 }
     ensures { IfOk result (λ p. Makes p moment tables.now.state (spec.run (container_in h.now))) }
 {
@@ -87,7 +90,8 @@ fn prepare_by_status(
     tables: &Tables,
     h: &Held,
 ) -> Result<Prepared, NoMemory>
-    requires stands { container_numbered h.now.container.number tables.now.state ≡ Some (container_in h.now) }
+    requires stands { container_numbered h.now.container.number tables.now.state
+        ≡ Some (container_in h.now) }
     requires starts { h.now.container.life.starts < 2 ^ 63 }
     ensures { IfOk result (λ p. Makes p moment tables.now.state
         (spec.by_status h.now.container.life.status (container_in h.now))) }

@@ -34,7 +34,8 @@ fn prepare_restarting(
     moment: u64,
     h: &Held,
 ) -> Result<Prepared, NoMemory>
-    requires { container_numbered h.now.container.number tables.now.state ≡ Some (container_in h.now) }
+    requires { container_numbered h.now.container.number tables.now.state
+        ≡ Some (container_in h.now) }
     ensures { IfOk result (λ p. Makes p moment tables.now.state
         (done (stop_restarting_effect h.now.container.number))) }
 {
@@ -61,7 +62,8 @@ fn prepare_by_status(
     signal: Option<Signal>,
 ) -> Result<Prepared, NoMemory>
     requires signal { IfSome signal (λ s. s.number < 32) }
-    requires stands { container_numbered h.now.container.number tables.now.state ≡ Some (container_in h.now) }
+    requires stands { container_numbered h.now.container.number tables.now.state
+        ≡ Some (container_in h.now) }
     requires starts { h.now.container.life.starts < 2 ^ 63 }
     requires kept { IsConsistent tables.now.state }
     ensures { IfOk result (λ p. Makes p moment tables.now.state
@@ -94,7 +96,8 @@ pub fn prepare(
 ) -> Result<Prepared, NoMemory>
     requires signal { IfSome signal (λ s. s.number < 32) }
     requires kept { IsConsistent tables.now.state }
-    ensures { IfOk result (λ p. Makes p moment tables.now.state (spec.stop_outcome conn target.now wait signal)) }
+    ensures { IfOk result
+        (λ p. Makes p moment tables.now.state (spec.stop_outcome conn target.now wait signal)) }
 {
     match look(tables, alloc, moment, target)? {
         Looked::Stands(h) => prepare_by_status(tables, alloc, conn, moment, h, wait, signal),

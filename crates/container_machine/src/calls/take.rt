@@ -29,7 +29,8 @@ pub fn perform(tables: &mut Tables, ticket: u64)
 
 // The body of the answer that a removal took too long.
 fn late_body(tables: &Tables, alloc: Global, container: u64) -> Result<Text, NoMemory>
-    ensures { IfOk result (λ t. t ≡ message_text (removal_timed_out (id_of tables.now.state.seed container))) }
+    ensures { IfOk result
+        (λ t. t ≡ message_text (removal_timed_out (id_of tables.now.state.seed container))) }
 {
     let id = tables.id_numbered(alloc, container)?;
     let text = removal_timed_out(alloc, id.as_str())?;
@@ -64,7 +65,8 @@ fn reply_ready(
 // The reply of the ticket with that number.
 fn reply_of(tables: &Tables, alloc: Global, ticket: u64) -> Result<Reply, NoMemory>
     ensures { IfOk result (λ r. r
-        ≡ unwrap_or (option_and_then (λ t. t.reply) (ticket_numbered ticket tables.now.state)) replies.Reply.Dropped) }
+        ≡ unwrap_or (option_and_then (λ t. t.reply) (ticket_numbered ticket tables.now.state))
+        replies.Reply.Dropped) }
 {
     let Some(t) = tables.ticket(ticket) else {
         return Ok(Reply::Dropped);

@@ -42,11 +42,13 @@ fn prepare_paused(
     moment: u64,
     h: &Held,
 ) -> Result<Prepared, NoMemory>
-    requires stands { container_numbered h.now.container.number tables.now.state ≡ Some (container_in h.now) }
+    requires stands { container_numbered h.now.container.number tables.now.state
+        ≡ Some (container_in h.now) }
     requires paused { h.now.container.life.status ≡ statuses.Status.Paused }
     requires starts { h.now.container.life.starts < 2 ^ 63 }
     requires kept { IsConsistent tables.now.state }
-    ensures { IfOk result (λ p. Makes p moment tables.now.state (done (thaw_container h.now.container.number))) }
+    ensures { IfOk result
+        (λ p. Makes p moment tables.now.state (done (thaw_container h.now.container.number))) }
 {
     let number = h.container.number;
     let script = program(alloc, &h.container.life.words, h.container.life.starts + 1)?;
@@ -64,7 +66,8 @@ fn prepare_paused(
 }
 
 fn refuse_unpaused(alloc: Global, moment: u64, h: &Held) -> Result<Prepared, NoMemory>
-    ensures { IfOk result (λ p. IsAnswer moment 409 (message_text (not_paused h.now.container.id)) p) }
+    ensures { IfOk result
+        (λ p. IsAnswer moment 409 (message_text (not_paused h.now.container.id)) p) }
 {
     let text = not_paused(alloc, h.container.id.as_str())?;
     refuse(alloc, moment, 409, &text)
@@ -76,7 +79,8 @@ fn prepare_by_status(
     moment: u64,
     h: &Held,
 ) -> Result<Prepared, NoMemory>
-    requires stands { container_numbered h.now.container.number tables.now.state ≡ Some (container_in h.now) }
+    requires stands { container_numbered h.now.container.number tables.now.state
+        ≡ Some (container_in h.now) }
     requires starts { h.now.container.life.starts < 2 ^ 63 }
     requires kept { IsConsistent tables.now.state }
     ensures { IfOk result (λ p. Makes p moment tables.now.state

@@ -60,7 +60,8 @@ pub fn prepare(
     target: &str,
     until: Until,
 ) -> Result<Prepared, NoMemory>
-    ensures { IfOk result (λ p. Makes p moment tables.now.state (spec.wait_outcome conn target.now until)) }
+    ensures { IfOk result
+        (λ p. Makes p moment tables.now.state (spec.wait_outcome conn target.now until)) }
 {
     match look(tables, alloc, moment, target)? {
         Looked::Stands(h) => Ok(prepare_found(tables, alloc, conn, moment, h, until)),

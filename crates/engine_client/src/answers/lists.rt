@@ -51,7 +51,8 @@ fn with_word(line: Text, word: &str) -> Result<Text, NoMemory>
 
 /// Four words, apart by single blanks.
 fn line_of(alloc: Global, id: &str, name: &str, state: &str, status: &str) -> Result<Text, NoMemory>
-    ensures { IfOk result (λ t. t ≡ id.now ++ codes " " ++ name.now ++ codes " " ++ state.now ++ codes " " ++ status.now) }
+    ensures { IfOk result (λ t. t ≡ id.now ++ codes " " ++ name.now ++ codes " " ++ state.now
+        ++ codes " " ++ status.now) }
 {
     let line = Text::of(alloc, id)?;
     let line = with_word(line, name)?;

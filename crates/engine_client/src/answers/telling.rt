@@ -18,7 +18,8 @@ fn write_both<K: Sink>(sink: &mut K, first: &[u8], second: &[u8]) -> Result<(), 
 
 /// Writes the line that a fault adds to standard error. It takes no memory.
 pub fn write_fault<K: Sink>(errors: &mut K, fault: &Fault) -> Result<(), Failed>
-    ensures { WriteSays result (fault_line command_names fault.now) (K.takes errors.old) (K.takes errors.new) }
+    ensures { WriteSays result (fault_line command_names fault.now)
+        (K.takes errors.old) (K.takes errors.new) }
 {
     let (first, second) = fault_line(fault);
     write_both(errors, first.as_bytes(), second.as_bytes())

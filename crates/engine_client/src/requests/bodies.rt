@@ -13,7 +13,8 @@ use std::alloc::{AllocError, Global};
 
 /// A restart policy.
 fn policy_value(alloc: Global, policy: &str, most: u64) -> Result<Value, AllocError>
-    ensures { IfOk result (λ v. view v ≡ container.policy_data (container.restart_of policy.now most)) }
+    ensures { IfOk result
+        (λ v. view v ≡ container.policy_data (container.restart_of policy.now most)) }
 {
     let object = Object::new(alloc).number(alloc, "MaximumRetryCount", most)?;
     let object = object.text(alloc, "Name", policy)?;
@@ -22,7 +23,8 @@ fn policy_value(alloc: Global, policy: &str, most: u64) -> Result<Value, AllocEr
 
 /// The policy that is given, or `no`.
 fn given_policy(alloc: Global, restart: &Option<Restart>) -> Result<Value, AllocError>
-    ensures { IfOk result (λ v. view v ≡ container.policy_data (unwrap_or restart.now (container.restart_of (codes "no") 0))) }
+    ensures { IfOk result (λ v. view v ≡ container.policy_data
+        (unwrap_or restart.now (container.restart_of (codes "no") 0))) }
 {
     match restart {
         Some(restart) => policy_value(alloc, restart.policy.as_str(), restart.most),

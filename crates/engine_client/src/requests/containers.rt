@@ -59,7 +59,8 @@ pub fn stop_request(
     target: &str,
     seconds: &Option<Text>,
 ) -> Result<Vec<u8>, NoMemory>
-    ensures { IfOk result (λ r. r.items ≡ request_bytes (stop.stop_request target.now seconds.now)) }
+    ensures { IfOk result
+        (λ r. r.items ≡ request_bytes (stop.stop_request target.now seconds.now)) }
 {
     let mut query = Pairs::new(alloc);
     key_if(alloc, &mut query, "t", seconds)?;
@@ -72,7 +73,8 @@ pub fn restart_request(
     target: &str,
     seconds: &Option<Text>,
 ) -> Result<Vec<u8>, NoMemory>
-    ensures { IfOk result (λ r. r.items ≡ request_bytes (restart.restart_request target.now seconds.now)) }
+    ensures { IfOk result
+        (λ r. r.items ≡ request_bytes (restart.restart_request target.now seconds.now)) }
 {
     let mut query = Pairs::new(alloc);
     key_if(alloc, &mut query, "t", seconds)?;
@@ -99,7 +101,8 @@ pub fn remove_request(alloc: Global, target: &str, force: bool) -> Result<Vec<u8
 
 /// `POST /containers/REF/rename?name=NAME`.
 pub fn rename_request(alloc: Global, target: &str, name: &str) -> Result<Vec<u8>, NoMemory>
-    ensures { IfOk result (λ r. r.items ≡ request_bytes (rename.rename_request target.now name.now)) }
+    ensures { IfOk result
+        (λ r. r.items ≡ request_bytes (rename.rename_request target.now name.now)) }
 {
     let mut query = Pairs::new(alloc);
     key(alloc, &mut query, "name", name)?;

@@ -31,7 +31,8 @@ fn put_byte(out: &mut Vec<u8>, byte: u8) -> Result<(), NoMemory>
 
 /// The bytes of a segment.
 fn put_bytes(out: &mut Vec<u8>, segment: &[u8]) -> Result<(), NoMemory>
-    ensures { OnOk result (out.new.items ≡ out.old.items ++ flat_map spec.escaped_byte segment.now) }
+    ensures { OnOk result
+        (out.new.items ≡ out.old.items ++ flat_map spec.escaped_byte segment.now) }
 {
     'bytes: for byte in segment {
         put_byte(out, *byte)?;
@@ -49,7 +50,8 @@ fn put_segment(out: &mut Vec<u8>, segment: &str) -> Result<(), NoMemory>
 
 /// A path.
 pub(crate) fn put_path(out: &mut Vec<u8>, path: &[&str]) -> Result<(), NoMemory>
-    ensures { OnOk result (out.new.items ≡ out.old.items ++ spec.path_text (map (λ s. s.now) path.now)) }
+    ensures { OnOk result
+        (out.new.items ≡ out.old.items ++ spec.path_text (map (λ s. s.now) path.now)) }
 {
     'path: for segment in path {
         put_segment(out, segment)?;

@@ -15,7 +15,8 @@ pub fn exec_create_request(
     words: &[Text],
     input: bool,
 ) -> Result<Vec<u8>, NoMemory>
-    ensures { IfOk result (λ r. r.items ≡ request_bytes (exec.exec_create_request target.now words.now input)) }
+    ensures { IfOk result
+        (λ r. r.items ≡ request_bytes (exec.exec_create_request target.now words.now input)) }
 {
     let body = exec_value(alloc, words, input)?;
     post_body(alloc, &["containers", target, "exec"], &[], &body)

@@ -28,7 +28,8 @@ impl Object {
 
     /// With this member.
     pub(crate) fn with(self, alloc: Global, key: &str, value: Value) -> Result<Object, AllocError>
-        ensures { IfOk result (λ o. members_in o ≡ json.put key.now (view value) (members_in self)) }
+        ensures { IfOk result
+            (λ o. members_in o ≡ json.put key.now (view value) (members_in self)) }
     {
         let mut map = self.map;
         put(&mut map, alloc, key, value)?;
@@ -37,7 +38,8 @@ impl Object {
 
     /// With this text.
     pub(crate) fn text(self, alloc: Global, key: &str, text: &str) -> Result<Object, AllocError>
-        ensures { IfOk result (λ o. members_in o ≡ json.put key.now (json.string text.now) (members_in self)) }
+        ensures { IfOk result
+            (λ o. members_in o ≡ json.put key.now (json.string text.now) (members_in self)) }
     {
         let value = Value::try_from_str(alloc, text)?;
         self.with(alloc, key, value)
@@ -45,7 +47,8 @@ impl Object {
 
     /// With this truth value.
     pub(crate) fn flag(self, alloc: Global, key: &str, on: bool) -> Result<Object, AllocError>
-        ensures { IfOk result (λ o. members_in o ≡ json.put key.now (json.boolean on) (members_in self)) }
+        ensures { IfOk result
+            (λ o. members_in o ≡ json.put key.now (json.boolean on) (members_in self)) }
     {
         self.with(alloc, key, Value::Bool(on))
     }
@@ -53,7 +56,8 @@ impl Object {
     /// With this number.
     pub(crate) fn number(self, alloc: Global, key: &str, number: u64) -> Result<Object, AllocError>
         ensures { IfOk result
-            (λ o. members_in o ≡ json.put key.now (json.number (json.unsigned number)) (members_in self)) }
+            (λ o. members_in o ≡ json.put key.now (json.number (json.unsigned number))
+            (members_in self)) }
     {
         self.with(alloc, key, Value::from(number))
     }
@@ -65,7 +69,8 @@ impl Object {
         key: &str,
         words: &[Text],
     ) -> Result<Object, AllocError>
-        ensures { IfOk result (λ o. members_in o ≡ json.put key.now (words_data words.now) (members_in self)) }
+        ensures { IfOk result
+            (λ o. members_in o ≡ json.put key.now (words_data words.now) (members_in self)) }
     {
         let value = words_value(alloc, words)?;
         self.with(alloc, key, value)

@@ -36,7 +36,8 @@ pub fn list_request(alloc: Global, all: bool) -> Result<Vec<u8>, NoMemory>
 
 /// `GET /events?since=SINCE&until=UNTIL`.
 pub fn events_request(alloc: Global, since: &str, until: &str) -> Result<Vec<u8>, NoMemory>
-    ensures { IfOk result (λ r. r.items ≡ request_bytes (events.events_request since.now until.now)) }
+    ensures { IfOk result
+        (λ r. r.items ≡ request_bytes (events.events_request since.now until.now)) }
 {
     let mut query = Pairs::new(alloc);
     key(alloc, &mut query, "since", since)?;

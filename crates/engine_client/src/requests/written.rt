@@ -26,7 +26,8 @@ fn behind_target(manner: Manner) -> &'static [u8]
 /// The fields of a body that isn't empty.
 fn put_sized(out: &mut Vec<u8>, body: &[u8]) -> Result<(), NoMemory>
     requires { 0 < length body.now }
-    ensures { OnOk result (out.new.items ≡ out.old.items ++ flat_map spec.field_line (spec.body_fields body.now)) }
+    ensures { OnOk result
+        (out.new.items ≡ out.old.items ++ flat_map spec.field_line (spec.body_fields body.now)) }
 {
     let mut digits = Buffer::new();
     put(out, b"Content-Length: ")?;
@@ -37,7 +38,8 @@ fn put_sized(out: &mut Vec<u8>, body: &[u8]) -> Result<(), NoMemory>
 
 /// The fields of a body.
 fn put_body_fields(out: &mut Vec<u8>, body: &[u8]) -> Result<(), NoMemory>
-    ensures { OnOk result (out.new.items ≡ out.old.items ++ flat_map spec.field_line (spec.body_fields body.now)) }
+    ensures { OnOk result
+        (out.new.items ≡ out.old.items ++ flat_map spec.field_line (spec.body_fields body.now)) }
 {
     match body {
         [] => Ok(()),
@@ -71,28 +73,32 @@ fn request(
 
 /// A GET.
 pub(crate) fn get(alloc: Global, path: &[&str], query: &[Pair]) -> Result<Vec<u8>, NoMemory>
-    ensures { IfOk result (λ r. r.items ≡ spec.request_bytes (spec.get (map (λ s. s.now) path.now) query.now)) }
+    ensures { IfOk result
+        (λ r. r.items ≡ spec.request_bytes (spec.get (map (λ s. s.now) path.now) query.now)) }
 {
     request(alloc, "GET", Manner::Closes, path, query, &[])
 }
 
 /// A DELETE.
 pub(crate) fn delete(alloc: Global, path: &[&str], query: &[Pair]) -> Result<Vec<u8>, NoMemory>
-    ensures { IfOk result (λ r. r.items ≡ spec.request_bytes (spec.delete (map (λ s. s.now) path.now) query.now)) }
+    ensures { IfOk result
+        (λ r. r.items ≡ spec.request_bytes (spec.delete (map (λ s. s.now) path.now) query.now)) }
 {
     request(alloc, "DELETE", Manner::Closes, path, query, &[])
 }
 
 /// A POST without a body.
 pub(crate) fn post(alloc: Global, path: &[&str], query: &[Pair]) -> Result<Vec<u8>, NoMemory>
-    ensures { IfOk result (λ r. r.items ≡ spec.request_bytes (spec.post (map (λ s. s.now) path.now) query.now)) }
+    ensures { IfOk result
+        (λ r. r.items ≡ spec.request_bytes (spec.post (map (λ s. s.now) path.now) query.now)) }
 {
     request(alloc, "POST", Manner::Closes, path, query, &[])
 }
 
 /// A POST whose answer takes the connection over.
 pub(crate) fn take_over(alloc: Global, path: &[&str], query: &[Pair]) -> Result<Vec<u8>, NoMemory>
-    ensures { IfOk result (λ r. r.items ≡ spec.request_bytes (spec.take_over (map (λ s. s.now) path.now) query.now)) }
+    ensures { IfOk result (λ r. r.items ≡ spec.request_bytes
+        (spec.take_over (map (λ s. s.now) path.now) query.now)) }
 {
     request(alloc, "POST", Manner::Upgrades, path, query, &[])
 }

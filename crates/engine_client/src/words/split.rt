@@ -24,7 +24,8 @@ fn kind_of(options: &[(&str, Kind)], word: &str) -> Option<Kind>
 
 /// One option more.
 fn put(alloc: Global, given: &mut Pairs, name: &str, value: &str) -> Result<(), NoMemory>
-    ensures ok { OnOk result (given.new ≡ given.old ++ record { key = name.now; value = value.now } ∷ []) }
+    ensures ok { OnOk result
+        (given.new ≡ given.old ++ record { key = name.now; value = value.now } ∷ []) }
 {
     let key = Text::of(alloc, name)?;
     let value = Text::of(alloc, value)?;
@@ -36,12 +37,16 @@ fn next_option<'a>(
     options: &[(&str, Kind)],
     words: &'a [Text],
 ) -> Result<Option<(&'a str, &'a str, &'a [Text])>, Unread>
-    ensures option { IfOk result (λ o. IfSome o (λ n. spec.split_behind (options_of options.now) None words.now
-        ≡ spec.with_option n.0.now n.1.now (spec.split_behind (options_of options.now) None n.2.now))) }
+    ensures option { IfOk result
+        (λ o. IfSome o (λ n. spec.split_behind (options_of options.now) None words.now
+        ≡ spec.with_option n.0.now n.1.now
+        (spec.split_behind (options_of options.now) None n.2.now))) }
     ensures shorter { IfOk result (λ o. IfSome o (λ n. length n.2.now < length words.now)) }
-    ensures words { IfOk result (λ o. IfNone o (spec.split_behind (options_of options.now) None words.now
+    ensures words { IfOk result
+        (λ o. IfNone o (spec.split_behind (options_of options.now) None words.now
         ≡ Some (record { given = []; words = words.now }))) }
-    ensures lacks { IfErr result (λ e. e ≡ Unread.NoForm × (spec.split_behind (options_of options.now) None words.now ≡ None)) }
+    ensures lacks { IfErr result (λ e. e ≡ Unread.NoForm
+        × (spec.split_behind (options_of options.now) None words.now ≡ None)) }
 {
     let [name, behind @ ..] = words else {
         return Ok(None);

@@ -29,7 +29,8 @@ impl<W: Write> WriteSink<W> {
     // Lets what was written out of the writer's own buffer.
     fn flush(&mut self) -> Result<(), Failed>
         ensures says { FinishSays result (sink_over self.old) (sink_over self.new) }
-        ensures writer { Keeps (writer_holds W.contents self.old) (writer_holds W.contents self.new) }
+        ensures writer { Keeps
+            (writer_holds W.contents self.old) (writer_holds W.contents self.new) }
     {
         match self.writer.flush() {
             Ok(()) => Ok(()),
@@ -68,7 +69,8 @@ impl<W: Write + Send> Sink for WriteSink<W> {
 
     fn finish(&mut self) -> Result<(), Failed>
         ensures says { FinishSays result (sink_over self.old) (sink_over self.new) }
-        ensures writer { Keeps (writer_holds W.contents self.old) (writer_holds W.contents self.new) }
+        ensures writer { Keeps
+            (writer_holds W.contents self.old) (writer_holds W.contents self.new) }
     {
         self.flush()
     }

@@ -80,7 +80,8 @@ impl<T: Clock + Drop> MemDoor<T> {
 
     /// The connections that ended, in the order in which they were left.
     pub fn past(&self) -> &[Departed<T>]
-        ensures { (⟦<MemDoor<T> as Door>⟧.opens self.now).past ≡ Some (ended_of T.times result.now) }
+        ensures { (⟦<MemDoor<T> as Door>⟧.opens self.now).past
+            ≡ Some (ended_of T.times result.now) }
     {
         &self.past
     }

@@ -45,7 +45,13 @@ impl MemLink {
     /// A link that leads nowhere yet, and whose calls numbered in `failing` (from 0) fail.
     pub fn new(alloc: Global, failing: &[u64]) -> Result<MemLink, NoMemory>
         ensures { IfOk result (λ l. ⟦<MemLink as Link>⟧.links l
-            ≡ record { coming = Some []; past = Some []; addresses = Some []; owed = 0; faults = 0 }) }
+            ≡ record {
+              coming = Some [];
+              past = Some [];
+              addresses = Some [];
+              owed = 0;
+              faults = 0;
+            }) }
     {
         Ok(MemLink {
             coming: VecDeque::new(alloc),

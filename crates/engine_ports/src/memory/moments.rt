@@ -38,7 +38,14 @@ impl MemClock {
     /// A clock that hands these moments, one at each reading; from the pause numbered `stop_at`
     /// (from 0) on it answers each pause by Stop.
     pub fn new(alloc: Global, moments: &[u64], stop_at: Option<u64>) -> Result<MemClock, NoMemory>
-        ensures { IfOk result (λ s. s ≡ record { coming = Some moments.now; last = 0; stop_at = stop_at; pauses = 0; stops = 0 }) }
+        ensures { IfOk result (λ s. s
+            ≡ record {
+              coming = Some moments.now;
+              last = 0;
+              stop_at = stop_at;
+              pauses = 0;
+              stops = 0;
+            }) }
     {
         Ok(MemClock {
             coming: Some(VecDeque::from_vec(moments.to_vec(alloc)?)),

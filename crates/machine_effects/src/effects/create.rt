@@ -39,7 +39,8 @@ impl Tables {
 
     /// The container that has the name.
     pub fn holder(&self, name: &str) -> Option<&Held>
-        ensures { option_map container_in (option_copied result) ≡ holder name.now self.now.state.containers }
+        ensures { option_map container_in (option_copied result)
+            ≡ holder name.now self.now.state.containers }
     {
         self.containers.holder(name)
     }
@@ -60,7 +61,8 @@ impl Tables {
         mounts: &Mounts,
         moment: u64,
     ) -> Result<Vec<Volume>, NoMemory>
-        ensures { IfOk result (λ v. v.items ≡ missing_volumes moment mounts.now self.now.state.volumes) }
+        ensures { IfOk result
+            (λ v. v.items ≡ missing_volumes moment mounts.now self.now.state.volumes) }
     {
         missing_volumes(alloc, &self.volumes, mounts.as_slice(), moment)
     }

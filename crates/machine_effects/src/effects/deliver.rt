@@ -16,7 +16,8 @@ impl Tables {
         requires fit { CanSettle number kit self.old.room self.old.state }
         requires spare { 0 < self.old.spare }
         ensures state { self.new.state ≡ (deliver last sent.number number self.old.state).state }
-        ensures died { died_of number result ≡ (deliver last sent.number number self.old.state).died }
+        ensures died { died_of number result
+            ≡ (deliver last sent.number number self.old.state).died }
         ensures room { self.new.room ≡ self.old.room }
     {
         if last {

@@ -50,8 +50,10 @@ impl Tables {
     ) -> Option<u8>
         requires signal { sent.number < 32 }
         requires may { CanHalt number kit self.old }
-        ensures state { self.new.state ≡ (halted halting seconds sent.number number self.old.state).state }
-        ensures died { died_of number result ≡ (halted halting seconds sent.number number self.old.state).died }
+        ensures state { self.new.state
+            ≡ (halted halting seconds sent.number number self.old.state).state }
+        ensures died { died_of number result
+            ≡ (halted halting seconds sent.number number self.old.state).died }
         ensures room { self.new.room ≡ self.old.room }
     {
         self.renew(number, halting.mark());

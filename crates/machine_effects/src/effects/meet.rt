@@ -15,7 +15,8 @@ impl Tables {
     // What a step of an exec's process does beyond the process; it has written nothing.
     fn exec_effect(&mut self, effect: Effect, number: u64)
         requires { IsQuiet effect }
-        ensures state { self.new.state ≡ (by_effect effect (owners.Owner.Exec number) self.old.state).state }
+        ensures state { self.new.state
+            ≡ (by_effect effect (owners.Owner.Exec number) self.old.state).state }
         ensures room { self.new.room ≡ self.old.room }
         ensures spare { self.new.spare ≡ self.old.spare }
         ensures scratch { self.new.scratch ≡ self.old.scratch }
@@ -30,7 +31,8 @@ impl Tables {
     // The exec's process goes on.
     fn thaw_exec(&mut self, number: u64)
         requires { AreTimely self.old.state }
-        ensures state { self.new.state ≡ (step_process thaw (owners.Owner.Exec number) self.old.state).state }
+        ensures state { self.new.state
+            ≡ (step_process thaw (owners.Owner.Exec number) self.old.state).state }
         ensures timely { AreTimely self.new.state }
         ensures room { self.new.room ≡ self.old.room }
         ensures spare { self.new.spare ≡ self.old.spare }
@@ -61,8 +63,10 @@ impl Tables {
         requires quiet { IsQuiet effect }
         requires fit { CanSettle number kit self.old.room self.old.state }
         requires spare { 0 < self.old.spare }
-        ensures state { self.new.state ≡ (by_effect effect (owners.Owner.Container number) self.old.state).state }
-        ensures died { died_of number result ≡ (by_effect effect (owners.Owner.Container number) self.old.state).died }
+        ensures state { self.new.state
+            ≡ (by_effect effect (owners.Owner.Container number) self.old.state).state }
+        ensures died { died_of number result
+            ≡ (by_effect effect (owners.Owner.Container number) self.old.state).died }
         ensures room { self.new.room ≡ self.old.room }
     {
         match effect {
@@ -127,8 +131,10 @@ impl Tables {
         requires timely { AreTimely self.old.state }
         requires fit { CanSettle number kit self.old.room self.old.state }
         requires spare { 0 < self.old.spare }
-        ensures state { self.new.state ≡ (step_process thaw (owners.Owner.Container number) self.old.state).state }
-        ensures died { died_of number result ≡ (step_process thaw (owners.Owner.Container number) self.old.state).died }
+        ensures state { self.new.state
+            ≡ (step_process thaw (owners.Owner.Container number) self.old.state).state }
+        ensures died { died_of number result
+            ≡ (step_process thaw (owners.Owner.Container number) self.old.state).died }
         ensures room { self.new.room ≡ self.old.room }
     {
         let effect = self.thaw_process(Owner::Container(number));
@@ -155,7 +161,8 @@ impl Tables {
         requires fit { CanSettle number kit self.old.room self.old.state }
         requires spare { 0 < self.old.spare }
         ensures state { self.new.state ≡ (meet_signal sent.number number self.old.state).state }
-        ensures died { died_of number result ≡ (meet_signal sent.number number self.old.state).died }
+        ensures died { died_of number result
+            ≡ (meet_signal sent.number number self.old.state).died }
         ensures room { self.new.room ≡ self.old.room }
     {
         let Some(h) = self.numbered(number) else {

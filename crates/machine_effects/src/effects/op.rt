@@ -28,7 +28,8 @@ impl Tables {
     fn end_owner(&mut self, owner: Owner, code: u8, kit: Kit) -> Option<u8>
         requires { CanEnd owner kit self.old }
         ensures state { self.new.state ≡ (end_of owner code self.old.state).state }
-        ensures died { died_of (owner_number owner) result ≡ (end_of owner code self.old.state).died }
+        ensures died { died_of (owner_number owner) result
+            ≡ (end_of owner code self.old.state).died }
         ensures room { self.new.room ≡ self.old.room }
     {
         match owner {
@@ -48,7 +49,8 @@ impl Tables {
         requires kept { HasRecordRoom owner self.old }
         requires end { CanEnd owner kit self.old }
         ensures state { self.new.state ≡ (by_effect effect owner self.old.state).state }
-        ensures died { died_of (owner_number owner) result ≡ (by_effect effect owner self.old.state).died }
+        ensures died { died_of (owner_number owner) result
+            ≡ (by_effect effect owner self.old.state).died }
         ensures room { self.new.room ≡ self.old.room }
     {
         match effect {
@@ -63,7 +65,8 @@ impl Tables {
 
     /// The next op of the owner's process, and what it does to the machine.
     pub fn run_op(&mut self, owner: Owner, kit: Kit) -> Option<u8>
-        requires due { due_at (process_of owner self.old.state.processes) ≡ Some self.old.state.clock }
+        requires due { due_at (process_of owner self.old.state.processes)
+            ≡ Some self.old.state.clock }
         requires clock { self.old.state.clock ≤ 9000000000000 }
         requires length { length_at (process_of owner self.old.state.processes) ≤ self.old.bytes }
         requires kept { HasRecordRoom owner self.old }

@@ -69,9 +69,11 @@ fn prepare_new(
     h: &Held,
     asked: &ExecAsk<'_>,
 ) -> Result<Prepared, NoMemory>
-    requires { container_numbered h.now.container.number tables.now.state ≡ Some (container_in h.now) }
+    requires { container_numbered h.now.container.number tables.now.state
+        ≡ Some (container_in h.now) }
     ensures { IfOk result (λ p. Makes p moment tables.now.state (λ s. spec.created
-        (spec.new_exec (container_in h.now) asked.now.words.now asked.now.stdin asked.now.out asked.now.err s)
+        (spec.new_exec (container_in h.now) asked.now.words.now asked.now.stdin asked.now.out
+        asked.now.err s)
         (container_in h.now) s)) }
 {
     let exec = new_exec(tables, alloc, h, asked)?;
@@ -95,10 +97,12 @@ fn prepare_by_status(
     h: &Held,
     asked: &ExecAsk<'_>,
 ) -> Result<Prepared, NoMemory>
-    requires { container_numbered h.now.container.number tables.now.state ≡ Some (container_in h.now) }
+    requires { container_numbered h.now.container.number tables.now.state
+        ≡ Some (container_in h.now) }
     ensures { IfOk result (λ p. Makes p moment tables.now.state
         (spec.if_running h.now.container.life.status (container_in h.now) (λ s. spec.created
-        (spec.new_exec (container_in h.now) asked.now.words.now asked.now.stdin asked.now.out asked.now.err s)
+        (spec.new_exec (container_in h.now) asked.now.words.now asked.now.stdin asked.now.out
+        asked.now.err s)
         (container_in h.now) s))) }
 {
     match refusal_of(alloc, h)? {
@@ -116,7 +120,8 @@ pub fn prepare(
     asked: &ExecAsk<'_>,
 ) -> Result<Prepared, NoMemory>
     ensures { IfOk result (λ p. Makes p moment tables.now.state
-        (spec.exec_create_outcome target.now asked.now.words.now asked.now.stdin asked.now.out asked.now.err)) }
+        (spec.exec_create_outcome target.now asked.now.words.now asked.now.stdin asked.now.out
+        asked.now.err)) }
 {
     match look(tables, alloc, moment, target)? {
         Looked::Stands(h) => prepare_by_status(tables, alloc, moment, h, asked),

@@ -68,7 +68,8 @@ fn prepare_standing(
 
 /// Makes an inspect of an exec ready.
 pub fn prepare(tables: &Tables, alloc: Global, moment: u64, id: &str) -> Result<Prepared, NoMemory>
-    ensures { IfOk result (λ p. Makes p moment tables.now.state (spec.exec_inspect_outcome id.now)) }
+    ensures { IfOk result
+        (λ p. Makes p moment tables.now.state (spec.exec_inspect_outcome id.now)) }
 {
     match tables.exec_with_id(id) {
         Some(exec) => prepare_standing(tables, alloc, moment, id, exec),

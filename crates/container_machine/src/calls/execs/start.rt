@@ -77,7 +77,8 @@ fn prepare_spawn(
     script: Script,
     detach: bool,
 ) -> Result<Prepared, NoMemory>
-    requires stands { container_numbered exec.now.container tables.now.state ≡ Some (container_in h.now) }
+    requires stands { container_numbered exec.now.container tables.now.state
+        ≡ Some (container_in h.now) }
     requires own { exec_numbered exec.now.number tables.now.state ≡ Some exec.now }
     requires named { program_of exec.now.words 1 ≡ Some script }
     ensures { IfOk result (λ p. Makes p moment tables.now.state (spec.run detach exec.now)) }
@@ -108,7 +109,8 @@ fn prepare_run(
     exec: &Exec,
     detach: bool,
 ) -> Result<Prepared, NoMemory>
-    requires stands { container_numbered exec.now.container tables.now.state ≡ Some (container_in h.now) }
+    requires stands { container_numbered exec.now.container tables.now.state
+        ≡ Some (container_in h.now) }
     requires own { exec_numbered exec.now.number tables.now.state ≡ Some exec.now }
     ensures { IfOk result (λ p. Makes p moment tables.now.state (spec.run detach exec.now)) }
 {
@@ -130,7 +132,8 @@ fn prepare_unstarted(
     exec: &Exec,
     detach: bool,
 ) -> Result<Prepared, NoMemory>
-    requires stands { container_numbered exec.now.container tables.now.state ≡ Some (container_in h.now) }
+    requires stands { container_numbered exec.now.container tables.now.state
+        ≡ Some (container_in h.now) }
     requires own { exec_numbered exec.now.number tables.now.state ≡ Some exec.now }
     ensures { IfOk result (λ p. Makes p moment tables.now.state
         (if_running h.now.container.life.status (container_in h.now) (spec.run detach exec.now))) }
@@ -151,7 +154,8 @@ fn prepare_found(
     exec: &Exec,
     detach: bool,
 ) -> Result<Prepared, NoMemory>
-    requires stands { container_numbered exec.now.container tables.now.state ≡ Some (container_in h.now) }
+    requires stands { container_numbered exec.now.container tables.now.state
+        ≡ Some (container_in h.now) }
     requires own { exec_numbered exec.now.number tables.now.state ≡ Some exec.now }
     ensures { IfOk result (λ p. Makes p moment tables.now.state
         (spec.unless_started exec.now.started id.now
@@ -194,7 +198,8 @@ pub fn prepare(
     detach: bool,
 ) -> Result<Prepared, NoMemory>
     requires { IsConsistent tables.now.state }
-    ensures { IfOk result (λ p. Makes p moment tables.now.state (spec.exec_start_outcome id.now detach)) }
+    ensures { IfOk result
+        (λ p. Makes p moment tables.now.state (spec.exec_start_outcome id.now detach)) }
 {
     match tables.exec_with_id(id) {
         Some(exec) => prepare_standing(tables, alloc, moment, id, exec, detach),

@@ -48,7 +48,8 @@ fn prepare_new(
 ) -> Result<Prepared, NoMemory>
     requires until { moment ≤ 9_000_000_000_000 }
     requires free { volume_named name.now tables.now.state ≡ None }
-    ensures { IfOk result (λ p. Makes p moment tables.now.state (spec.by_standing None name.now labels.now)) }
+    ensures { IfOk result
+        (λ p. Makes p moment tables.now.state (spec.by_standing None name.now labels.now)) }
 {
     let body = new_text(alloc, moment, name, labels)?;
     let own = Text::of(alloc, name)?;

@@ -45,7 +45,8 @@ pub fn prepare(
     name: &str,
 ) -> Result<Prepared, NoMemory>
     requires { IsConsistent tables.now.state }
-    ensures { IfOk result (λ p. Makes p moment tables.now.state (spec.volume_inspect_outcome name.now)) }
+    ensures { IfOk result
+        (λ p. Makes p moment tables.now.state (spec.volume_inspect_outcome name.now)) }
 {
     match tables.volume(name) {
         Some(volume) => show(alloc, moment, 200, volume),

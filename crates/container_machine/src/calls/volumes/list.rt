@@ -32,7 +32,8 @@ fn add_shown(
     rows: &Filter,
 ) -> Result<(), NoMemory>
     ensures { OnOk result (items.new.items ≡ items.old.items
-        ++ map listed_volume (filter (λ v. filters.passes (filters.volume_fits v) rows.now) (volume.now ∷ []))) }
+        ++ map listed_volume
+        (filter (λ v. filters.passes (filters.volume_fits v) rows.now) (volume.now ∷ []))) }
 {
     if !passes(volume, rows) {
         return Ok(());
@@ -47,7 +48,8 @@ fn add_shown(
 // Those of these that pass.
 fn passing(alloc: Global, volumes: &[Volume], rows: &Filter) -> Result<Vec<ListedVolume>, NoMemory>
     ensures { IfOk result (λ v. v.items
-        ≡ map listed_volume (filter (λ v. filters.passes (filters.volume_fits v) rows.now) volumes.now)) }
+        ≡ map listed_volume
+        (filter (λ v. filters.passes (filters.volume_fits v) rows.now) volumes.now)) }
 {
     let mut items = Vec::new(alloc);
     for v in volumes {
@@ -71,7 +73,8 @@ pub fn prepare(
     filter: &Filter,
 ) -> Result<Prepared, NoMemory>
     requires { IsConsistent tables.now.state }
-    ensures { IfOk result (λ p. Makes p moment tables.now.state (spec.volume_list_outcome filter.now)) }
+    ensures { IfOk result
+        (λ p. Makes p moment tables.now.state (spec.volume_list_outcome filter.now)) }
 {
     let items = shown(alloc, tables, filter)?;
     let body = volumes_body(alloc, items.as_slice())?;

@@ -42,7 +42,8 @@ fn prepare_unused(
 ) -> Result<Prepared, NoMemory>
     requires stands { IsSome (volume_named name.now tables.now.state) }
     requires unused { spec.is_in_use name.now tables.now.state ≡ false }
-    ensures { IfOk result (λ p. Makes p moment tables.now.state (done (spec.remove_volume name.now))) }
+    ensures { IfOk result
+        (λ p. Makes p moment tables.now.state (done (spec.remove_volume name.now))) }
 {
     let own = Text::of(alloc, name)?;
     let mut events = Vec::new(alloc);
@@ -81,7 +82,8 @@ pub fn prepare(
     moment: u64,
     name: &str,
 ) -> Result<Prepared, NoMemory>
-    ensures { IfOk result (λ p. Makes p moment tables.now.state (spec.volume_remove_outcome name.now)) }
+    ensures { IfOk result
+        (λ p. Makes p moment tables.now.state (spec.volume_remove_outcome name.now)) }
 {
     match tables.volume(name) {
         Some(_) => prepare_standing(tables, alloc, moment, name),
