@@ -9,9 +9,7 @@ use Rattle.engine_text.specs.declared.listed.ListedVolume.{ListedVolume}
 use Rattle.engine_text.specs.declared.mounts.Mount.{Mount}
 use Rattle.api_json.specs.Values.{list_of, pairs_of}
 use Rattle.api_json.specs.Mount.{mount_data}
-use Rattle.engine_text.specs.declared.listed.Listed.{Listed}
 use Rattle.api_json.specs.Volume.{volume_data, volumes_object}
-use Rattle.api_json.specs.List.{listed_data}
 use Rattle.api_json.specs.Exec.{ExecParts, code_data, exec_data}
 use Rattle.api_json.specs.Container.{ContainerParts, config_data, container_data}
 
@@ -36,9 +34,6 @@ no_float-volume v = ap (λ (b : Bool). b || false) (no_float-pairs_data (pairs_o
 
 pub no_float-volumes : (vs : List ListedVolume) → has_float (volumes_object (list_of volume_data vs)) ≡ false
 no_float-volumes vs = ap (λ (b : Bool). b || false) (no_float-list volume_data vs no_float-volume)
-
-pub no_float-listed : (c : Listed) → has_float (listed_data c) ≡ false
-no_float-listed c = rw (no_float-pairs_data (pairs_of c.labels), no_float-mounts c.mounts) refl
 
 code_or_null : (o : Option ℕ) → has_float (code_data o) ≡ false
 code_or_null None = refl

@@ -18,3 +18,4 @@ pub mod HostConfig
 pub mod Create
 pub mod Views
 pub mod Object
+pub mod Written

@@ -20,6 +20,7 @@ mod status;
 mod values;
 mod volume;
 mod volume_create;
+mod written;
 
 pub use container::{ContainerView, container_body};
 pub use create::read_create;

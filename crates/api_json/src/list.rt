@@ -1,73 +1,82 @@
 // The text of a list of containers (Docker Engine API v1.43, ContainerList).
-ghost use Rattle.std.specs.Prelude.{◌≡◌, ◌++◌, [], ◌∷◌, IfOk, OnOk, codes, string_bytes};
-ghost use Rattle.serde_json.specs.View.{view};
-ghost use Rattle.serde_json.specs.Written.{comma_if, compact_text};
+ghost use Rattle.std.specs.Prelude.{◌≡◌, ◌++◌, [], ◌∷◌, IfOk, codes};
+ghost use Rattle.std.specs.List.{join_by};
 ghost use Rattle.json_laws.specs.Pairs.{words_data};
 ghost use Rattle.api_json.specs.List as spec;
+ghost use Rattle.api_json.specs.Status.{status_text};
+ghost use Rattle.api_json.specs.Values.{text};
+ghost use Rattle.api_json.specs.Written.{Appends, tokens_of, member_tokens};
 
-use super::mount::mounts_value;
-use super::object::Object;
+use super::mount::mounts_member;
 use super::status::{status_text, status_word};
-use super::values::{IMAGE_NAME, body_text, pairs_value, slash_name};
-use engine_text::{Listed, NoMemory, Text};
-use serde_json::{Value, json};
+use super::values::{IMAGE_NAME, slash_name};
+use super::written::{empty_list_member, number_member, pairs_member, text_member, written_text};
+use engine_text::{Listed, NoMemory, Status, Text};
+use json::Writer;
 use std::alloc::{AllocError, Global};
 
-// The one name of a container, with a slash before it.
-fn names_value(alloc: Global, name: &str) -> Result<Value, AllocError>
-    ensures { IfOk result (λ v. view v ≡ words_data ((codes "/" ++ name.now) ∷ [])) }
+// Writes the words of a container, joined by blanks.
+fn command_member(alloc: Global, out: &mut Writer, words: &[Text]) -> Result<(), AllocError>
+    ensures { Appends result out.old out.new
+        (member_tokens (codes "Command") (text (join_by (λ w. w) (codes " ") words.now))) }
+{
+    let command = words.join(alloc, " ")?;
+    text_member(out, "Command", command.as_str())
+}
+
+// Writes the one name of a container, with a slash before it.
+fn names_member(alloc: Global, out: &mut Writer, name: &str) -> Result<(), AllocError>
+    ensures { Appends result out.old out.new
+        (member_tokens (codes "Names") (words_data ((codes "/" ++ name.now) ∷ []))) }
 {
     let name = slash_name(alloc, name)?;
-    json!(in alloc; [name])
+    out.key("Names")?;
+    out.begin_array()?;
+    out.string(name.as_str())?;
+    out.end_array()
 }
 
-// A container of the list.
-fn item_value(alloc: Global, item: &Listed) -> Result<Value, AllocError>
-    ensures { IfOk result (λ v. view v ≡ spec.listed_data item.now) }
+// Writes the state of a container, with its last exit code.
+fn status_member(
+    alloc: Global,
+    out: &mut Writer,
+    status: Status,
+    code: u8,
+) -> Result<(), AllocError>
+    ensures { Appends result out.old out.new
+        (member_tokens (codes "Status") (text (status_text status code))) }
 {
-    let command = item.words.as_slice().join(alloc, " ")?;
-    let object = Object::new(alloc)
-        .with(alloc, "Command", Value::String(command))?
-        .number(alloc, "Created", item.created / 1_000)?
-        .text(alloc, "Id", item.id.as_str())?
-        .text(alloc, "Image", IMAGE_NAME)?;
-    let labels = pairs_value(alloc, item.labels.as_slice())?;
-    let object = object.with(alloc, "Labels", labels)?;
-    let mounts = mounts_value(alloc, item.mounts.as_slice())?;
-    let object = object.with(alloc, "Mounts", mounts)?;
-    let names = names_value(alloc, item.name.as_str())?;
-    let object = object
-        .with(alloc, "Names", names)?
-        .with(alloc, "Ports", Value::Array(Vec::new(alloc)))?
-        .text(alloc, "State", status_word(item.status))?;
-    let status = status_text(alloc, item.status, item.code)?;
-    Ok(object.with(alloc, "Status", Value::String(status))?.value())
+    let text = status_text(alloc, status, code)?;
+    text_member(out, "Status", text.as_str())
 }
 
-// Writes a container of the list behind those that stand there.
-fn push_item(alloc: Global, text: &mut String, item: &Listed, later: bool) -> Result<(), NoMemory>
-    ensures { OnOk result (string_bytes text.new
-        ≡ string_bytes text.old ++ (comma_if later ++ compact_text (spec.listed_data item.now))) }
+// Writes a container of the list.
+fn write_item(alloc: Global, out: &mut Writer, item: &Listed) -> Result<(), AllocError>
+    ensures { Appends result out.old out.new (tokens_of (spec.listed_data item.now)) }
 {
-    if later {
-        text.push_str(",")?;
-    }
-    let value = item_value(alloc, item)?;
-    let written = body_text(alloc, &value)?;
-    text.push_str(written.as_str())?;
-    Ok(())
+    out.begin_object()?;
+    command_member(alloc, out, item.words.as_slice())?;
+    number_member(out, "Created", item.created / 1_000)?;
+    text_member(out, "Id", item.id.as_str())?;
+    text_member(out, "Image", IMAGE_NAME)?;
+    pairs_member(alloc, out, "Labels", item.labels.as_slice())?;
+    mounts_member(alloc, out, "Mounts", item.mounts.as_slice())?;
+    names_member(alloc, out, item.name.as_str())?;
+    empty_list_member(out, "Ports")?;
+    text_member(out, "State", status_word(item.status))?;
+    status_member(alloc, out, item.status, item.code)?;
+    out.end_object()
 }
 
-/// The text of a list of containers, as they stand: each is written, and let go, before the next.
+/// The text of a list of containers, as they stand.
 pub fn list_body(alloc: Global, items: &[Listed]) -> Result<Text, NoMemory>
     ensures { IfOk result (λ text. text ≡ spec.list_text items.now) }
 {
-    let mut text = String::from_str(alloc, "[")?;
-    let mut later = false;
+    let mut out = Writer::new(Vec::new(alloc));
+    out.begin_array()?;
     'items: for item in items {
-        push_item(alloc, &mut text, item, later)?;
-        later = true;
+        write_item(alloc, &mut out, item)?;
     }
-    text.push_str("]")?;
-    Ok(Text::from_string(text))
+    out.end_array()?;
+    Ok(written_text(out))
 }

@@ -3,9 +3,12 @@ ghost use Rattle.std.specs.Prelude.{◌≡◌, IfOk, string_bytes, not, codes, [
 ghost use Rattle.serde_json.specs.View.{view};
 ghost use Rattle.api_json.specs.Mount as spec;
 ghost use Rattle.api_json.specs.Values.{list_of};
+ghost use Rattle.api_json.specs.Written.{Appends, tokens_of, member_tokens};
 
 use super::object::Object;
+use super::written::{flag_member, text_member};
 use engine_text::Mount;
+use json::Writer;
 use serde_json::Value;
 use std::alloc::{AllocError, Global};
 
@@ -62,4 +65,39 @@ pub fn mounts_value(alloc: Global, mounts: &[Mount]) -> Result<Value, AllocError
         items.push(mount_value(alloc, mount)?)?;
     }
     Ok(Value::Array(items))
+}
+
+// Writes a mount.
+fn write_mount(alloc: Global, out: &mut Writer, mount: &Mount) -> Result<(), AllocError>
+    ensures { Appends result out.old out.new (tokens_of (spec.mount_data mount.now)) }
+{
+    let volume = mount.volume.as_str();
+    let source = source_of(alloc, volume)?;
+    out.begin_object()?;
+    text_member(out, "Destination", mount.target.as_str())?;
+    text_member(out, "Driver", "local")?;
+    text_member(out, "Mode", "")?;
+    text_member(out, "Name", volume)?;
+    flag_member(out, "RW", !mount.read_only)?;
+    text_member(out, "Source", source.as_str())?;
+    text_member(out, "Type", "volume")?;
+    out.end_object()
+}
+
+/// Writes a member that is the list of these mounts.
+pub fn mounts_member(
+    alloc: Global,
+    out: &mut Writer,
+    key: &str,
+    mounts: &[Mount],
+) -> Result<(), AllocError>
+    ensures { Appends result out.old out.new
+        (member_tokens key.now (list_of spec.mount_data mounts.now)) }
+{
+    out.key(key)?;
+    out.begin_array()?;
+    'mounts: for mount in mounts {
+        write_mount(alloc, out, mount)?;
+    }
+    out.end_array()
 }

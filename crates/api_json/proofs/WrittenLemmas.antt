@@ -1,0 +1,81 @@
+-- Bodies written token by token.
+use Rattle.std.proofs.Common.{◌≡◌, ◌<◌, ◌≤◌, ◌+◌, ℕ, List, [], ◌∷◌, ◌++◌, length, get_or, drop, map, Result, Ok, Err, nat_cmp, Ordering, Less, Equal, Greater, refl, sym, ap, subst, ◌∙◌, append_assoc}
+use Rattle.std.proofs.lemmas.List.{at_drop_more, at_drop_all}
+use Rattle.std.specs.Borrow.{Bor}
+use Rattle.std.specs.BTreeMap.{insert_entry}
+use Rattle.std.specs.Cmp.Lexicographic.{slice_cmp}
+use Rattle.std.specs.Ordering.{match_ordering}
+use Rattle.json.specs.Token.{Token}
+use Rattle.json.specs.Tree.{items_tokens}
+use Rattle.json.specs.Written.{Written, Writes}
+use Rattle.serde_json.specs.Data.{Data, Members, string, put}
+use Rattle.serde_json.specs.View.{items_of}
+use Rattle.serde_json.specs.Written.{items_outline}
+use Rattle.json_laws.specs.Pairs.{pairs_members}
+use Rattle.api_json.specs.Written.{Appends, tokens_of, lent_texts}
+
+abbrev Entry : Type 0
+Entry = Bor (List ℕ) × Bor (List ℕ)
+
+abbrev members : List Entry → Members
+members es = pairs_members (lent_texts es)
+
+members-match_ordering : (o : Ordering) (a b c : List Entry) → members (match_ordering o a b c) ≡ match_ordering o (members a) (members b) (members c)
+members-match_ordering Less a b c = refl
+members-match_ordering Equal a b c = refl
+members-match_ordering Greater a b c = refl
+
+-- a text that goes into the map is put among the members
+pub members-insert_entry : (es : List Entry) (k v : Bor (List ℕ))
+    → members (insert_entry (λ x y. slice_cmp nat_cmp x.now y.now) es k v) ≡ put k.now (string v.now) (members es)
+members-insert_entry [] k v = refl
+members-insert_entry (e ∷ es) k v = members-match_ordering (slice_cmp nat_cmp k.now e.0.now) _ _ _ ∙ rw (members-insert_entry es k v)
+
+-- what is written so far lacks the tokens rest to be the tokens ts
+pub record Lacks (old now : Written) (rest ts : List Token) : Type 0 where
+  pub before : now.before ≡ old.before
+  pub tokens : now.tokens ++ rest ≡ old.tokens ++ ts
+
+-- nothing is written yet
+pub lacks_all : {old : Written} {rest ts : List Token} → rest ≡ ts → Lacks old old rest ts
+lacks_all {old} same = record { before = refl; tokens = ap (λ l. old.tokens ++ l) same }
+
+-- some tokens more are written
+pub lacks_less : {E : Type 0} {old now new : Written} {u : Unit {0}} {ts rest all : List Token}
+    → Appends {E = E} (Ok u) now new ts → Lacks old now (ts ++ rest) all → Lacks old new rest all
+lacks_less {now} {ts} {rest} e h = record {
+  before = e.before ∙ h.before;
+  tokens = ap (λ l. l ++ rest) e.tokens ∙ append_assoc now.tokens ts rest ∙ h.tokens;
+}
+
+-- a token more is written
+pub lacks_one_less : {E : Type 0} {old now new : Written} {u : Unit {0}} {t : Token} {rest all : List Token}
+    → Writes {E = E} (Ok u) now new t → Lacks old now (t ∷ rest) all → Lacks old new rest all
+lacks_one_less {now} {t} {rest} w h = record {
+  before = w.room.0 ∙ h.before;
+  tokens = ap (λ l. l ++ rest) w.ok ∙ append_assoc now.tokens (t ∷ []) rest ∙ h.tokens;
+}
+
+-- the last token
+pub lacks_none : {E : Type 0} {r : Result (Unit {0}) E} {old now new : Written} {t : Token} {all : List Token}
+    → Writes r now new t → Lacks old now (t ∷ []) all → Appends r old new all
+lacks_none {r = Ok u} w h = record { before = w.room.0 ∙ h.before; tokens = w.ok ∙ h.tokens }
+lacks_none {r = Err e} w h = record { before = tt; tokens = tt }
+
+-- the tokens of these items, with the bracket that closes their list
+abbrev pub items_left : {A : Type 0} → (A → Data) → List A → List Token
+items_left f xs = items_tokens (items_outline (items_of (map f xs)))
+
+-- one item more is written
+pub lacks_item_less : {A E : Type 0} {old now new : Written} {u : Unit {0}} {all : List Token} (f : A → Data) (xs : List A) (i : ℕ) (x : A)
+    → i < length xs → x ≡ get_or xs i x → Appends {E = E} (Ok u) now new (tokens_of (f x))
+    → Lacks old now (items_left f (drop i xs)) all → Lacks old new (items_left f (drop (i + 1) xs)) all
+lacks_item_less {old} {now} {all} f xs i x within is e h =
+    let at = at_drop_more (items_left f) xs i x within ∙ ap (λ y. tokens_of (f y) ++ items_left f (drop (i + 1) xs)) (sym is) in
+    lacks_less e (subst (λ rest. Lacks old now rest all) at h)
+
+-- every item is written
+pub lacks_items_none : {A E : Type 0} {old now new : Written} {r : Result (Unit {0}) E} {all : List Token} (f : A → Data) (xs : List A) (i : ℕ)
+    → length xs ≤ i → Writes r now new Token.end_array → Lacks old now (items_left f (drop i xs)) all → Appends r old new all
+lacks_items_none {old} {now} {all} f xs i passed w h =
+    lacks_none w (subst (λ rest. Lacks old now rest all) (at_drop_all (items_left f) xs i passed) h)

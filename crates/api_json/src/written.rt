@@ -1,0 +1,89 @@
+// Bodies written token by token, with no tree of their values (RFC 8259).
+ghost use Rattle.std.specs.Prelude.{◌≡◌, [], IfOk};
+ghost use Rattle.json.specs.Print.{print};
+ghost use Rattle.json_laws.specs.Pairs.{pairs_members, put_pairs};
+ghost use Rattle.serde_json.specs.Data as json;
+ghost use Rattle.api_json.specs.Values as spec;
+ghost use Rattle.api_json.specs.Written.{Appends, member_tokens, lent_texts};
+
+use engine_text::{Pair, Text};
+use json::Writer;
+use std::alloc::{AllocError, Global};
+use std::collections::BTreeMap;
+
+/// Writes a member that is a text.
+pub fn text_member(out: &mut Writer, key: &str, text: &str) -> Result<(), AllocError>
+    ensures { Appends result out.old out.new (member_tokens key.now (spec.text text.now)) }
+{
+    out.key(key)?;
+    out.string(text)
+}
+
+/// Writes a member that is a number.
+pub fn number_member(out: &mut Writer, key: &str, number: u64) -> Result<(), AllocError>
+    ensures { Appends result out.old out.new (member_tokens key.now (spec.natural number)) }
+{
+    out.key(key)?;
+    out.u64(number)
+}
+
+/// Writes a member that is a truth value.
+pub fn flag_member(out: &mut Writer, key: &str, on: bool) -> Result<(), AllocError>
+    ensures { Appends result out.old out.new (member_tokens key.now (json.boolean on)) }
+{
+    out.key(key)?;
+    out.boolean(on)
+}
+
+// The values of pairs by their keys: of equal keys the last counts.
+fn by_key<'a>(alloc: Global, pairs: &'a [Pair]) -> Result<BTreeMap<&'a str, &'a str>, AllocError>
+    ensures { IfOk result (λ m. pairs_members (lent_texts m.entries)
+        ≡ put_pairs (spec.pairs_of pairs.now) json.no_members) }
+{
+    let mut map = BTreeMap::new(alloc);
+    'pairs: for pair in pairs {
+        map.insert(pair.key.as_str(), pair.value.as_str())?;
+    }
+    Ok(map)
+}
+
+/// Writes a member that is the object of these pairs, each key with its last value.
+pub fn pairs_member(
+    alloc: Global,
+    out: &mut Writer,
+    key: &str,
+    pairs: &[Pair],
+) -> Result<(), AllocError>
+    ensures { Appends result out.old out.new
+        (member_tokens key.now (spec.pairs_object pairs.now)) }
+{
+    let map = by_key(alloc, pairs)?;
+    out.key(key)?;
+    out.begin_object()?;
+    'members: for (name, value) in map.iter() {
+        text_member(out, name, value)?;
+    }
+    out.end_object()
+}
+
+/// Writes a member that is the list without items.
+pub fn empty_list_member(out: &mut Writer, key: &str) -> Result<(), AllocError>
+    ensures { Appends result out.old out.new (member_tokens key.now spec.empty_list) }
+{
+    out.key(key)?;
+    out.begin_array()?;
+    out.end_array()
+}
+
+/// What was written, behind nothing, as a text; memory that it doesn't fill is given back.
+pub fn written_text(out: Writer) -> Text
+    requires { out.before ≡ [] }
+    ensures { result ≡ print out.tokens }
+{
+    let mut bytes = out.into_inner();
+    bytes.shrink_to_fit();
+    match String::from_utf8(bytes) {
+        Ok(text) => Text::from_string(text),
+        Err(_) => unreachable!(),
+    }
+}
