@@ -1,17 +1,13 @@
 -- The data of bodies have no float.
-use Rattle.std.proofs.Common.{◌≡◌, ◌||◌, ℤ, pos, negsuc, List, [], ◌∷◌, Bool, false, Option, Some, None, drop, refl, ap, ℕ}
-use Rattle.serde_json.specs.Data.{Data, number}
-use Rattle.serde_json.specs.Find.{of_integer}
+use Rattle.std.proofs.Common.{◌≡◌, ◌||◌, List, [], ◌∷◌, Bool, false, Option, Some, None, drop, refl, ap, ℕ}
+use Rattle.serde_json.specs.Data.{Data}
 use Rattle.serde_json.specs.Written.{has_float}
 use Rattle.json_laws.specs.Pairs.{words_data}
 use Rattle.json_laws.proofs.NoFloat.{no_float-pairs_data}
 use Rattle.engine_text.specs.declared.listed.ListedVolume.{ListedVolume}
-use Rattle.engine_text.specs.declared.mounts.Mount.{Mount}
 use Rattle.api_json.specs.Values.{list_of, pairs_of}
-use Rattle.api_json.specs.Mount.{mount_data}
 use Rattle.api_json.specs.Volume.{volume_data, volumes_object}
 use Rattle.api_json.specs.Exec.{ExecParts, code_data, exec_data}
-use Rattle.api_json.specs.Container.{ContainerParts, config_data, container_data}
 
 pub no_float-words : (ws : List (List ℕ)) → has_float (words_data ws) ≡ false
 no_float-words [] = refl
@@ -21,13 +17,6 @@ no_float-words (w ∷ ws) = no_float-words ws
 pub no_float-list : {A : Type 0} (f : A → Data) (xs : List A) → ((x : A) → has_float (f x) ≡ false) → has_float (list_of f xs) ≡ false
 no_float-list f [] none = refl
 no_float-list f (x ∷ xs) none = rw (none x) (no_float-list f xs none)
-
-pub no_float-integer : (z : ℤ) → has_float (number (of_integer z)) ≡ false
-no_float-integer (pos n) = refl
-no_float-integer (negsuc n) = refl
-
-pub no_float-mounts : (ms : List Mount) → has_float (list_of mount_data ms) ≡ false
-no_float-mounts ms = no_float-list mount_data ms (λ m. refl)
 
 pub no_float-volume : (v : ListedVolume) → has_float (volume_data v) ≡ false
 no_float-volume v = ap (λ (b : Bool). b || false) (no_float-pairs_data (pairs_of v.labels))
@@ -41,9 +30,3 @@ code_or_null (Some code) = refl
 
 pub no_float-exec : (x : ExecParts) → has_float (exec_data x) ≡ false
 no_float-exec x = rw (code_or_null x.code, no_float-words (drop 1 x.words)) refl
-
-no_float-config : (c : ContainerParts) → has_float (config_data c) ≡ false
-no_float-config c = rw (no_float-words c.words, no_float-pairs_data (pairs_of c.labels), no_float-integer c.stop_after) refl
-
-pub no_float-container : (c : ContainerParts) → has_float (container_data c) ≡ false
-no_float-container c = rw (no_float-words (drop 1 c.words), no_float-config c, no_float-mounts c.mounts) refl

@@ -5,14 +5,18 @@ use Rattle.std.specs.Borrow.{Bor}
 use Rattle.std.specs.BTreeMap.{insert_entry}
 use Rattle.std.specs.Cmp.Lexicographic.{slice_cmp}
 use Rattle.std.specs.Ordering.{match_ordering}
+use Rattle.json.specs.Print.{print}
 use Rattle.json.specs.Token.{Token}
 use Rattle.json.specs.Tree.{items_tokens}
 use Rattle.json.specs.Written.{Written, Writes}
 use Rattle.serde_json.specs.Data.{Data, Members, string, put}
 use Rattle.serde_json.specs.View.{items_of}
-use Rattle.serde_json.specs.Written.{items_outline}
-use Rattle.json_laws.specs.Pairs.{pairs_members}
-use Rattle.api_json.specs.Written.{Appends, tokens_of, lent_texts}
+use Rattle.serde_json.specs.Written.{items_outline, compact_text}
+use Rattle.serde_json.proofs.Texts.{print-outline}
+use Rattle.json_laws.specs.Pairs.{pairs_members, words_data}
+use Rattle.api_json.specs.Values.{list_of}
+use Rattle.api_json.specs.Written.{Appends, tokens_of, member_tokens, lent_texts}
+use Rattle.api_json.proofs.ValueLemmas.{list_of-words}
 
 abbrev Entry : Type 0
 Entry = Bor (List ℕ) × Bor (List ℕ)
@@ -30,6 +34,11 @@ pub members-insert_entry : (es : List Entry) (k v : Bor (List ℕ))
     → members (insert_entry (λ x y. slice_cmp nat_cmp x.now y.now) es k v) ≡ put k.now (string v.now) (members es)
 members-insert_entry [] k v = refl
 members-insert_entry (e ∷ es) k v = members-match_ordering (slice_cmp nat_cmp k.now e.0.now) _ _ _ ∙ rw (members-insert_entry es k v)
+
+-- one token is written
+appends_one : {E : Type 0} {r : Result (Unit {0}) E} {old new : Written} {t : Token} → Writes r old new t → Appends r old new (t ∷ [])
+appends_one {r = Ok u} w = record { before = w.room.0; tokens = w.ok }
+appends_one {r = Err e} w = record { before = tt; tokens = tt }
 
 -- what is written so far lacks the tokens rest to be the tokens ts
 pub record Lacks (old now : Written) (rest ts : List Token) : Type 0 where
@@ -51,10 +60,7 @@ lacks_less {now} {ts} {rest} e h = record {
 -- a token more is written
 pub lacks_one_less : {E : Type 0} {old now new : Written} {u : Unit {0}} {t : Token} {rest all : List Token}
     → Writes {E = E} (Ok u) now new t → Lacks old now (t ∷ rest) all → Lacks old new rest all
-lacks_one_less {now} {t} {rest} w h = record {
-  before = w.room.0 ∙ h.before;
-  tokens = ap (λ l. l ++ rest) w.ok ∙ append_assoc now.tokens (t ∷ []) rest ∙ h.tokens;
-}
+lacks_one_less w h = lacks_less (appends_one w) h
 
 -- the last token
 pub lacks_none : {E : Type 0} {r : Result (Unit {0}) E} {old now new : Written} {t : Token} {all : List Token}
@@ -74,8 +80,27 @@ lacks_item_less {old} {now} {all} f xs i x within is e h =
     let at = at_drop_more (items_left f) xs i x within ∙ ap (λ y. tokens_of (f y) ++ items_left f (drop (i + 1) xs)) (sym is) in
     lacks_less e (subst (λ rest. Lacks old now rest all) at h)
 
+-- one text more is written
+pub lacks_word_less : {E : Type 0} {old now new : Written} {u : Unit {0}} {all : List Token} (words : List (List ℕ)) (i : ℕ) (word said : List ℕ)
+    → i < length words → word ≡ get_or words i word → said ≡ word → Writes {E = E} (Ok u) now new (Token.string said)
+    → Lacks old now (items_left string (drop i words)) all → Lacks old new (items_left string (drop (i + 1) words)) all
+lacks_word_less {E} {now} {new} {u} words i word said within is same w h =
+    lacks_item_less string words i word within is (subst (λ s. Appends {E = E} (Ok u) now new (Token.string s ∷ [])) same (appends_one w)) h
+
 -- every item is written
 pub lacks_items_none : {A E : Type 0} {old now new : Written} {r : Result (Unit {0}) E} {all : List Token} (f : A → Data) (xs : List A) (i : ℕ)
     → length xs ≤ i → Writes r now new Token.end_array → Lacks old now (items_left f (drop i xs)) all → Appends r old new all
 lacks_items_none {old} {now} {all} f xs i passed w h =
     lacks_none w (subst (λ rest. Lacks old now rest all) (at_drop_all (items_left f) xs i passed) h)
+
+-- every text is written
+pub lacks_words_none : {E : Type 0} {old now new : Written} {r : Result (Unit {0}) E} (k : List ℕ) (words : List (List ℕ)) (i : ℕ)
+    → length words ≤ i → Writes r now new Token.end_array → Lacks old now (items_left string (drop i words)) (member_tokens k (list_of string words))
+    → Appends r old new (member_tokens k (words_data words))
+lacks_words_none {old} {new} {r} k words i passed w h =
+    subst (λ d. Appends r old new (member_tokens k d)) (list_of-words words) (lacks_items_none string words i passed w h)
+
+-- what is written behind nothing has the value's compact text
+pub compact : {E : Type 0} {old new : Written} {u : Unit {0}} {shown : List ℕ} (d : Data)
+    → old.tokens ≡ [] → Appends {E = E} (Ok u) old new (tokens_of d) → shown ≡ print new.tokens → shown ≡ compact_text d
+compact d empty e is = is ∙ ap print (e.tokens ∙ ap (λ ts. ts ++ tokens_of d) empty) ∙ print-outline d

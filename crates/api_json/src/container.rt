@@ -1,19 +1,20 @@
 // The text of a container (Docker Engine API v1.43, ContainerInspect).
-ghost use Rattle.std.specs.Prelude.{◌≡◌, ◌≤◌, IfOk};
-ghost use Rattle.serde_json.specs.View.{view};
+ghost use Rattle.std.specs.Prelude.{◌≡◌, ◌≤◌, ◌++◌, IfOk, codes};
 ghost use Rattle.engine_text.specs.Moment.{IsMoment};
 ghost use Rattle.api_json.specs.Container as spec;
+ghost use Rattle.api_json.specs.Values.{text};
 ghost use Rattle.api_json.specs.Views.{container_shown};
+ghost use Rattle.api_json.specs.Written.{Appends, tokens_of, member_tokens};
 
-use super::mount::mounts_value;
-use super::object::Object;
+use super::mount::mounts_member;
 use super::status::{is_dead, is_paused, is_restarting, status_word};
-use super::values::{
-    IMAGE_NAME, body_text, first_word, later_words, moment_value, name_value, pairs_value,
-    words_value,
+use super::values::{IMAGE_NAME, first_word, later_words, slash_name};
+use super::written::{
+    flag_member, integer_member, moment_member, number_member, pairs_member, text_member,
+    words_member, written_text,
 };
 use engine_text::{Mounts, NoMemory, Pairs, Policy, Signal, Status, Text, Words, signal_name};
-use serde_json::Value;
+use json::Writer;
 use std::alloc::{AllocError, Global};
 
 /// What the text of a container tells: moments in milliseconds, `stop_after` in seconds, and `pid`
@@ -60,46 +61,6 @@ fn most_retries(policy: &Policy) -> u32
     }
 }
 
-// What was asked of the container.
-fn config_value(alloc: Global, container: &ContainerView<'_>) -> Result<Value, AllocError>
-    ensures { IfOk result (λ v. view v ≡ spec.config_data (container_shown container.now)) }
-{
-    let words = words_value(alloc, container.words.as_slice())?;
-    let object = Object::new(alloc)
-        .with(alloc, "Cmd", words)?
-        .text(alloc, "Image", IMAGE_NAME)?;
-    let labels = pairs_value(alloc, container.labels.as_slice())?;
-    let object = object
-        .with(alloc, "Labels", labels)?
-        .flag(alloc, "OpenStdin", container.open_stdin)?
-        .flag(alloc, "StdinOnce", container.stdin_once)?
-        .text(alloc, "StopSignal", signal_name(container.stop_signal))?
-        .with(alloc, "StopTimeout", Value::from(container.stop_after))?
-        .flag(alloc, "Tty", false)?;
-    Ok(object.value())
-}
-
-// The restart policy.
-fn policy_value(alloc: Global, policy: &Policy) -> Result<Value, AllocError>
-    ensures { IfOk result (λ v. view v ≡ spec.policy_data policy.now) }
-{
-    let object = Object::new(alloc)
-        .number(alloc, "MaximumRetryCount", most_retries(policy) as u64)?
-        .text(alloc, "Name", policy_word(policy))?;
-    Ok(object.value())
-}
-
-// What was asked of the host.
-fn host_config_value(alloc: Global, policy: &Policy) -> Result<Value, AllocError>
-    ensures { IfOk result (λ v. view v ≡ spec.host_config_data policy.now) }
-{
-    let policy = policy_value(alloc, policy)?;
-    let object = Object::new(alloc)
-        .flag(alloc, "AutoRemove", false)?
-        .with(alloc, "RestartPolicy", policy)?;
-    Ok(object.value())
-}
-
 // Running: a process lives, or the status is restarting.
 fn is_running(pid: u64, status: Status) -> bool
     ensures { result ≡ spec.is_running pid status }
@@ -107,79 +68,115 @@ fn is_running(pid: u64, status: Status) -> bool
     pid != 0 || is_restarting(status)
 }
 
-// The state that the container is in.
-fn state_value(alloc: Global, container: &ContainerView<'_>) -> Result<Value, AllocError>
+// Writes what was asked of the container.
+fn config_member(
+    alloc: Global,
+    out: &mut Writer,
+    container: &ContainerView<'_>,
+) -> Result<(), AllocError>
+    ensures { Appends result out.old out.new
+        (member_tokens (codes "Config") (spec.config_data (container_shown container.now))) }
+{
+    out.key("Config")?;
+    out.begin_object()?;
+    words_member(out, "Cmd", container.words.as_slice())?;
+    text_member(out, "Image", IMAGE_NAME)?;
+    pairs_member(alloc, out, "Labels", container.labels.as_slice())?;
+    flag_member(out, "OpenStdin", container.open_stdin)?;
+    flag_member(out, "StdinOnce", container.stdin_once)?;
+    text_member(out, "StopSignal", signal_name(container.stop_signal))?;
+    integer_member(out, "StopTimeout", container.stop_after)?;
+    flag_member(out, "Tty", false)?;
+    out.end_object()
+}
+
+// Writes the restart policy.
+fn policy_member(out: &mut Writer, policy: &Policy) -> Result<(), AllocError>
+    ensures { Appends result out.old out.new
+        (member_tokens (codes "RestartPolicy") (spec.policy_data policy.now)) }
+{
+    out.key("RestartPolicy")?;
+    out.begin_object()?;
+    number_member(out, "MaximumRetryCount", u64::from(most_retries(policy)))?;
+    text_member(out, "Name", policy_word(policy))?;
+    out.end_object()
+}
+
+// Writes what was asked of the host.
+fn host_config_member(out: &mut Writer, policy: &Policy) -> Result<(), AllocError>
+    ensures { Appends result out.old out.new
+        (member_tokens (codes "HostConfig") (spec.host_config_data policy.now)) }
+{
+    out.key("HostConfig")?;
+    out.begin_object()?;
+    flag_member(out, "AutoRemove", false)?;
+    policy_member(out, policy)?;
+    out.end_object()
+}
+
+// Writes the state that the container is in.
+fn state_member(
+    alloc: Global,
+    out: &mut Writer,
+    container: &ContainerView<'_>,
+) -> Result<(), AllocError>
     requires started { IsMoment container.now.started }
     requires finished { IsMoment container.now.finished }
-    ensures { IfOk result (λ v. view v ≡ spec.state_data (container_shown container.now)) }
+    ensures { Appends result out.old out.new
+        (member_tokens (codes "State") (spec.state_data (container_shown container.now))) }
 {
-    let finished = moment_value(alloc, container.finished)?;
-    let object = Object::new(alloc)
-        .flag(alloc, "Dead", is_dead(container.status))?
-        .text(alloc, "Error", "")?
-        .number(alloc, "ExitCode", container.code as u64)?
-        .with(alloc, "FinishedAt", finished)?
-        .flag(alloc, "OOMKilled", false)?
-        .flag(alloc, "Paused", is_paused(container.status))?
-        .number(alloc, "Pid", container.pid)?
-        .flag(alloc, "Restarting", is_restarting(container.status))?
-        .flag(
-            alloc,
-            "Running",
-            is_running(container.pid, container.status),
-        )?;
-    let started = moment_value(alloc, container.started)?;
-    let object = object
-        .with(alloc, "StartedAt", started)?
-        .text(alloc, "Status", status_word(container.status))?;
-    Ok(object.value())
+    let status = container.status;
+    out.key("State")?;
+    out.begin_object()?;
+    flag_member(out, "Dead", is_dead(status))?;
+    text_member(out, "Error", "")?;
+    number_member(out, "ExitCode", u64::from(container.code))?;
+    moment_member(alloc, out, "FinishedAt", container.finished)?;
+    flag_member(out, "OOMKilled", false)?;
+    flag_member(out, "Paused", is_paused(status))?;
+    number_member(out, "Pid", container.pid)?;
+    flag_member(out, "Restarting", is_restarting(status))?;
+    flag_member(out, "Running", is_running(container.pid, status))?;
+    moment_member(alloc, out, "StartedAt", container.started)?;
+    text_member(out, "Status", status_word(status))?;
+    out.end_object()
 }
 
-// A container of these parts.
-fn container_object(
+// Writes the name of a container, with a slash before it.
+fn name_member(alloc: Global, out: &mut Writer, name: &str) -> Result<(), AllocError>
+    ensures { Appends result out.old out.new
+        (member_tokens (codes "Name") (text (codes "/" ++ name.now))) }
+{
+    let name = slash_name(alloc, name)?;
+    text_member(out, "Name", name.as_str())
+}
+
+// Writes a container.
+fn write_container(
     alloc: Global,
+    out: &mut Writer,
     container: &ContainerView<'_>,
-    config: Value,
-    host: Value,
-    state: Value,
-) -> Result<Value, AllocError>
-    requires { container.now.created ≤ 9_000_000_000_000 }
-    ensures { IfOk result (λ v. view v ≡ spec.container_object (container_shown container.now)
-        (view config) (view host) (view state)) }
-{
-    let words = container.words.as_slice();
-    let later = words_value(alloc, later_words(words))?;
-    let object = Object::new(alloc)
-        .with(alloc, "Args", later)?
-        .with(alloc, "Config", config)?;
-    let created = moment_value(alloc, Some(container.created))?;
-    let object = object
-        .with(alloc, "Created", created)?
-        .with(alloc, "HostConfig", host)?
-        .text(alloc, "Id", container.id)?
-        .text(alloc, "Image", IMAGE_NAME)?;
-    let mounts = mounts_value(alloc, container.mounts.as_slice())?;
-    let object = object.with(alloc, "Mounts", mounts)?;
-    let name = name_value(alloc, container.name)?;
-    let object = object
-        .with(alloc, "Name", name)?
-        .text(alloc, "Path", first_word(words))?
-        .number(alloc, "RestartCount", container.restarts)?
-        .with(alloc, "State", state)?;
-    Ok(object.value())
-}
-
-// A container.
-fn container_value(alloc: Global, container: &ContainerView<'_>) -> Result<Value, AllocError>
+) -> Result<(), AllocError>
     requires created { container.now.created ≤ 9_000_000_000_000 }
     requires started { IsMoment container.now.started }
     requires finished { IsMoment container.now.finished }
-    ensures { IfOk result (λ v. view v ≡ spec.container_data (container_shown container.now)) }
+    ensures { Appends result out.old out.new
+        (tokens_of (spec.container_data (container_shown container.now))) }
 {
-    let config = config_value(alloc, container)?;
-    let host = host_config_value(alloc, container.policy)?;
-    let state = state_value(alloc, container)?;
-    container_object(alloc, container, config, host, state)
+    let words = container.words.as_slice();
+    out.begin_object()?;
+    words_member(out, "Args", later_words(words))?;
+    config_member(alloc, out, container)?;
+    moment_member(alloc, out, "Created", Some(container.created))?;
+    host_config_member(out, container.policy)?;
+    text_member(out, "Id", container.id)?;
+    text_member(out, "Image", IMAGE_NAME)?;
+    mounts_member(alloc, out, "Mounts", container.mounts.as_slice())?;
+    name_member(alloc, out, container.name)?;
+    text_member(out, "Path", first_word(words))?;
+    number_member(out, "RestartCount", container.restarts)?;
+    state_member(alloc, out, container)?;
+    out.end_object()
 }
 
 /// The text of a container; its moments are at most 9,000,000,000,000.
@@ -189,6 +186,7 @@ pub fn container_body(alloc: Global, container: &ContainerView<'_>) -> Result<Te
     requires finished { IsMoment container.now.finished }
     ensures { IfOk result (λ text. text ≡ spec.container_text (container_shown container.now)) }
 {
-    let value = container_value(alloc, container)?;
-    body_text(alloc, &value)
+    let mut out = Writer::new(Vec::new(alloc));
+    write_container(alloc, &mut out, container)?;
+    Ok(written_text(out))
 }

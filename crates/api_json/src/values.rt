@@ -58,15 +58,6 @@ pub fn moment_string(alloc: Global, moment: Option<u64>) -> Result<String, Alloc
     String::from_str(alloc, text)
 }
 
-/// The text of a moment, or of none, as a value.
-pub fn moment_value(alloc: Global, moment: Option<u64>) -> Result<Value, AllocError>
-    requires { IsMoment moment }
-    ensures { IfOk result (λ v. view v ≡ spec.moment moment) }
-{
-    let text = moment_string(alloc, moment)?;
-    Ok(Value::String(text))
-}
-
 /// The first word, or the empty text.
 pub fn first_word(words: &[Text]) -> &str
     ensures { result.now ≡ spec.first_word words.now }
@@ -85,14 +76,6 @@ pub fn later_words(words: &[Text]) -> &[Text]
         [] => words,
         [_, later @ ..] => later,
     }
-}
-
-/// A name with a slash before it, as a value.
-pub fn name_value(alloc: Global, name: &str) -> Result<Value, AllocError>
-    ensures { IfOk result (λ v. view v ≡ spec.text (codes "/" ++ name.now)) }
-{
-    let text = slash_name(alloc, name)?;
-    Ok(Value::String(text))
 }
 
 /// A name with a slash before it.

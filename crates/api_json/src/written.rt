@@ -1,11 +1,13 @@
 // Bodies written token by token, with no tree of their values (RFC 8259).
 ghost use Rattle.std.specs.Prelude.{◌≡◌, [], IfOk};
 ghost use Rattle.json.specs.Print.{print};
-ghost use Rattle.json_laws.specs.Pairs.{pairs_members, put_pairs};
-ghost use Rattle.serde_json.specs.Data as json;
+ghost use Rattle.json_laws.specs.Pairs.{pairs_members, put_pairs, words_data};
+ghost use Rattle.serde_json.specs.Data.{boolean, no_members};
+ghost use Rattle.engine_text.specs.Moment.{IsMoment};
 ghost use Rattle.api_json.specs.Values as spec;
 ghost use Rattle.api_json.specs.Written.{Appends, member_tokens, lent_texts};
 
+use super::values::moment_string;
 use engine_text::{Pair, Text};
 use json::Writer;
 use std::alloc::{AllocError, Global};
@@ -27,18 +29,61 @@ pub fn number_member(out: &mut Writer, key: &str, number: u64) -> Result<(), All
     out.u64(number)
 }
 
+/// Writes a member that is a number, which may be below 0.
+pub fn integer_member(out: &mut Writer, key: &str, number: i32) -> Result<(), AllocError>
+    ensures { Appends result out.old out.new (member_tokens key.now (spec.integer number)) }
+{
+    out.key(key)?;
+    out.i64(i64::from(number))
+}
+
 /// Writes a member that is a truth value.
 pub fn flag_member(out: &mut Writer, key: &str, on: bool) -> Result<(), AllocError>
-    ensures { Appends result out.old out.new (member_tokens key.now (json.boolean on)) }
+    ensures { Appends result out.old out.new (member_tokens key.now (boolean on)) }
 {
     out.key(key)?;
     out.boolean(on)
 }
 
+/// Writes a member that is the text of a moment, or of none.
+pub fn moment_member(
+    alloc: Global,
+    out: &mut Writer,
+    key: &str,
+    moment: Option<u64>,
+) -> Result<(), AllocError>
+    requires { IsMoment moment }
+    ensures { Appends result out.old out.new (member_tokens key.now (spec.moment moment)) }
+{
+    let text = moment_string(alloc, moment)?;
+    text_member(out, key, text.as_str())
+}
+
+/// Writes a member that is the list without items.
+pub fn empty_list_member(out: &mut Writer, key: &str) -> Result<(), AllocError>
+    ensures { Appends result out.old out.new (member_tokens key.now spec.empty_list) }
+{
+    out.key(key)?;
+    out.begin_array()?;
+    out.end_array()
+}
+
+/// Writes a member that is the list of these words.
+pub fn words_member(out: &mut Writer, key: &str, words: &[Text]) -> Result<(), AllocError>
+    ensures { Appends result out.old out.new (member_tokens key.now (words_data words.now)) }
+{
+    out.key(key)?;
+    out.begin_array()?;
+    'words: for word in words {
+        out.string(word.as_str())?;
+    }
+    out.end_array()
+}
+
 // The values of pairs by their keys: of equal keys the last counts.
 fn by_key<'a>(alloc: Global, pairs: &'a [Pair]) -> Result<BTreeMap<&'a str, &'a str>, AllocError>
     ensures { IfOk result (λ m. pairs_members (lent_texts m.entries)
-        ≡ put_pairs (spec.pairs_of pairs.now) json.no_members) }
+        ≡ put_pairs (spec.pairs_of pairs.now) no_members) }
 {
     let mut map = BTreeMap::new(alloc);
     'pairs: for pair in pairs {
@@ -64,15 +109,6 @@ pub fn pairs_member(
         text_member(out, name, value)?;
     }
     out.end_object()
-}
-
-/// Writes a member that is the list without items.
-pub fn empty_list_member(out: &mut Writer, key: &str) -> Result<(), AllocError>
-    ensures { Appends result out.old out.new (member_tokens key.now spec.empty_list) }
-{
-    out.key(key)?;
-    out.begin_array()?;
-    out.end_array()
 }
 
 /// What was written, behind nothing, as a text; memory that it doesn't fill is given back.

@@ -1,8 +1,7 @@
-use Rattle.std.proofs.Common.{ap, ◌∙◌}
-use Rattle.serde_json.specs.Written.{has_float}
+use Rattle.api_json.specs.Container.{container_data}
 use Rattle.api_json.specs.Views.{container_shown}
-use Rattle.api_json.proofs.FloatLemmas.{no_float-container}
+use Rattle.api_json.proofs.WrittenLemmas.{compact}
 use Rattle.api_json.proofs.container.container_body.Goals as goal
 
-pub body_text-requires : goal.body_text-requires
-body_text-requires c = ap has_float c.in_ok-value.ensures ∙ no_float-container (container_shown c.args.container.now)
+pub returns : goal.returns
+returns c = compact (container_data (container_shown c.args.container.now)) c.new-out.ensures.tokens c.in_ok-write_container.ensures c.written_text.ensures

@@ -1,9 +1,7 @@
-use Rattle.std.proofs.Common.{ap, ◌∙◌}
-use Rattle.json.specs.Print.{print}
-use Rattle.serde_json.proofs.Texts.{print-outline}
+use Rattle.std.proofs.Common.{refl}
 use Rattle.api_json.specs.List.{listed_data}
 use Rattle.api_json.specs.Values.{list_of}
-use Rattle.api_json.proofs.WrittenLemmas.{lacks_item_less, lacks_items_none}
+use Rattle.api_json.proofs.WrittenLemmas.{lacks_item_less, lacks_items_none, compact}
 use Rattle.api_json.proofs.list.list_body.Goals as goal
 
 pub items-preserved : goal.items-preserved
@@ -13,4 +11,4 @@ items-preserved c =
 pub returns : goal.returns
 returns c =
     let all = lacks_items_none listed_data c.args.items.now c.items.item-index c.items-test.false c.in_ok-end_array.ensures c.items.invariant in
-    c.written_text.ensures ∙ ap print all.tokens ∙ print-outline (list_of listed_data c.args.items.now)
+    compact (list_of listed_data c.args.items.now) refl all c.written_text.ensures
