@@ -3,5 +3,5 @@ mod ValueLemmas
 mod FloatLemmas
 mod WrittenLemmas
 mod DecimalLemmas
-mod EventLemmas
+pub mod EventLemmas
 mod StandardFacts

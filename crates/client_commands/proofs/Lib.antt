@@ -1,4 +1,3 @@
-pub mod EventBackLemmas
 pub mod AskedLemmas
 pub mod PrintLemmas
 pub mod WatchLemmas

@@ -20,7 +20,7 @@ use Rattle.api_json.specs.Event.{IsLine, IsLineRefusal, event_of, event_data, ev
 use Rattle.api_json.specs.declared.fault.Refused.{Refused}
 use Rattle.api_json.specs.declared.fault.Refused.TheVariants.{BadBody}
 use Rattle.api_json.specs.declared.fault.BodyFault.{BodyFault}
-use Rattle.client_commands.proofs.EventBackLemmas.{sound, event_back}
+use Rattle.api_json.proofs.EventLemmas.{sound, event_back}
 use Rattle.event_ring.specs.Fold.{fold_kind, fold_on, fold_of}
 use Rattle.machine_model.specs.History.{greatest_moment}
 use Rattle.client_model.specs.Streams.{is_event_utf8, if_line, event_in, events_of_lines, events_in}
