@@ -1,17 +1,11 @@
 -- The data of bodies have no float.
-use Rattle.std.proofs.Common.{◌≡◌, ◌||◌, List, [], ◌∷◌, Bool, false, Option, Some, None, drop, refl, ap, ℕ}
+use Rattle.std.proofs.Common.{◌≡◌, ◌||◌, List, [], ◌∷◌, Bool, false, refl, ap}
 use Rattle.serde_json.specs.Data.{Data}
 use Rattle.serde_json.specs.Written.{has_float}
-use Rattle.json_laws.specs.Pairs.{words_data}
 use Rattle.json_laws.proofs.NoFloat.{no_float-pairs_data}
 use Rattle.engine_text.specs.declared.listed.ListedVolume.{ListedVolume}
 use Rattle.api_json.specs.Values.{list_of, pairs_of}
 use Rattle.api_json.specs.Volume.{volume_data, volumes_object}
-use Rattle.api_json.specs.Exec.{ExecParts, code_data, exec_data}
-
-pub no_float-words : (ws : List (List ℕ)) → has_float (words_data ws) ≡ false
-no_float-words [] = refl
-no_float-words (w ∷ ws) = no_float-words ws
 
 -- of things that have none, the list has none
 pub no_float-list : {A : Type 0} (f : A → Data) (xs : List A) → ((x : A) → has_float (f x) ≡ false) → has_float (list_of f xs) ≡ false
@@ -23,10 +17,3 @@ no_float-volume v = ap (λ (b : Bool). b || false) (no_float-pairs_data (pairs_o
 
 pub no_float-volumes : (vs : List ListedVolume) → has_float (volumes_object (list_of volume_data vs)) ≡ false
 no_float-volumes vs = ap (λ (b : Bool). b || false) (no_float-list volume_data vs no_float-volume)
-
-code_or_null : (o : Option ℕ) → has_float (code_data o) ≡ false
-code_or_null None = refl
-code_or_null (Some code) = refl
-
-pub no_float-exec : (x : ExecParts) → has_float (exec_data x) ≡ false
-no_float-exec x = rw (code_or_null x.code, no_float-words (drop 1 x.words)) refl

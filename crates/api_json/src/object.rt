@@ -43,14 +43,6 @@ impl Object {
         self.with(alloc, key, value)
     }
 
-    /// With this truth value.
-    pub fn flag(self, alloc: Global, key: &str, on: bool) -> Result<Object, AllocError>
-        ensures { IfOk result
-            (λ o. members_in o ≡ json.put key.now (json.boolean on) (members_in self)) }
-    {
-        self.with(alloc, key, Value::Bool(on))
-    }
-
     /// With this number.
     pub fn number(self, alloc: Global, key: &str, number: u64) -> Result<Object, AllocError>
         ensures { IfOk result

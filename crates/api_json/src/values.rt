@@ -2,7 +2,6 @@
 ghost use Rattle.std.specs.Prelude.{◌≡◌, ◌++◌, IfOk, string_bytes, false, drop, codes};
 ghost use Rattle.serde_json.specs.View.{view};
 ghost use Rattle.serde_json.specs.Written.{has_float, compact_text};
-ghost use Rattle.json_laws.specs.Pairs.{words_data};
 ghost use Rattle.engine_text.specs.Moment.{moment_text as text_of_moment, IsMoment};
 ghost use Rattle.api_json.specs.Values as spec;
 
@@ -20,17 +19,6 @@ pub fn body_text(alloc: Global, value: &Value) -> Result<Text, NoMemory>
 {
     let text = value.to_string(alloc)?;
     Ok(Text::from_string(text))
-}
-
-/// The list of these words.
-pub fn words_value(alloc: Global, words: &[Text]) -> Result<Value, AllocError>
-    ensures { IfOk result (λ v. view v ≡ words_data words.now) }
-{
-    let mut items = Vec::new(alloc);
-    'words: for word in words {
-        items.push(Value::try_from_str(alloc, word.as_str())?)?;
-    }
-    Ok(Value::Array(items))
 }
 
 /// The object of these pairs, each key with its last value.

@@ -22,8 +22,10 @@ pub struct VolumeSpec {
 // The name of the volume.
 fn volume_name(body: &Value) -> Result<&str, BodyFault>
     ensures { MatchResult result
-        (λ name. and_then (needed_text BodyKey.Name (view body.now)) spec.volume_named ≡ Ok name.now)
-        (λ fault. and_then (needed_text BodyKey.Name (view body.now)) spec.volume_named ≡ Err fault) }
+        (λ name. and_then (needed_text BodyKey.Name (view body.now)) spec.volume_named
+        ≡ Ok name.now)
+        (λ fault. and_then (needed_text BodyKey.Name (view body.now)) spec.volume_named
+        ≡ Err fault) }
 {
     let name = needed_text(body, BodyKey::Name)?;
     if is_volume_name(name) {

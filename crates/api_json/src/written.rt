@@ -2,7 +2,7 @@
 ghost use Rattle.std.specs.Prelude.{◌≡◌, [], IfOk};
 ghost use Rattle.json.specs.Print.{print};
 ghost use Rattle.json_laws.specs.Pairs.{pairs_members, put_pairs, words_data};
-ghost use Rattle.serde_json.specs.Data.{boolean, no_members};
+ghost use Rattle.serde_json.specs.Data.{boolean, no_members, null};
 ghost use Rattle.engine_text.specs.Moment.{IsMoment};
 ghost use Rattle.api_json.specs.Values as spec;
 ghost use Rattle.api_json.specs.Written.{Appends, member_tokens, lent_texts};
@@ -43,6 +43,14 @@ pub fn flag_member(out: &mut Writer, key: &str, on: bool) -> Result<(), AllocErr
 {
     out.key(key)?;
     out.boolean(on)
+}
+
+/// Writes a member that is null.
+pub fn null_member(out: &mut Writer, key: &str) -> Result<(), AllocError>
+    ensures { Appends result out.old out.new (member_tokens key.now null) }
+{
+    out.key(key)?;
+    out.null()
 }
 
 /// Writes a member that is the text of a moment, or of none.

@@ -1,8 +1,7 @@
-use Rattle.std.proofs.Common.{ap, ◌∙◌}
-use Rattle.serde_json.specs.Written.{has_float}
+use Rattle.api_json.specs.Exec.{exec_data}
 use Rattle.api_json.specs.Views.{exec_shown}
-use Rattle.api_json.proofs.FloatLemmas.{no_float-exec}
+use Rattle.api_json.proofs.WrittenLemmas.{compact}
 use Rattle.api_json.proofs.exec.exec_body.Goals as goal
 
-pub body_text-requires : goal.body_text-requires
-body_text-requires c = ap has_float c.in_ok-value.ensures ∙ no_float-exec (exec_shown c.args.exec.now)
+pub returns : goal.returns
+returns c = compact (exec_data (exec_shown c.args.exec.now)) c.new-out.ensures.tokens c.in_ok-write_exec.ensures c.written_text.ensures

@@ -1,0 +1,14 @@
+use Rattle.std.proofs.Common.{refl}
+use Rattle.api_json.proofs.WrittenLemmas.{lacks_all, lacks_less, lacks_one_less, lacks_none}
+use Rattle.api_json.proofs.exec.process_member.Goals as goal
+
+pub returns : goal.returns
+returns c =
+    lacks_none c.end_object.ensures
+    (lacks_less c.in_ok-flag_member-2.ensures
+    (lacks_less c.in_ok-flag_member.ensures
+    (lacks_less c.in_ok-text_member.ensures
+    (lacks_less c.in_ok-words_member.ensures
+    (lacks_one_less c.in_ok-begin_object.ensures
+    (lacks_one_less c.in_ok-key.ensures
+    (lacks_all (rw (c.later_words.ensures, c.first_word.ensures) refl))))))))
