@@ -1,15 +1,17 @@
 // The texts of volumes (Docker Engine API v1.43, VolumeInspect and VolumeList).
-ghost use Rattle.std.specs.Prelude.{◌≡◌, ◌≤◌, IfOk, All};
-ghost use Rattle.serde_json.specs.View.{view};
-ghost use Rattle.api_json.specs.Values.{list_of};
+ghost use Rattle.std.specs.Prelude.{◌≡◌, ◌≤◌, IfOk, All, codes};
+ghost use Rattle.api_json.specs.Mount.{source_of};
+ghost use Rattle.api_json.specs.Values.{list_of, text};
 ghost use Rattle.api_json.specs.Views.{volume_shown};
 ghost use Rattle.api_json.specs.Volume as spec;
+ghost use Rattle.api_json.specs.Written.{Appends, tokens_of, member_tokens};
 
 use super::mount::source_of;
-use super::object::Object;
-use super::values::{body_text, moment_string, pairs_value};
+use super::written::{
+    empty_list_member, empty_object_member, moment_member, pairs_member, text_member, written_text,
+};
 use engine_text::{ListedVolume, NoMemory, Pairs, Text};
-use serde_json::Value;
+use json::Writer;
 use std::alloc::{AllocError, Global};
 
 /// What the text of a volume tells; `created` is a moment in milliseconds.
@@ -20,43 +22,30 @@ pub struct VolumeView<'a> {
     pub created: u64,
 }
 
-// The object of a volume's parts.
-fn volume_object(
-    alloc: Global,
-    created: &str,
-    labels: Value,
-    source: &str,
-    name: &str,
-) -> Result<Value, AllocError>
-    ensures { IfOk result
-        (λ v. view v ≡ spec.volume_object created.now (view labels) source.now name.now) }
+// Writes where the data of the volume of this name lie.
+fn mount_point_member(alloc: Global, out: &mut Writer, name: &str) -> Result<(), AllocError>
+    ensures { Appends result out.old out.new
+        (member_tokens (codes "Mountpoint") (text (source_of name.now))) }
 {
-    let object = Object::new(alloc)
-        .text(alloc, "CreatedAt", created)?
-        .text(alloc, "Driver", "local")?
-        .with(alloc, "Labels", labels)?
-        .text(alloc, "Mountpoint", source)?
-        .text(alloc, "Name", name)?
-        .with(alloc, "Options", Object::new(alloc).value())?
-        .text(alloc, "Scope", "local")?;
-    Ok(object.value())
+    let source = source_of(alloc, name)?;
+    text_member(out, "Mountpoint", source.as_str())
 }
 
-// A volume.
-fn volume_value(alloc: Global, volume: &VolumeView<'_>) -> Result<Value, AllocError>
+// Writes a volume.
+fn write_volume(alloc: Global, out: &mut Writer, volume: &VolumeView<'_>) -> Result<(), AllocError>
     requires { volume.now.created ≤ 9_000_000_000_000 }
-    ensures { IfOk result (λ v. view v ≡ spec.volume_data (volume_shown volume.now)) }
+    ensures { Appends result out.old out.new
+        (tokens_of (spec.volume_data (volume_shown volume.now))) }
 {
-    let created = moment_string(alloc, Some(volume.created))?;
-    let labels = pairs_value(alloc, volume.labels.as_slice())?;
-    let source = source_of(alloc, volume.name)?;
-    volume_object(
-        alloc,
-        created.as_str(),
-        labels,
-        source.as_str(),
-        volume.name,
-    )
+    out.begin_object()?;
+    moment_member(alloc, out, "CreatedAt", Some(volume.created))?;
+    text_member(out, "Driver", "local")?;
+    pairs_member(alloc, out, "Labels", volume.labels.as_slice())?;
+    mount_point_member(alloc, out, volume.name)?;
+    text_member(out, "Name", volume.name)?;
+    empty_object_member(out, "Options")?;
+    text_member(out, "Scope", "local")?;
+    out.end_object()
 }
 
 /// The text of a volume; its moment is at most 9,000,000,000,000.
@@ -64,43 +53,56 @@ pub fn volume_body(alloc: Global, volume: &VolumeView<'_>) -> Result<Text, NoMem
     requires { volume.now.created ≤ 9_000_000_000_000 }
     ensures { IfOk result (λ text. text ≡ spec.volume_text (volume_shown volume.now)) }
 {
-    let value = volume_value(alloc, volume)?;
-    body_text(alloc, &value)
+    let mut out = Writer::new(Vec::new(alloc));
+    write_volume(alloc, &mut out, volume)?;
+    Ok(written_text(out))
 }
 
-// A volume of a list.
-fn listed_value(alloc: Global, item: &ListedVolume) -> Result<Value, AllocError>
+// Writes a volume of a list.
+fn write_listed(alloc: Global, out: &mut Writer, item: &ListedVolume) -> Result<(), AllocError>
     requires { item.now.created ≤ 9_000_000_000_000 }
-    ensures { IfOk result (λ v. view v ≡ spec.volume_data item.now) }
+    ensures { Appends result out.old out.new (tokens_of (spec.volume_data item.now)) }
 {
     let volume = VolumeView {
         name: item.name.as_str(),
         labels: &item.labels,
         created: item.created,
     };
-    volume_value(alloc, &volume)
+    write_volume(alloc, out, &volume)
 }
 
-// The list of these volumes.
-fn list_value(alloc: Global, volumes: &[ListedVolume]) -> Result<Value, AllocError>
+// Writes the volumes of a list.
+fn volumes_member(
+    alloc: Global,
+    out: &mut Writer,
+    volumes: &[ListedVolume],
+) -> Result<(), AllocError>
     requires { All (λ v. v.created ≤ 9_000_000_000_000) volumes.now }
-    ensures { IfOk result (λ v. view v ≡ list_of spec.volume_data volumes.now) }
+    ensures { Appends result out.old out.new
+        (member_tokens (codes "Volumes") (list_of spec.volume_data volumes.now)) }
 {
-    let mut items = Vec::new(alloc);
+    out.key("Volumes")?;
+    out.begin_array()?;
     'volumes: for volume in volumes {
-        items.push(listed_value(alloc, volume)?)?;
+        write_listed(alloc, out, volume)?;
     }
-    Ok(Value::Array(items))
+    out.end_array()
 }
 
-// The object of a list of volumes.
-fn volumes_object(alloc: Global, volumes: Value) -> Result<Value, AllocError>
-    ensures { IfOk result (λ v. view v ≡ spec.volumes_object (view volumes)) }
+// Writes a list of volumes, without warnings.
+fn write_volumes(
+    alloc: Global,
+    out: &mut Writer,
+    volumes: &[ListedVolume],
+) -> Result<(), AllocError>
+    requires { All (λ v. v.created ≤ 9_000_000_000_000) volumes.now }
+    ensures { Appends result out.old out.new
+        (tokens_of (spec.volumes_object (list_of spec.volume_data volumes.now))) }
 {
-    let object = Object::new(alloc)
-        .with(alloc, "Volumes", volumes)?
-        .with(alloc, "Warnings", Value::Array(Vec::new(alloc)))?;
-    Ok(object.value())
+    out.begin_object()?;
+    volumes_member(alloc, out, volumes)?;
+    empty_list_member(out, "Warnings")?;
+    out.end_object()
 }
 
 /// The text of a list of volumes, as they stand; their moments are at most 9,000,000,000,000.
@@ -108,7 +110,7 @@ pub fn volumes_body(alloc: Global, volumes: &[ListedVolume]) -> Result<Text, NoM
     requires { All (λ v. v.created ≤ 9_000_000_000_000) volumes.now }
     ensures { IfOk result (λ text. text ≡ spec.volumes_text volumes.now) }
 {
-    let list = list_value(alloc, volumes)?;
-    let value = volumes_object(alloc, list)?;
-    body_text(alloc, &value)
+    let mut out = Writer::new(Vec::new(alloc));
+    write_volumes(alloc, &mut out, volumes)?;
+    Ok(written_text(out))
 }

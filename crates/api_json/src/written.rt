@@ -2,7 +2,7 @@
 ghost use Rattle.std.specs.Prelude.{◌≡◌, [], IfOk};
 ghost use Rattle.json.specs.Print.{print};
 ghost use Rattle.json_laws.specs.Pairs.{pairs_members, put_pairs, words_data};
-ghost use Rattle.serde_json.specs.Data.{boolean, no_members, null};
+ghost use Rattle.serde_json.specs.Data.{boolean, no_members, null, object};
 ghost use Rattle.engine_text.specs.Moment.{IsMoment};
 ghost use Rattle.api_json.specs.Values as spec;
 ghost use Rattle.api_json.specs.Written.{Appends, member_tokens, lent_texts};
@@ -74,6 +74,15 @@ pub fn empty_list_member(out: &mut Writer, key: &str) -> Result<(), AllocError>
     out.key(key)?;
     out.begin_array()?;
     out.end_array()
+}
+
+/// Writes a member that is the object without members.
+pub fn empty_object_member(out: &mut Writer, key: &str) -> Result<(), AllocError>
+    ensures { Appends result out.old out.new (member_tokens key.now (object no_members)) }
+{
+    out.key(key)?;
+    out.begin_object()?;
+    out.end_object()
 }
 
 /// Writes a member that is the list of these words.

@@ -1,8 +1,7 @@
-use Rattle.std.proofs.Common.{ap, ◌∙◌}
-use Rattle.serde_json.specs.Written.{has_float}
 use Rattle.api_json.specs.Views.{volume_shown}
-use Rattle.api_json.proofs.FloatLemmas.{no_float-volume}
+use Rattle.api_json.specs.Volume.{volume_data}
+use Rattle.api_json.proofs.WrittenLemmas.{compact}
 use Rattle.api_json.proofs.volume.volume_body.Goals as goal
 
-pub body_text-requires : goal.body_text-requires
-body_text-requires c = ap has_float c.in_ok-value.ensures ∙ no_float-volume (volume_shown c.args.volume.now)
+pub returns : goal.returns
+returns c = compact (volume_data (volume_shown c.args.volume.now)) c.new-out.ensures.tokens c.in_ok-write_volume.ensures c.written_text.ensures

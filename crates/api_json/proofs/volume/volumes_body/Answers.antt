@@ -1,9 +1,8 @@
-use Rattle.std.proofs.Common.{ap, ◌∙◌}
-use Rattle.serde_json.specs.Written.{has_float}
-use Rattle.api_json.specs.Volume.{volumes_object}
-use Rattle.api_json.proofs.FloatLemmas.{no_float-volumes}
+use Rattle.api_json.specs.Values.{list_of}
+use Rattle.api_json.specs.Volume.{volume_data, volumes_object}
+use Rattle.api_json.proofs.WrittenLemmas.{compact}
 use Rattle.api_json.proofs.volume.volumes_body.Goals as goal
 
-pub body_text-requires : goal.body_text-requires
-body_text-requires c =
-    ap has_float (c.in_ok-value.ensures ∙ ap volumes_object c.in_ok-list.ensures) ∙ no_float-volumes c.args.volumes.now
+pub returns : goal.returns
+returns c =
+    compact (volumes_object (list_of volume_data c.args.volumes.now)) c.new-out.ensures.tokens c.in_ok-write_volumes.ensures c.written_text.ensures
