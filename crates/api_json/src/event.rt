@@ -1,49 +1,50 @@
 // The lines of events (Docker Engine API v1.43, SystemEvents).
-ghost use Rattle.std.specs.Prelude.{◌≡◌, ◌≤◌, IfOk, IfErr, true};
+ghost use Rattle.std.specs.Prelude.{◌≡◌, ◌≤◌, IfOk, IfErr, true, codes};
 ghost use Rattle.std.specs.Option.{option_map};
 ghost use Rattle.serde_json.specs.Data.{object};
 ghost use Rattle.serde_json.specs.View.{view};
 ghost use Rattle.api_json.specs.Event as spec;
 ghost use Rattle.api_json.specs.EventRules.{attributes_fit as fit};
+ghost use Rattle.api_json.specs.Written.{Appends, tokens_of, member_tokens};
 
 use super::event_rules::{action_word, attributes_fit, kind_word, read_action, read_kind};
 use super::fault::{BodyFault, Refused};
 use super::lists::read_pairs;
-use super::object::Object;
-use super::values::pairs_value;
+use super::written::{number_member, pairs_member, text_member, written_line};
 use engine_text::{Bytes, Event, NoMemory, Text};
-use json_laws::{line_of_value, value_of_line};
+use json::Writer;
+use json_laws::value_of_line;
 use serde_json::Value;
 use std::alloc::{AllocError, Global};
 
 /// The greatest moment, in milliseconds.
 const GREATEST_MOMENT: u64 = 9_000_000_000_000;
 
-// What an event is of.
-fn actor_value(alloc: Global, event: &Event) -> Result<Value, AllocError>
-    ensures { IfOk result (λ v. view v ≡ object (spec.actor_members event.now)) }
+// Writes what an event is of.
+fn actor_member(alloc: Global, out: &mut Writer, event: &Event) -> Result<(), AllocError>
+    ensures { Appends result out.old out.new
+        (member_tokens (codes "Actor") (object (spec.actor_members event.now))) }
 {
-    let attributes = pairs_value(alloc, event.attributes.as_slice())?;
-    let object = Object::new(alloc)
-        .with(alloc, "Attributes", attributes)?
-        .text(alloc, "ID", event.id.as_str())?;
-    Ok(object.value())
+    out.key("Actor")?;
+    out.begin_object()?;
+    pairs_member(alloc, out, "Attributes", event.attributes.as_slice())?;
+    text_member(out, "ID", event.id.as_str())?;
+    out.end_object()
 }
 
-// The value of an event.
-fn event_value(alloc: Global, event: &Event) -> Result<Value, AllocError>
+// Writes an event.
+fn write_event(alloc: Global, out: &mut Writer, event: &Event) -> Result<(), AllocError>
     requires { event.now.moment ≤ 9_000_000_000_000 }
-    ensures { IfOk result (λ v. view v ≡ spec.event_data event.now) }
+    ensures { Appends result out.old out.new (tokens_of (spec.event_data event.now)) }
 {
-    let actor = actor_value(alloc, event)?;
-    let object = Object::new(alloc)
-        .text(alloc, "Action", action_word(event.action))?
-        .with(alloc, "Actor", actor)?
-        .text(alloc, "Type", kind_word(event.kind))?
-        .text(alloc, "scope", "local")?
-        .number(alloc, "time", event.moment / 1_000)?
-        .number(alloc, "timeNano", event.moment * 1_000_000)?;
-    Ok(object.value())
+    out.begin_object()?;
+    text_member(out, "Action", action_word(event.action))?;
+    actor_member(alloc, out, event)?;
+    text_member(out, "Type", kind_word(event.kind))?;
+    text_member(out, "scope", "local")?;
+    number_member(out, "time", event.moment / 1_000)?;
+    number_member(out, "timeNano", event.moment * 1_000_000)?;
+    out.end_object()
 }
 
 // The line of an event, as bytes that are compared.
@@ -51,8 +52,9 @@ fn line_of(alloc: Global, event: &Event) -> Result<Vec<u8>, AllocError>
     requires { event.now.moment ≤ 9_000_000_000_000 }
     ensures { IfOk result (λ line. line.items ≡ spec.event_line_text event.now) }
 {
-    let value = event_value(alloc, event)?;
-    line_of_value(alloc, &value)
+    let mut out = Writer::new(Vec::new(alloc));
+    write_event(alloc, &mut out, event)?;
+    written_line(out)
 }
 
 /// The line of an event, with its line end; the moment is at most 9,000,000,000,000.

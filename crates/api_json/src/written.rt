@@ -1,5 +1,5 @@
 // Bodies written token by token, with no tree of their values (RFC 8259).
-ghost use Rattle.std.specs.Prelude.{◌≡◌, [], IfOk};
+ghost use Rattle.std.specs.Prelude.{◌≡◌, ◌++◌, [], ◌∷◌, IfOk};
 ghost use Rattle.json.specs.Print.{print};
 ghost use Rattle.json_laws.specs.Pairs.{pairs_members, put_pairs, words_data};
 ghost use Rattle.serde_json.specs.Data.{boolean, no_members, null, object};
@@ -139,4 +139,16 @@ pub fn written_text(out: Writer) -> Text
         Ok(text) => Text::from_string(text),
         Err(_) => unreachable!(),
     }
+}
+
+/// What was written, behind nothing, as a line: its text and a line end; memory that it doesn't
+/// fill is given back.
+pub fn written_line(out: Writer) -> Result<Vec<u8>, AllocError>
+    requires { out.before ≡ [] }
+    ensures { IfOk result (λ line. line.items ≡ print out.tokens ++ 10 ∷ []) }
+{
+    let mut line = out.into_inner();
+    line.push(b'\n')?;
+    line.shrink_to_fit();
+    Ok(line)
 }

@@ -1,9 +1,11 @@
-use Rattle.std.proofs.Common.{◌||◌, Bool, false, ap, ◌∙◌}
-use Rattle.serde_json.specs.Written.{has_float}
-use Rattle.json_laws.proofs.NoFloat.{no_float-pairs_data}
-use Rattle.api_json.specs.Values.{pairs_of}
+use Rattle.std.proofs.Common.{◌≡◌, ℕ, List, [], ◌∷◌, ◌++◌, IfOk, refl, subst}
+use Rattle.json_laws.specs.Sound.{line_text}
+use Rattle.api_json.specs.Event.{event_data}
+use Rattle.api_json.proofs.WrittenLemmas.{compact}
 use Rattle.api_json.proofs.event.line_of.Goals as goal
 
-pub line_of_value-requires : goal.line_of_value-requires
-line_of_value-requires c =
-    ap has_float c.in_ok-value.ensures ∙ ap (λ (b : Bool). (b || false) || false) (no_float-pairs_data (pairs_of c.args.event.now.attributes))
+pub returns : goal.returns
+unfolding line_text
+returns c =
+    let text = compact (event_data c.args.event.now) c.new-out.ensures.tokens c.in_ok-write_event.ensures refl in
+    subst (λ (t : List ℕ). IfOk c.written_line.result (λ line. line.items ≡ t ++ 10 ∷ [])) text c.written_line.ensures
