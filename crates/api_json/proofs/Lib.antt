@@ -1,6 +1,4 @@
 mod ListLemmas
-mod ValueLemmas
-mod FloatLemmas
 mod WrittenLemmas
 mod DecimalLemmas
 pub mod EventLemmas

@@ -9,14 +9,13 @@ use Rattle.json.specs.Print.{print}
 use Rattle.json.specs.Token.{Token}
 use Rattle.json.specs.Tree.{items_tokens}
 use Rattle.json.specs.Written.{Written, Writes}
-use Rattle.serde_json.specs.Data.{Data, Members, string, put}
+use Rattle.serde_json.specs.Data.{Data, Members, string, array, item, put}
 use Rattle.serde_json.specs.View.{items_of}
 use Rattle.serde_json.specs.Written.{items_outline, compact_text}
 use Rattle.serde_json.proofs.Texts.{print-outline}
-use Rattle.json_laws.specs.Pairs.{pairs_members, words_data}
+use Rattle.json_laws.specs.Pairs.{pairs_members, words_items, words_data}
 use Rattle.api_json.specs.Values.{list_of}
 use Rattle.api_json.specs.Written.{Appends, tokens_of, member_tokens, lent_texts}
-use Rattle.api_json.proofs.ValueLemmas.{list_of-words}
 
 abbrev Entry : Type 0
 Entry = Bor (List ℕ) × Bor (List ℕ)
@@ -92,6 +91,14 @@ pub lacks_items_none : {A E : Type 0} {old now new : Written} {r : Result (Unit 
     → length xs ≤ i → Writes r now new Token.end_array → Lacks old now (items_left f (drop i xs)) all → Appends r old new all
 lacks_items_none {old} {now} {all} f xs i passed w h =
     lacks_none w (subst (λ rest. Lacks old now rest all) (at_drop_all (items_left f) xs i passed) h)
+
+words_shown : (words : List (List ℕ)) → items_of (map string words) ≡ words_items words
+words_shown [] = refl
+words_shown (word ∷ words) = ap (item (string word)) (words_shown words)
+
+-- words are the list of their texts
+list_of-words : (words : List (List ℕ)) → list_of string words ≡ words_data words
+list_of-words words = ap array (words_shown words)
 
 -- every text is written
 pub lacks_words_none : {E : Type 0} {old now new : Written} {r : Result (Unit {0}) E} (k : List ℕ) (words : List (List ℕ)) (i : ℕ)

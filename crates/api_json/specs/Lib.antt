@@ -17,5 +17,4 @@ pub mod MountForms
 pub mod HostConfig
 pub mod Create
 pub mod Views
-pub mod Object
 pub mod Written

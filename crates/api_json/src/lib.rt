@@ -15,7 +15,6 @@ mod list;
 mod lists;
 mod mount;
 mod mount_forms;
-mod object;
 mod status;
 mod values;
 mod volume;

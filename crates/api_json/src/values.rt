@@ -1,38 +1,13 @@
-// Pieces of bodies as JSON values.
-ghost use Rattle.std.specs.Prelude.{◌≡◌, ◌++◌, IfOk, string_bytes, false, drop, codes};
-ghost use Rattle.serde_json.specs.View.{view};
-ghost use Rattle.serde_json.specs.Written.{has_float, compact_text};
+// Pieces of bodies: texts, words and names.
+ghost use Rattle.std.specs.Prelude.{◌≡◌, ◌++◌, IfOk, string_bytes, drop, codes};
 ghost use Rattle.engine_text.specs.Moment.{moment_text as text_of_moment, IsMoment};
 ghost use Rattle.api_json.specs.Values as spec;
 
-use engine_text::{NoMemory, Pair, Text, moment_text};
-use serde_json::{Map, Value};
+use engine_text::{Text, moment_text};
 use std::alloc::{AllocError, Global};
 
 /// The name of the one image.
 pub const IMAGE_NAME: &str = "engine/tools:latest";
-
-/// The compact text of a value without a float.
-pub fn body_text(alloc: Global, value: &Value) -> Result<Text, NoMemory>
-    requires { has_float (view value.now) ≡ false }
-    ensures { IfOk result (λ text. text ≡ compact_text (view value.now)) }
-{
-    let text = value.to_string(alloc)?;
-    Ok(Text::from_string(text))
-}
-
-/// The object of these pairs, each key with its last value.
-pub fn pairs_value(alloc: Global, pairs: &[Pair]) -> Result<Value, AllocError>
-    ensures { IfOk result (λ v. view v ≡ spec.pairs_object pairs.now) }
-{
-    let mut map = Map::new(alloc);
-    'pairs: for pair in pairs {
-        let key = String::from_str(alloc, pair.key.as_str())?;
-        let value = Value::try_from_str(alloc, pair.value.as_str())?;
-        map.insert(key, value)?;
-    }
-    Ok(Value::Object(map))
-}
 
 /// The text of a moment, or of none.
 pub fn moment_string(alloc: Global, moment: Option<u64>) -> Result<String, AllocError>
