@@ -64,7 +64,7 @@ unprinted : (plan : Plan) (text : List ℕ) (status : ℕ) (x : Failed) (link : 
 unprinted plan text status x link u u' e is broke =
     subst (λ p. StopsBefore p F.Output (reach link u e) (reach link u' e)) (sym is)
     (let b = out_failed x text u u' e broke in
-    record { missed = record { coming = refl; past = refl; others = refl }; began = b.0; cause = inl (b.1, refl) })
+    record { missed = record { coming = refl; past = refl; others = refl; faults = refl }; began = b.0; cause = inl b.1; unfailed = inr tt })
 
 pub line_printed : (line : List ℕ) (x : Unit {0}) (link : LinkView) (u u' e : SinkView) → WriteSays (Ok x) (line ++ codes "\n") u u' → Prints (prints line done) (Ok 0) (reach link u e) (reach link u' e)
 line_printed line x link u u' e took = printed (prints line done) (line ++ codes "\n") 0 x link u u' e (prints_so line) took
@@ -111,7 +111,7 @@ lines_as lines lines' status result o o' is p = prints_come (prints_all lines' (
 -- memory was refused before anything was printed
 pub comes_short : (plan : Plan) (o : Reach) → Comes plan (Err F.NoMemory) o o
 comes_short plan o =
-    inr (inl (record { missed = record { coming = refl; past = refl; others = refl }; began = began_none o.shown (said_by plan None []).written; cause = inl (tt, refl) }))
+    inr (inl (record { missed = record { coming = refl; past = refl; others = refl; faults = refl }; began = began_none o.shown (said_by plan None []).written; cause = inl tt; unfailed = inl refl }))
 
 pub prints_or_lacks : (plan : Plan) (result : Result ℕ Fault) (o o' : Reach) → PrintsOrLacks plan result o o' → Comes plan result o o'
 prints_or_lacks plan result o o' (inl p) = prints_come plan result o o' p

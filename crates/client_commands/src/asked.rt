@@ -1,6 +1,6 @@
 // One request, and what is done with its answer.
 ghost use Rattle.std.specs.Prelude.{◌≡◌, false, IfOk};
-ghost use Rattle.engine_ports.specs.Link.{apart_from};
+ghost use Rattle.engine_ports.specs.Link.{but_for};
 ghost use Rattle.http_edge.specs.Message.{Request};
 ghost use Rattle.client_model.specs.Requests.{request_bytes};
 ghost use Rattle.client_model.specs.Plans.{asks_and_prints, asks_and_shows, done};
@@ -29,8 +29,8 @@ pub(crate) fn ask_all<W: Wait, L: Link, K: Sink, E: Sink>(
     errors: &mut E,
 ) -> Result<Vec<u8>, Fault>
     ensures { (r : Request) → IfOk request (λ v. v.items ≡ request_bytes r) → AskSays r result
-        (reach (apart_from address.now (L.links link.old)) (K.takes out.old) (E.takes errors.old))
-        (reach (apart_from address.now (L.links link.new)) (K.takes out.new) (E.takes errors.new)) }
+        (reach (but_for address.now (L.links link.old)) (K.takes out.old) (E.takes errors.old))
+        (reach (but_for address.now (L.links link.new)) (K.takes out.new) (E.takes errors.new)) }
 {
     match request {
         Ok(request) => ask(rt, alloc, link, address, &request, out, errors),
@@ -49,8 +49,8 @@ pub(crate) fn ask_some<W: Wait, L: Link, K: Sink, E: Sink>(
     errors: &mut E,
 ) -> Result<(Got, Vec<u8>), Fault>
     ensures { (r : Request) → IfOk request (λ v. v.items ≡ request_bytes r) → NumberedSays r result
-        (reach (apart_from address.now (L.links link.old)) (K.takes out.old) (E.takes errors.old))
-        (reach (apart_from address.now (L.links link.new)) (K.takes out.new) (E.takes errors.new)) }
+        (reach (but_for address.now (L.links link.old)) (K.takes out.old) (E.takes errors.old))
+        (reach (but_for address.now (L.links link.new)) (K.takes out.new) (E.takes errors.new)) }
 {
     match request {
         Ok(request) => ask_numbered(rt, alloc, link, address, &request, out, errors),
@@ -71,8 +71,8 @@ pub(crate) fn ask_and_print<W: Wait, L: Link, K: Sink, E: Sink>(
 ) -> Result<u8, Fault>
     ensures { (r : Request) → IfOk request (λ v. v.items ≡ request_bytes r)
         → Does (asks_and_prints r line.now) result
-        (reach (apart_from address.now (L.links link.old)) (K.takes out.old) (E.takes errors.old))
-        (reach (apart_from address.now (L.links link.new)) (K.takes out.new) (E.takes errors.new)) }
+        (reach (but_for address.now (L.links link.old)) (K.takes out.old) (E.takes errors.old))
+        (reach (but_for address.now (L.links link.new)) (K.takes out.new) (E.takes errors.new)) }
 {
     match ask_all(rt, alloc, link, address, request, out, errors) {
         Ok(body) => {
@@ -95,8 +95,8 @@ pub(crate) fn ask_and_show<W: Wait, L: Link, K: Sink, E: Sink>(
 ) -> Result<u8, Fault>
     ensures { (r : Request) → IfOk request (λ v. v.items ≡ request_bytes r)
         → Does (asks_and_shows r) result
-        (reach (apart_from address.now (L.links link.old)) (K.takes out.old) (E.takes errors.old))
-        (reach (apart_from address.now (L.links link.new)) (K.takes out.new) (E.takes errors.new)) }
+        (reach (but_for address.now (L.links link.old)) (K.takes out.old) (E.takes errors.old))
+        (reach (but_for address.now (L.links link.new)) (K.takes out.new) (E.takes errors.new)) }
 {
     match ask_all(rt, alloc, link, address, request, out, errors) {
         Ok(body) => print(out, &body),
@@ -117,8 +117,8 @@ pub(crate) fn show_some<W: Wait, L: Link, K: Sink, E: Sink>(
 ) -> Result<(), Fault>
     ensures { (r : Request) → IfOk request (λ v. v.items ≡ request_bytes r)
         → ShowSays showing r result
-        (reach (apart_from address.now (L.links link.old)) (K.takes out.old) (E.takes errors.old))
-        (reach (apart_from address.now (L.links link.new)) (K.takes out.new) (E.takes errors.new)) }
+        (reach (but_for address.now (L.links link.old)) (K.takes out.old) (E.takes errors.old))
+        (reach (but_for address.now (L.links link.new)) (K.takes out.new) (E.takes errors.new)) }
 {
     match request {
         Ok(request) => show(rt, alloc, link, address, &request, showing, out, errors),
@@ -139,8 +139,8 @@ pub(crate) fn show_all<W: Wait, L: Link, K: Sink, E: Sink>(
 ) -> Result<u8, Fault>
     ensures { (r : Request) → IfOk request (λ v. v.items ≡ request_bytes r)
         → Does (shown_by showing r false done) result
-        (reach (apart_from address.now (L.links link.old)) (K.takes out.old) (E.takes errors.old))
-        (reach (apart_from address.now (L.links link.new)) (K.takes out.new) (E.takes errors.new)) }
+        (reach (but_for address.now (L.links link.old)) (K.takes out.old) (E.takes errors.old))
+        (reach (but_for address.now (L.links link.new)) (K.takes out.new) (E.takes errors.new)) }
 {
     match show_some(rt, alloc, link, address, request, showing, out, errors) {
         Ok(()) => Ok(0),
@@ -163,8 +163,8 @@ pub(crate) fn show_fed<W: Wait, L: Link, N: Source, K: Sink, E: Sink>(
     ensures { (r : Request) → IfOk request (λ v. v.items ≡ request_bytes r)
         → ShowFedSays showing r result
         (N.gives input.old) (N.gives input.new)
-        (reach (apart_from address.now (L.links link.old)) (K.takes out.old) (E.takes errors.old))
-        (reach (apart_from address.now (L.links link.new)) (K.takes out.new) (E.takes errors.new)) }
+        (reach (but_for address.now (L.links link.old)) (K.takes out.old) (E.takes errors.old))
+        (reach (but_for address.now (L.links link.new)) (K.takes out.new) (E.takes errors.new)) }
 {
     match request {
         Ok(request) => show_with_input(

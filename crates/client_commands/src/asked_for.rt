@@ -1,6 +1,6 @@
 // Requests whose answer is read.
 ghost use Rattle.std.specs.Prelude.{◌≡◌, IfOk};
-ghost use Rattle.engine_ports.specs.Link.{apart_from};
+ghost use Rattle.engine_ports.specs.Link.{but_for};
 ghost use Rattle.http_edge.specs.Message.{Request};
 ghost use Rattle.client_model.specs.Requests.{request_bytes};
 ghost use Rattle.client_model.specs.Bodies as spec;
@@ -30,8 +30,8 @@ pub(crate) fn ask_id<W: Wait, L: Link, K: Sink, E: Sink>(
 ) -> Result<Text, Fault>
     ensures { (r : Request) → IfOk request (λ v. v.items ≡ request_bytes r)
         → AskReadSays r spec.id_in result
-        (reach (apart_from address.now (L.links link.old)) (K.takes out.old) (E.takes errors.old))
-        (reach (apart_from address.now (L.links link.new)) (K.takes out.new) (E.takes errors.new)) }
+        (reach (but_for address.now (L.links link.old)) (K.takes out.old) (E.takes errors.old))
+        (reach (but_for address.now (L.links link.new)) (K.takes out.new) (E.takes errors.new)) }
 {
     match ask_all(rt, alloc, link, address, request, out, errors) {
         Ok(body) => read_id(alloc, &body),
@@ -51,8 +51,8 @@ pub(crate) fn ask_status_code<W: Wait, L: Link, K: Sink, E: Sink>(
 ) -> Result<u8, Fault>
     ensures { (r : Request) → IfOk request (λ v. v.items ≡ request_bytes r)
         → AskReadSays r spec.status_code_in result
-        (reach (apart_from address.now (L.links link.old)) (K.takes out.old) (E.takes errors.old))
-        (reach (apart_from address.now (L.links link.new)) (K.takes out.new) (E.takes errors.new)) }
+        (reach (but_for address.now (L.links link.old)) (K.takes out.old) (E.takes errors.old))
+        (reach (but_for address.now (L.links link.new)) (K.takes out.new) (E.takes errors.new)) }
 {
     match ask_all(rt, alloc, link, address, request, out, errors) {
         Ok(body) => read_status_code(alloc, &body),
@@ -72,8 +72,8 @@ pub(crate) fn ask_exit_code<W: Wait, L: Link, K: Sink, E: Sink>(
 ) -> Result<Option<u8>, Fault>
     ensures { (r : Request) → IfOk request (λ v. v.items ≡ request_bytes r)
         → AskReadSays r exec.exit_code_in result
-        (reach (apart_from address.now (L.links link.old)) (K.takes out.old) (E.takes errors.old))
-        (reach (apart_from address.now (L.links link.new)) (K.takes out.new) (E.takes errors.new)) }
+        (reach (but_for address.now (L.links link.old)) (K.takes out.old) (E.takes errors.old))
+        (reach (but_for address.now (L.links link.new)) (K.takes out.new) (E.takes errors.new)) }
 {
     match ask_all(rt, alloc, link, address, request, out, errors) {
         Ok(body) => read_exit_code(alloc, &body),
@@ -93,8 +93,8 @@ pub(crate) fn ask_container_lines<W: Wait, L: Link, K: Sink, E: Sink>(
 ) -> Result<Words, Fault>
     ensures { (r : Request) → IfOk request (λ v. v.items ≡ request_bytes r)
         → AskReadSays r spec.container_lines_in result
-        (reach (apart_from address.now (L.links link.old)) (K.takes out.old) (E.takes errors.old))
-        (reach (apart_from address.now (L.links link.new)) (K.takes out.new) (E.takes errors.new)) }
+        (reach (but_for address.now (L.links link.old)) (K.takes out.old) (E.takes errors.old))
+        (reach (but_for address.now (L.links link.new)) (K.takes out.new) (E.takes errors.new)) }
 {
     match ask_all(rt, alloc, link, address, request, out, errors) {
         Ok(body) => read_container_lines(alloc, &body),
@@ -114,8 +114,8 @@ pub(crate) fn ask_volume_names<W: Wait, L: Link, K: Sink, E: Sink>(
 ) -> Result<Words, Fault>
     ensures { (r : Request) → IfOk request (λ v. v.items ≡ request_bytes r)
         → AskReadSays r spec.volume_names_in result
-        (reach (apart_from address.now (L.links link.old)) (K.takes out.old) (E.takes errors.old))
-        (reach (apart_from address.now (L.links link.new)) (K.takes out.new) (E.takes errors.new)) }
+        (reach (but_for address.now (L.links link.old)) (K.takes out.old) (E.takes errors.old))
+        (reach (but_for address.now (L.links link.new)) (K.takes out.new) (E.takes errors.new)) }
 {
     match ask_all(rt, alloc, link, address, request, out, errors) {
         Ok(body) => read_volume_names(alloc, &body),

@@ -86,7 +86,8 @@ missed_does asked f fault o o' m = record {
   comes = inr (inl (record {
     missed = m.missed;
     began = subst (λ p. BothBegan o.shown nothing p) (sym m.shown) (began_none o.shown nothing);
-    cause = inr m.cause;
+    cause = inr (m.cause, refl);
+    unfailed = inr tt;
   }));
 }
 

@@ -1,12 +1,12 @@
 -- A connection that was made, and left.
-use Rattle.std.proofs.Common.{◌≡◌, ◌⊎◌, ◌<◌, ◌≤◌, inl, inr, ℕ, List, [], ◌∷◌, ◌++◌, refl, sym, subst, ap, ◌∙◌, Bool, false, Option, Some, None, Result, Ok, Err, append-nil, arith}
-use Rattle.std.specs.Prelude.{not, cond, filter, bytes_eq, option_map}
+use Rattle.std.proofs.Common.{◌≡◌, ◌⊎◌, ◌<◌, inl, inr, ℕ, List, [], ◌∷◌, ◌++◌, refl, sym, subst, ap, ◌∙◌, Bool, false, Option, Some, None, Result, Ok, Err, append-nil, arith}
+use Rattle.std.specs.Prelude.{not, cond, filter, bytes_eq}
 use Rattle.std.specs.Cmp.Lexicographic.{bytes_decides}
 use Rattle.engine_ports.specs.Rose.{Rose}
 use Rattle.engine_ports.specs.Source.{SourceView, SourceGave}
 use Rattle.engine_ports.specs.Sink.{SinkView, SinkTook}
-use Rattle.engine_ports.specs.Door.{Came, Adds}
-use Rattle.engine_ports.specs.Link.{LinkView, Wire, wire, Connects, Misses as LinkMisses, Leaves, others, apart_from}
+use Rattle.engine_ports.specs.Door.{Came, ToldLast}
+use Rattle.engine_ports.specs.Link.{LinkView, Wire, wire, Connects, Misses as LinkMisses, Leaves, others, but_for}
 use Rattle.engine_ports.proofs.PortLemmas.{source_none}
 use Rattle.response_reader.specs.Answers.{Answer, NoHead}
 use Rattle.client_model.specs.Plans.{nothing}
@@ -36,10 +36,10 @@ came_one None None o'' w came is = subst (HaveCome None (w ∷ [])) (sym is) tt
 came_one (Some before) None o'' w came is = absurd came
 came_one None (Some now) o'' w came is = absurd came
 
-left_one : (o o' o'' : Option (List Wire)) (w : Wire) → o' ≡ o → Adds o' w o'' → AreAdds o (w ∷ []) o''
-left_one o o' o'' w is left = go o o'' (subst (λ x. Adds x w o'') is left)
+left_one : (o o' o'' : Option (List Wire)) (w : Wire) → o' ≡ o → ToldLast o' w o'' → AreLeft o (w ∷ []) o''
+left_one o o' o'' w is left = go o o'' (subst (λ x. ToldLast x w o'') is left)
   where
-    go : (o o'' : Option (List Wire)) → Adds o w o'' → AreAdds o (w ∷ []) o''
+    go : (o o'' : Option (List Wire)) → ToldLast o w o'' → AreLeft o (w ∷ []) o''
     go (Some before) (Some now) left = left
     go None None left = tt
     go (Some before) None left = absurd left
@@ -57,7 +57,7 @@ not_kept test [] address is = rw is refl
 not_kept test (x ∷ xs) address is = ap (λ l. cond (test x) (x ∷ l) l) (not_kept test xs address is)
 
 -- an address that is asked for is none of the others
-others_stay : (address : List ℕ) (o o' o'' : Option (List (List ℕ))) → Adds o address o' → o'' ≡ o' → others address o'' ≡ others address o
+others_stay : (address : List ℕ) (o o' o'' : Option (List (List ℕ))) → ToldLast o address o' → o'' ≡ o' → others address o'' ≡ others address o
 others_stay address (Some before) (Some now) o'' left is =
     ap (others address) is ∙ ap (λ l. others address (Some l)) left ∙ ap Some (not_kept (λ other. not (bytes_eq other address)) before address (ap not ((bytes_decides address address).1 refl)))
 others_stay address None None o'' left is = ap (others address) is
@@ -65,12 +65,12 @@ others_stay address (Some before) None o'' left is = absurd left
 others_stay address None (Some now) o'' left is = absurd left
 
 -- nor where it may go untold
-others_at : (address : List ℕ) (o o' : Option (List (List ℕ))) → Adds o address o' ⊎ (o' ≡ o) → others address o' ≡ others address o
+others_at : (address : List ℕ) (o o' : Option (List (List ℕ))) → ToldLast o address o' ⊎ (o' ≡ o) → others address o' ≡ others address o
 others_at address o o' (inl added) = others_stay address o o' o' added refl
 others_at address o o' (inr untold) = ap (others address) untold
 
 module _ (address : List ℕ) (v v1 v2 : LinkView) (s s' : SourceView) (u u' : SinkView) (made : Connects address (wire s u) v v1) (left : Leaves (wire s' u') v1 v2) where
-  meets : (x : Exchange) → x.came ≡ wire s u → x.left ≡ wire s' u' → Meets (apart_from address v) (apart_from address v2) x
+  meets : (x : Exchange) → x.came ≡ wire s u → x.left ≡ wire s' u' → Meets (but_for address v) (but_for address v2) x
   meets x came was = record {
     came = subst (λ w. HaveCome v.coming (w ∷ []) v2.coming) (sym came) (came_one v.coming v1.coming v2.coming (wire s u) made.came left.coming);
     left = subst (λ w. AreLeft v.past (w ∷ []) v2.past) (sym was) (left_one v.past v1.past v2.past (wire s' u') made.past left.past);
@@ -78,7 +78,7 @@ module _ (address : List ℕ) (v v1 v2 : LinkView) (s s' : SourceView) (u u' : S
     faults = left.faults ∙ made.faults;
   }
 
-  answered : (request : List ℕ) (answer : Answer) → SinkTook u request u' → Told s s' answer → IsAnswered request answer (apart_from address v) (apart_from address v2)
+  answered : (request : List ℕ) (answer : Answer) → SinkTook u request u' → Told s s' answer → IsAnswered request answer (but_for address v) (but_for address v2)
   unfolding exchange_of
   answered request answer took told = record {
     exchange = exchange_of s s' u u' told.bytes request told.gave took;
@@ -116,7 +116,7 @@ module _ (address : List ℕ) (v v1 v2 : LinkView) (s s' : SourceView) (u u' : S
   send_fails starved F.Link x o o' came was f = absurd f
 
   broken : (bytes : List ℕ) (starved : Type 0) (fault : Fault) (showing : Showing) (o o' : Outputs) → SinkTook u bytes u' → BreaksOff fault showing s s' o o'
-      → HasBroken bytes starved fault showing (record { link = apart_from address v; shown = o }) (record { link = apart_from address v2; shown = o' })
+      → HasBroken bytes starved fault showing (record { link = but_for address v; shown = o }) (record { link = but_for address v2; shown = o' })
   unfolding exchange_of
   broken bytes starved fault showing o o' took b =
       let x = exchange_of s s' u u' b.told.bytes bytes b.told.gave took in record {
@@ -130,7 +130,7 @@ module _ (address : List ℕ) (v v1 v2 : LinkView) (s s' : SourceView) (u u' : S
       }
 
   unsent : (bytes : List ℕ) (starved : Type 0) (fault : Fault) (showing : Showing) (o o' : Outputs) → IsUnsent bytes starved (Err fault) s s' u u' o o'
-      → HasBroken bytes starved fault showing (record { link = apart_from address v; shown = o }) (record { link = apart_from address v2; shown = o' })
+      → HasBroken bytes starved fault showing (record { link = but_for address v; shown = o }) (record { link = but_for address v2; shown = o' })
   unfolding exchange_of
   unsent bytes starved fault showing o o' b =
       let same : b.fault ≡ fault = err_same (Err fault) b.fault fault b.is refl in
@@ -150,10 +150,10 @@ module _ (address : List ℕ) (v v1 v2 : LinkView) (s s' : SourceView) (u u' : S
 
   -- a connection that was made came to an answer, or broke off
   pub Gets : List ℕ → Type 0 → Result Got Fault → Showing → Taken → Outputs → Outputs → Type 0
-  Gets bytes starved (Ok got) showing t o o' = HasGone bytes got showing t (record { link = apart_from address v; shown = o }) (record { link = apart_from address v2; shown = o' })
+  Gets bytes starved (Ok got) showing t o o' = HasGone bytes got showing t (record { link = but_for address v; shown = o }) (record { link = but_for address v2; shown = o' })
   Gets bytes starved (Err fault) showing t o o' =
-      HasRefused bytes fault (record { link = apart_from address v; shown = o }) (record { link = apart_from address v2; shown = o' })
-      ⊎ HasBroken bytes starved fault showing (record { link = apart_from address v; shown = o }) (record { link = apart_from address v2; shown = o' })
+      HasRefused bytes fault (record { link = but_for address v; shown = o }) (record { link = but_for address v2; shown = o' })
+      ⊎ HasBroken bytes starved fault showing (record { link = but_for address v; shown = o }) (record { link = but_for address v2; shown = o' })
 
   pub gets : (bytes : List ℕ) (starved : Type 0) (result : Result Got Fault) (showing : Showing) (t : Taken) (o o' : Outputs)
       → ConverseSays bytes starved result showing t s s' u u' o o' → Gets bytes starved result showing t o o'
@@ -171,19 +171,19 @@ module _ (address : List ℕ) (v v1 v2 : LinkView) (s s' : SourceView) (u u' : S
 
   pub exchanged : (request : List ℕ) (result : Result Got Fault) (showing : Showing) (t : Taken) (o o' : Outputs)
       → ConverseSays request ⊥ result showing t s s' u u' o o'
-      → ExchangeSays request result showing t (record { link = apart_from address v; shown = o }) (record { link = apart_from address v2; shown = o' })
+      → ExchangeSays request result showing t (record { link = but_for address v; shown = o }) (record { link = but_for address v2; shown = o' })
   unfolding Gets
   exchanged request result showing t o o' says = by_result result (gets request ⊥ result showing t o o' says)
     where
       by_result : (result : Result Got Fault) → Gets request ⊥ result showing t o o'
-          → ExchangeSays request result showing t (record { link = apart_from address v; shown = o }) (record { link = apart_from address v2; shown = o' })
+          → ExchangeSays request result showing t (record { link = but_for address v; shown = o }) (record { link = but_for address v2; shown = o' })
       by_result (Ok got) g = g
       by_result (Err fault) (inl r) = inl r
       by_result (Err fault) (inr b) = inr (inl b)
 
   pub talked : (request : List ℕ) (result : Result Got Fault) (showing : Showing) (t : Taken) (i i' : SourceView) (o o' : Outputs)
       → TalkSays request result showing t i i' s s' u u' o o'
-      → FedSays request result showing t i i' (record { link = apart_from address v; shown = o }) (record { link = apart_from address v2; shown = o' })
+      → FedSays request result showing t i i' (record { link = but_for address v; shown = o }) (record { link = but_for address v2; shown = o' })
   unfolding Gets
   talked request (Ok got) showing t i i' o o' (input, gave, inl (ended, (took, says))) =
       inl (input, gave, (ended, gets (request ++ input) (InputFails i i') (Ok got) showing t o o' (inl (took, says))))
@@ -191,7 +191,7 @@ module _ (address : List ℕ) (v v1 v2 : LinkView) (s s' : SourceView) (u u' : S
       by_answer (gets (request ++ input) (InputFails i i') (Err fault) showing t o o' (inl (took, says)))
     where
       by_answer : Gets (request ++ input) (InputFails i i') (Err fault) showing t o o'
-          → FedSays request (Err fault) showing t i i' (record { link = apart_from address v; shown = o }) (record { link = apart_from address v2; shown = o' })
+          → FedSays request (Err fault) showing t i i' (record { link = but_for address v; shown = o }) (record { link = but_for address v2; shown = o' })
       by_answer (inl r) = inl (input, gave, inl (ended, r))
       by_answer (inr b) = inl (input, gave, inr b)
   talked request (Ok got) showing t i i' o o' (input, gave, inr b) = absurd (no_fault (Ok got) got b.fault refl b.is)
@@ -202,12 +202,17 @@ module _ (address : List ℕ) (v v1 v2 : LinkView) (s s' : SourceView) (u u' : S
       inl (input, gave, inr (unsent (request ++ input) (InputFails i i') fault showing o o' b))
 
 -- no connection was made
-pub missed : (address : List ℕ) (v v' : LinkView) (o : Outputs) → LinkMisses address v v' → HasMissed F.Link (record { link = apart_from address v; shown = o }) (record { link = apart_from address v'; shown = o })
+pub missed : (address : List ℕ) (v v' : LinkView) (o : Outputs) → LinkMisses address v v' → HasMissed F.Link (record { link = but_for address v; shown = o }) (record { link = but_for address v'; shown = o })
 missed address v v' o m = record {
-  missed = record { coming = m.coming; past = m.past; others = others_at address v.addresses v'.addresses m.addresses };
+  missed = record {
+    coming = m.coming;
+    past = m.past;
+    others = others_at address v.addresses v'.addresses m.addresses;
+    faults = m.faults;
+  };
   shown = refl;
-  cause = m.faults;
+  cause = tt;
 }
 
 pub nothing_made : (v : LinkView) (o : Outputs) → HasMissed F.NoMemory (record { link = v; shown = o }) (record { link = v; shown = o })
-nothing_made v o = record { missed = record { coming = refl; past = refl; others = refl }; shown = refl; cause = refl }
+nothing_made v o = record { missed = record { coming = refl; past = refl; others = refl; faults = refl }; shown = refl; cause = tt }

@@ -1,6 +1,6 @@
 -- One request over a connection of its own, and its answer (own).
-use Rattle.std.specs.Prelude.{ℕ, ◌≡◌, ◌⊎◌, nat_lt, true, List, [], ◌∷◌, Result, Ok, Err}
-use Rattle.engine_ports.specs.Rose.{Rose, raised}
+use Rattle.std.specs.Prelude.{ℕ, ◌≡◌, ◌⊎◌, nat_lt, true, List, [], ◌∷◌, Result, Ok, Err, ⊤}
+use Rattle.engine_ports.specs.Rose.{Rose}
 use Rattle.engine_ports.specs.Source.{SourceView}
 use Rattle.engine_ports.specs.Sink.{SinkView, SinkTook, IsFront}
 use Rattle.engine_ports.specs.Link.{LinkView}
@@ -8,7 +8,7 @@ use Rattle.http_edge.specs.declared.head.Head.{Head}
 use Rattle.response_reader.specs.Answers.{Answer, Answered, IsAnswer, TellsSoFar}
 use Rattle.response_reader.specs.Heads.{first_in}
 use Rattle.client_model.specs.Plans.{nothing}
-use Rattle.client_model.specs.Runs.{Exchange, has_ended, HaveCome, AreLeft, HasFailed}
+use Rattle.client_model.specs.Runs.{Exchange, has_ended, HaveCome, AreLeft, HasFailed, missed_by}
 use Rattle.client_model.specs.declared.fault.Fault.{Fault}
 use Rattle.client_model.specs.declared.fault.Fault.TheVariants as F
 use Rattle.client_streams.specs.Outputs.{Outputs, outputs, BothTook, BothBegan, OutputsFail}
@@ -17,7 +17,7 @@ use Rattle.client_exchange.specs.Telling.{Refuses, answer_shows, AnswerSays}
 use Rattle.client_exchange.specs.declared.got.Got.{Got}
 use Rattle.client_streams.specs.declared.taker.Showing.{Showing}
 
--- what a request reaches: the link, apart from the call's address, and the outputs
+-- what a request reaches: the link but for the call's address, and the outputs
 pub record Reach : Type 0 where
   pub link : LinkView
   pub shown : Outputs
@@ -51,7 +51,7 @@ ConverseSays bytes starved result showing t s s' u u' o o' =
 
 -- ---- over the link
 
--- one connection was made, and left, at once, and no other address was asked for
+-- one connection was made at the first try, and left; of other addresses the link tells what it told
 pub record Meets (v v' : LinkView) (x : Exchange) : Type 0 where
   pub came : HaveCome v.coming (x.came ∷ []) v'.coming
   pub left : AreLeft v.past (x.left ∷ []) v'.past
@@ -65,11 +65,12 @@ pub record IsAnswered (request : List ℕ) (answer : Answer) (v v' : LinkView) :
   pub sent : exchange.sent ≡ request
   pub is : IsAnswer exchange.given (has_ended exchange) answer
 
--- none was made, and no other address was asked for
-pub record IsMissed (v v' : LinkView) : Type 0 where
+-- none was made, and of other addresses the link tells what it told; one try failed where the fault is the link's
+pub record IsMissed (fault : Fault) (v v' : LinkView) : Type 0 where
   pub coming : v'.coming ≡ v.coming
   pub past : v'.past ≡ v.past
   pub others : v'.addresses ≡ v.addresses
+  pub faults : v'.faults ≡ missed_by fault v.faults
 
 -- an answer that doesn't refuse came to its end, and was shown
 pub record HasGone (request : List ℕ) (got : Got) (showing : Showing) (t : Taken) (o o' : Reach) : Type 0 where
@@ -104,17 +105,17 @@ pub record HasBroken (bytes : List ℕ) (starved : Type 0) (fault : Fault) (show
   pub began : BothBegan o.shown (answer_shows showing answer) o'.shown
   pub cause : FailsOn starved fault exchange o.shown o'.shown
 
--- why no connection was made: it was tried once, or memory was refused before
-abbrev pub Misses : Fault → LinkView → LinkView → Type 0
-Misses F.Link v v' = v'.faults ≡ raised v.faults
-Misses F.NoMemory v v' = v'.faults ≡ v.faults
-Misses fault v v' = ⊥
+-- what keeps a connection from being made: the link, or want of memory
+abbrev pub KeepsOff : Fault → Type 0
+KeepsOff F.Link = ⊤
+KeepsOff F.NoMemory = ⊤
+KeepsOff fault = ⊥
 
 -- no connection was made, and nothing shown
 pub record HasMissed (fault : Fault) (o o' : Reach) : Type 0 where
-  pub missed : IsMissed o.link o'.link
+  pub missed : IsMissed fault o.link o'.link
   pub shown : o'.shown ≡ o.shown
-  pub cause : Misses fault o.link o'.link
+  pub cause : KeepsOff fault
 
 -- what an exchange says
 abbrev pub ExchangeSays : List ℕ → Result Got Fault → Showing → Taken → Reach → Reach → Type 0

@@ -1,13 +1,14 @@
 -- A command on its way: whole exchanges bring it from plan to plan, and then it ends or breaks off (own).
-use Rattle.std.specs.Prelude.{ℕ, ◌≡◌, ◌⊎◌, false, List, [], ◌∷◌, ◌++◌, map, None, Result, Ok, Err, ⊤}
+use Rattle.std.specs.Prelude.{ℕ, ◌≡◌, ◌⊎◌, false, List, [], ◌∷◌, ◌++◌, length, map, None, Result, Ok, Err, ⊤}
 use Rattle.std.specs.List.{list_any}
 use Rattle.response_reader.specs.Answers.{Answer, TellsSoFar}
 use Rattle.client_model.specs.Plans.{Plan, Ends, Judges, Asked, Written, Ending, Done, Fails, joined}
 use Rattle.client_model.specs.Client.{Said, said, said_by}
-use Rattle.client_model.specs.Runs.{Exchange, AreAnswered, HaveCome, AreLeft, AreSentSoFar, sent_by}
+use Rattle.client_model.specs.Runs.{Exchange, AreAnswered, HaveCome, AreLeft, AreSentSoFar, sent_by, IsUnfailed}
 use Rattle.client_model.specs.declared.fault.Fault.{Fault}
+use Rattle.client_model.specs.declared.fault.Fault.TheVariants as F
 use Rattle.client_streams.specs.Outputs.{BothTook, BothBegan, OutputsFail}
-use Rattle.client_exchange.specs.Exchanges.{Reach, Meets, IsMissed, Misses, FailsOn}
+use Rattle.client_exchange.specs.Exchanges.{Reach, Meets, IsMissed, KeepsOff, FailsOn}
 
 -- standard input follows none of these requests
 abbrev pub AreQuiet : List Asked → Type 0
@@ -22,8 +23,8 @@ IsAsking plan = ⊤
 abbrev pub said_behind : List Asked → Written → Said → Said
 said_behind asked w s = said (asked ++ s.asked) (joined w s.written) s.end
 
--- whole exchanges, for which no other address was asked, bring a plan to the next; a request may be followed by this
--- input
+-- whole exchanges, each over a connection of the first try, bring a plan to the next; of other addresses the link tells what
+-- it told; a request may be followed by this input
 pub record Walked (plan : Plan) (input : List ℕ) (o : Reach) (next : Plan) (o' : Reach) : Type 0 where
   pub xs : List Exchange
   pub answers : List Answer
@@ -50,16 +51,17 @@ pub record Finishes (plan : Plan) (ending : Ending) (o o' : Reach) : Type 0 wher
   pub took : BothTook o.shown written o'.shown
   pub link : o'.link ≡ o.link
 
--- why nothing more was asked: an output failed and no connection was tried, none was made, or memory was refused
-abbrev pub FailsAlone : Fault → Reach → Reach → Type 0
-FailsAlone fault o o' =
-    (OutputsFail fault o.shown o'.shown × (o'.link.faults ≡ o.link.faults)) ⊎ Misses fault o.link o'.link
+-- why nothing more was asked: an output failed, memory was refused, or no connection was made for the next request
+abbrev pub FailsAlone : Plan → Fault → Reach → Reach → Type 0
+FailsAlone plan fault o o' =
+    OutputsFail fault o.shown o'.shown ⊎ (KeepsOff fault × (length (said_by plan None []).asked ≡ 1))
 
--- it broke off before anything more was asked: fronts of what it writes first were written
+-- it broke off before anything more was asked, and before it ended by a fault: fronts of what it writes first were written
 pub record StopsBefore (plan : Plan) (fault : Fault) (o o' : Reach) : Type 0 where
-  pub missed : IsMissed o.link o'.link
+  pub missed : IsMissed fault o.link o'.link
   pub began : BothBegan o.shown (said_by plan None []).written o'.shown
-  pub cause : FailsAlone fault o o'
+  pub cause : FailsAlone plan fault o o'
+  pub unfailed : (fault ≡ F.NoMemory) ⊎ IsUnfailed (said_by plan None []).end
 
 -- it broke off in its next exchange: a front of the request and its input was sent, so much of an answer came, and
 -- fronts of what it writes by that were written

@@ -1,6 +1,6 @@
 // One request of a command, by the plan that asks it.
 ghost use Rattle.std.specs.Prelude.{◌≡◌, ◌&&◌, []};
-ghost use Rattle.engine_ports.specs.Link.{apart_from};
+ghost use Rattle.engine_ports.specs.Link.{but_for};
 ghost use Rattle.http_edge.specs.Message.{Request};
 ghost use Rattle.client_model.specs.Requests.{request_bytes};
 ghost use Rattle.client_exchange.specs.Asking.{AskSays, NumberedSays, ShowSays};
@@ -29,8 +29,8 @@ pub fn ask<W: Wait, L: Link, K: Sink, E: Sink>(
     errors: &mut E,
 ) -> Result<Vec<u8>, Fault>
     ensures { (r : Request) → request.now ≡ request_bytes r → AskSays r result
-        (reach (apart_from address.now (L.links link.old)) (K.takes out.old) (E.takes errors.old))
-        (reach (apart_from address.now (L.links link.new)) (K.takes out.new) (E.takes errors.new)) }
+        (reach (but_for address.now (L.links link.old)) (K.takes out.old) (E.takes errors.old))
+        (reach (but_for address.now (L.links link.new)) (K.takes out.new) (E.takes errors.new)) }
 {
     let mut taker = fresh_taker(alloc, Showing::Kept);
     match exchange(rt, alloc, link, address, request, &mut taker, out, errors) {
@@ -57,8 +57,8 @@ pub fn ask_numbered<W: Wait, L: Link, K: Sink, E: Sink>(
     errors: &mut E,
 ) -> Result<(Got, Vec<u8>), Fault>
     ensures { (r : Request) → request.now ≡ request_bytes r → NumberedSays r result
-        (reach (apart_from address.now (L.links link.old)) (K.takes out.old) (E.takes errors.old))
-        (reach (apart_from address.now (L.links link.new)) (K.takes out.new) (E.takes errors.new)) }
+        (reach (but_for address.now (L.links link.old)) (K.takes out.old) (E.takes errors.old))
+        (reach (but_for address.now (L.links link.new)) (K.takes out.new) (E.takes errors.new)) }
 {
     let mut taker = fresh_taker(alloc, Showing::Kept);
     match exchange(rt, alloc, link, address, request, &mut taker, out, errors) {
@@ -87,8 +87,8 @@ fn show_through<W: Wait, L: Link, K: Sink, E: Sink>(
 ) -> Result<(), Fault>
     requires { taker.old ≡ taken taker.old.showing [] }
     ensures { (r : Request) → request.now ≡ request_bytes r → ShowSays taker.old.showing r result
-        (reach (apart_from address.now (L.links link.old)) (K.takes out.old) (E.takes errors.old))
-        (reach (apart_from address.now (L.links link.new)) (K.takes out.new) (E.takes errors.new)) }
+        (reach (but_for address.now (L.links link.old)) (K.takes out.old) (E.takes errors.old))
+        (reach (but_for address.now (L.links link.new)) (K.takes out.new) (E.takes errors.new)) }
 {
     match exchange(rt, alloc, link, address, request, taker, out, errors) {
         Ok(got) => {
@@ -114,8 +114,8 @@ pub fn show<W: Wait, L: Link, K: Sink, E: Sink>(
     errors: &mut E,
 ) -> Result<(), Fault>
     ensures { (r : Request) → request.now ≡ request_bytes r → ShowSays showing r result
-        (reach (apart_from address.now (L.links link.old)) (K.takes out.old) (E.takes errors.old))
-        (reach (apart_from address.now (L.links link.new)) (K.takes out.new) (E.takes errors.new)) }
+        (reach (but_for address.now (L.links link.old)) (K.takes out.old) (E.takes errors.old))
+        (reach (but_for address.now (L.links link.new)) (K.takes out.new) (E.takes errors.new)) }
 {
     let mut taker = fresh_taker(alloc, showing);
     show_through(rt, alloc, link, address, request, &mut taker, out, errors)
@@ -136,8 +136,8 @@ fn show_input_through<W: Wait, L: Link, N: Source, K: Sink, E: Sink>(
     requires { taker.old ≡ taken taker.old.showing [] }
     ensures { (r : Request) → request.now ≡ request_bytes r → ShowFedSays taker.old.showing r result
         (N.gives input.old) (N.gives input.new)
-        (reach (apart_from address.now (L.links link.old)) (K.takes out.old) (E.takes errors.old))
-        (reach (apart_from address.now (L.links link.new)) (K.takes out.new) (E.takes errors.new)) }
+        (reach (but_for address.now (L.links link.old)) (K.takes out.old) (E.takes errors.old))
+        (reach (but_for address.now (L.links link.new)) (K.takes out.new) (E.takes errors.new)) }
 {
     match exchange_with_input(rt, alloc, link, address, request, input, taker, out, errors) {
         Ok(got) => {
@@ -165,8 +165,8 @@ pub fn show_with_input<W: Wait, L: Link, N: Source, K: Sink, E: Sink>(
 ) -> Result<(), Fault>
     ensures { (r : Request) → request.now ≡ request_bytes r → ShowFedSays showing r result
         (N.gives input.old) (N.gives input.new)
-        (reach (apart_from address.now (L.links link.old)) (K.takes out.old) (E.takes errors.old))
-        (reach (apart_from address.now (L.links link.new)) (K.takes out.new) (E.takes errors.new)) }
+        (reach (but_for address.now (L.links link.old)) (K.takes out.old) (E.takes errors.old))
+        (reach (but_for address.now (L.links link.new)) (K.takes out.new) (E.takes errors.new)) }
 {
     let mut taker = fresh_taker(alloc, showing);
     show_input_through(

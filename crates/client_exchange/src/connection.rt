@@ -1,6 +1,6 @@
 // One request over a connection of its own.
 ghost use Rattle.std.specs.Prelude.{◌≡◌, ◌<◌, [], length, IfOk};
-ghost use Rattle.engine_ports.specs.Link.{apart_from};
+ghost use Rattle.engine_ports.specs.Link.{but_for};
 ghost use Rattle.client_streams.specs.Outputs.{outputs};
 ghost use Rattle.client_streams.specs.Taking.{taken};
 ghost use Rattle.client_exchange.specs.Telling.{unread_answer};
@@ -69,8 +69,8 @@ pub fn exchange<W: Wait, L: Link, K: Sink, E: Sink>(
 ) -> Result<Got, Fault>
     requires { taker.old ≡ taken taker.old.showing [] }
     ensures { ExchangeSays request.now result taker.old.showing taker.new
-        (reach (apart_from address.now (L.links link.old)) (K.takes out.old) (E.takes errors.old))
-        (reach (apart_from address.now (L.links link.new)) (K.takes out.new) (E.takes errors.new)) }
+        (reach (but_for address.now (L.links link.old)) (K.takes out.old) (E.takes errors.old))
+        (reach (but_for address.now (L.links link.new)) (K.takes out.new) (E.takes errors.new)) }
 {
     let Ok(mut reader) = ResponseReader::new(alloc) else {
         return Err(Fault::NoMemory);

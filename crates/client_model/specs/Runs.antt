@@ -1,5 +1,5 @@
 -- What one call of the client says of the outside: what it was given, what it sent and wrote, and its status (own).
-use Rattle.std.specs.Prelude.{ℕ, ◌≡◌, ◌⊎◌, nat_lt, Bool, true, IsFalse, List, [], ◌∷◌, ◌++◌, map, Option, Some, None, ⊤, if◌then◌else◌}
+use Rattle.std.specs.Prelude.{ℕ, ◌≡◌, ◌⊎◌, ◌+◌, nat_lt, Bool, true, IsFalse, List, [], ◌∷◌, ◌++◌, length, map, Option, Some, None, ⊤, if◌then◌else◌}
 use Rattle.std.specs.Bool.{MatchBool}
 use Rattle.std.specs.List.{list_any}
 use Rattle.engine_ports.specs.Rose.{Rose, raised}
@@ -10,7 +10,7 @@ use Rattle.history_replay.specs.declared.verdict.Verdict.{Verdict}
 use Rattle.response_reader.specs.Answers.{Answer, IsAnswer, TellsSoFar}
 use Rattle.client_model.specs.Requests.{request_bytes}
 use Rattle.client_model.specs.Faults.{status_of, fault_line}
-use Rattle.client_model.specs.Plans.{Plan, Judges, Asked, Ending}
+use Rattle.client_model.specs.Plans.{Plan, Judges, Asked, Ending, Fails}
 use Rattle.client_model.specs.Lines.{command_names, address_in}
 use Rattle.client_model.specs.Client.{Said, plan_for, said_by, IsJudged, status_at, line_at}
 use Rattle.client_model.specs.declared.fault.Fault.{Fault}
@@ -59,12 +59,12 @@ AreLeft (Some before) left (Some now) = now ≡ before ++ left
 AreLeft None left None = ⊤
 AreLeft before left now = ⊥
 
--- in this call these connections were made, one after another, no address but this was asked for, and standard input
+-- in this call these connections were made, one after another; the link tells no address more but this; and standard input
 -- gave this
 pub record Meets (address : List ℕ) (o o' : Outside) (xs : List Exchange) (input : List ℕ) : Type 0 where
   pub came : HaveCome o.link.coming (map (λ x. x.came) xs) o'.link.coming
   pub left : AreLeft o.link.past (map (λ x. x.left) xs) o'.link.past
-  pub asked : others address o'.link.addresses ≡ others address o.link.addresses
+  pub others : others address o'.link.addresses ≡ others address o.link.addresses
   pub input_gave : SourceGave o.input input o'.input
 
 -- how often no connection could be made, behind this fault: once more where it is the link's
@@ -129,15 +129,16 @@ HasFailed [] = ⊥
 HasFailed (x ∷ xs) =
     (Rose x.came.source.faults x.left.source.faults ⊎ Rose x.came.sink.faults x.left.sink.faults) ⊎ HasFailed xs
 
--- what rose outside, or that memory was refused, by the fault; of the link's own, `missed_by` tells it
-abbrev pub CauseOf : Fault → Outside → Outside → List Exchange → Type 0
-CauseOf F.Input o o' xs = Rose o.input.faults o'.input.faults
-CauseOf F.Output o o' xs = Rose o.out.faults o'.out.faults
-CauseOf F.Errors o o' xs = Rose o.err.faults o'.err.faults
-CauseOf F.NoMemory o o' xs = ⊤
-CauseOf F.Link o o' xs = ⊤
-CauseOf F.Connection o o' xs = HasFailed xs
-CauseOf fault o o' xs = ⊥
+-- what the fault comes of: a rise outside; of the link's, that one more was asked for than connections were made; of want of
+-- memory nothing is said; and no other breaks a call off
+abbrev pub CauseOf : Fault → Said → Outside → Outside → List Exchange → Type 0
+CauseOf F.Input said o o' xs = Rose o.input.faults o'.input.faults
+CauseOf F.Output said o o' xs = Rose o.out.faults o'.out.faults
+CauseOf F.Errors said o o' xs = Rose o.err.faults o'.err.faults
+CauseOf F.NoMemory said o o' xs = ⊤
+CauseOf F.Link said o o' xs = length said.asked ≡ length xs + 1
+CauseOf F.Connection said o o' xs = HasFailed xs
+CauseOf fault said o o' xs = ⊥
 
 -- all but the last were sent what is asked, and the last a front of it
 abbrev pub AreSentSoFar : List (List ℕ) → List (List ℕ) → Type 0
@@ -146,7 +147,12 @@ AreSentSoFar (sent ∷ []) (asked ∷ more) = IsFront sent asked
 AreSentSoFar (sent ∷ sents) (asked ∷ more) = (sent ≡ asked) × AreSentSoFar sents more
 AreSentSoFar sents [] = ⊥
 
--- a fault of the outside came first: fronts of what is said by then were written
+-- it hasn't ended by a fault
+abbrev pub IsUnfailed : Option Ending → Type 0
+IsUnfailed (Some (Fails fault)) = ⊥
+IsUnfailed end = ⊤
+
+-- a fault of the outside broke it off, before it ended by one of its own: fronts of what is said by then were written
 pub record IsBrokenOff (words : List (List ℕ)) (status : ℕ) (o o' : Outside) : Type 0 where
   pub xs : List Exchange
   pub input : List ℕ
@@ -167,7 +173,8 @@ pub record IsBrokenOff (words : List (List ℕ)) (status : ℕ) (o o' : Outside)
   pub out : SinkTook o.out out_part o'.out
   pub err : SinkTook o.err (err_part ++ part) o'.err
   pub line : WroteLine o.err part (fault_line command_names fault) o'.err
-  pub cause : CauseOf fault o o' xs
+  pub unfailed : (fault ≡ F.NoMemory) ⊎ (IsUnfailed said.end ⊎ SoFar (plan_for words) verdict xs said)
+  pub cause : CauseOf fault said o o' xs
   pub status_is : status ≡ status_of fault
 
 -- what one call says

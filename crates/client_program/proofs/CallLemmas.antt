@@ -1,5 +1,5 @@
 -- A call, by how its command came out.
-use Rattle.std.proofs.Common.{◌≡◌, inl, inr, ℕ, List, [], ◌∷◌, refl, sym, ap, ◌∙◌, subst, Some, None, Result, Ok, Err, true, false, IsFalse, arith}
+use Rattle.std.proofs.Common.{◌≡◌, inl, inr, ℕ, List, [], ◌∷◌, refl, sym, ap, ◌∙◌, subst, Some, None, Result, Ok, Err, true, false, IsFalse}
 use Rattle.std.specs.Bool.{MatchBool}
 use Rattle.std.specs.List.{list_any}
 use Rattle.engine_ports.specs.Source.{SourceView, SourceGave, SourceEnded}
@@ -24,7 +24,7 @@ use Rattle.client_exchange.proofs.FeedLemmas.{with_input}
 use Rattle.client_commands.specs.Printing.{PrintsOrLacks}
 use Rattle.client_program.specs.Replaying as replay
 use Rattle.client_program.specs.Running.{outside, reach_of, Ran, Tells}
-use Rattle.client_program.proofs.RunLemmas.{loud_reads, loud_first, loud_last, ended, broken_off, stopped_before, stopped_in, stop_fed, as_often, alone_caused}
+use Rattle.client_program.proofs.RunLemmas.{loud_reads, loud_first, loud_last, ended, broken_off, stopped_before, stopped_in, stop_fed, as_often, unfailed_before, alone_cause}
 
 -- ---- a plan by another name
 
@@ -126,7 +126,7 @@ module _ (words : List (List ℕ)) (o m : Outside) where
     meets = record {
       came = subst (λ (l : LinkView). HaveCome o.link.coming [] l.coming) (sym f.link) (came_none o.link.coming);
       left = subst (λ (l : LinkView). AreLeft o.link.past [] l.past) (sym f.link) (left_none o.link.past);
-      asked = ap (λ (l : LinkView). l.addresses) f.link;
+      others = ap (λ (l : LinkView). l.addresses) f.link;
       input_gave = j.gave;
     };
     missed = ap (λ (l : LinkView). l.faults) f.link;
@@ -163,12 +163,14 @@ module _ (words : List (List ℕ)) (o m : Outside) where
       tt
       (reads_all charter next j.input is (said_by (next j.verdict) None []))
       b.began
-      (alone_caused fault (address_in words) o m (reach_of (address_in words) o) nothing [] (both_none (outputs o.out o.err)) refl b.cause)
-      tells
+      b.missed.faults
+      (alone_cause (next j.verdict) fault (said_by (next j.verdict) None []) o m (reach_of (address_in words) o) (reach_of (address_in words) m) nothing []
+      (both_none (outputs o.out o.err)) refl (λ one. one) b.cause)
+      (unfailed_before b.unfailed) tells
 
   -- nothing was printed
   unprinted : (fault : Fault) (status : ℕ) (e : SinkView) (charter : Charter) (next : Verdict → Plan) (input : List ℕ) → plan_for words ≡ Judges charter next
-      → SourceGave o.input input m.input → reach_of (address_in words) m ≡ reach_of (address_in words) o → CauseOf fault o m [] → (fault ≡ F.Link → ⊥) → Tells fault status m.err e
+      → SourceGave o.input input m.input → reach_of (address_in words) m ≡ reach_of (address_in words) o → CauseOf fault (said [] nothing None) o m [] → (fault ≡ F.Link → ⊥) → Tells fault status m.err e
       → IsBrokenOff words status o (outside m.link m.input m.out e)
   unprinted fault status e charter next input is gave same cause other tells =
       broken_off words input None [] (said [] nothing None) fault status o m e
@@ -180,9 +182,9 @@ module _ (words : List (List ℕ)) (o m : Outside) where
       tt
       (reads_all charter next input is (said [] nothing None))
       (subst (λ (r : Reach). BothBegan (outputs o.out o.err) nothing r.shown) (sym same) (began_none (outputs o.out o.err) nothing))
-      (cause, as_often fault o.link.faults m.link.faults other (ap (λ (r : Reach). r.link.faults) same)) tells
+      (as_often fault o.link.faults m.link.faults other (ap (λ (r : Reach). r.link.faults) same)) cause (inr (inl tt)) tells
 
-  unread_cause : (fault : Fault) → replay.ReadingFails fault o.input m.input → CauseOf fault o m []
+  unread_cause : (fault : Fault) → replay.ReadingFails fault o.input m.input → CauseOf fault (said [] nothing None) o m []
   unread_cause F.Input r = r
   unread_cause F.NoMemory r = tt
   unread_cause F.Output r = absurd r
@@ -222,11 +224,11 @@ module _ (words : List (List ℕ)) (o m : Outside) where
           → IsBrokenOff words status o (outside m.link m.input m.out e)
       by_print (inl b) = judged_stops fault status e charter next is j b tells
       by_print (inr (lack, same)) =
-          unprinted fault status e charter next j.input is j.gave same (subst (λ f. CauseOf f o m []) (same_err (Err fault) fault F.NoMemory refl lack) tt)
+          unprinted fault status e charter next j.input is j.gave same (subst (λ f. CauseOf f (said [] nothing None) o m []) (same_err (Err fault) fault F.NoMemory refl lack) tt)
           (λ link. memory_link (same_err (Err fault) fault F.NoMemory refl lack ∙ link)) tells
   by_plan_err fault status e (Judges charter next) is (inr u) tells =
       unprinted fault status e charter next u.unread.0 is u.unread.1 u.unshown
-      (subst (λ f. CauseOf f o m []) (same_err (Err fault) fault u.fault refl u.is) (unread_cause u.fault u.unread.2))
+      (subst (λ f. CauseOf f (said [] nothing None) o m []) (same_err (Err fault) fault u.fault refl u.is) (unread_cause u.fault u.unread.2))
       (λ link. subst (λ f. replay.ReadingFails f o.input m.input) (same_err (Err fault) fault u.fault refl u.is ∙ link) u.unread.2) tells
   by_plan_err fault status e (Ends w ending) is j tells = absurd j
   by_plan_err fault status e (Asks w asked next) is j tells = absurd j

@@ -2,9 +2,6 @@
 use Rattle.std.proofs.Common.{◌≡◌, inl, inr, ℕ, List, [], ◌∷◌, refl, sym, ap, ◌∙◌, subst, Option, Some, None, Result, Err}
 use Rattle.std.specs.Prelude.{option_and_then, option_map}
 use Rattle.std.specs.Option.{option_map_or}
-use Rattle.engine_ports.specs.Source.{SourceView}
-use Rattle.engine_ports.specs.Sink.{SinkView}
-use Rattle.engine_ports.specs.Link.{LinkView, apart_from}
 use Rattle.client_model.specs.Plans.{Plan, fails}
 use Rattle.engine_line.specs.Lines.{port_in}
 use Rattle.client_model.specs.Lines.{read_by, commands, address_in, line_with, line_of}
@@ -20,7 +17,7 @@ use Rattle.client_exchange.proofs.AskLemmas.{does_fail}
 use Rattle.engine_client.specs.Reading.{Reads}
 use Rattle.engine_client.specs.declared.unread.Unread.{Unread}
 use Rattle.engine_client.specs.declared.unread.Unread.TheVariants.{NoForm}
-use Rattle.client_program.specs.Running.{outside, reach_of, Ran}
+use Rattle.client_program.specs.Running.{reach_of, Ran}
 
 -- its address is the first word
 with_address : (address : List ℕ) (port : Option ℕ) (command : Option Command) (line : Line) → option_and_then (λ p. option_map (line_with address) command) port ≡ Some line
@@ -64,7 +61,7 @@ line_lacks address plan o = inl (inl (
     next = plan;
     between = reach_of address o;
     walks = walk_none plan (reach_of address o);
-    comes = inr (inl (record { missed = record { coming = refl; past = refl; others = refl }; began = began_none (reach_of address o).shown (said_by plan None []).written; cause = inr refl }));
+    comes = inr (inl (record { missed = record { coming = refl; past = refl; others = refl; faults = refl }; began = began_none (reach_of address o).shown (said_by plan None []).written; cause = inl tt; unfailed = inl refl }));
   },
   refl,
 ))

@@ -1,14 +1,14 @@
 -- What a call says of its outside, by what was done of its plan.
-use Rattle.std.proofs.Common.{◌≡◌, ◌⊎◌, ◌≤◌, inl, inr, ℕ, List, [], ◌∷◌, ◌++◌, map, refl, sym, ap, ◌∙◌, subst, append_assoc, append-nil, Option, Some, None, Bool, true, false, IsFalse}
+use Rattle.std.proofs.Common.{◌≡◌, ◌⊎◌, ◌≤◌, inl, inr, ℕ, List, [], ◌∷◌, ◌++◌, ◌+◌, length, length-append, map, refl, sym, ap, ◌∙◌, subst, append_assoc, append-nil, Option, Some, None, Bool, true, false, IsFalse}
 use Rattle.std.specs.Prelude.{if◌then◌else◌, ◌||◌}
 use Rattle.std.specs.Bool.{MatchBool}
 use Rattle.std.specs.List.{list_any}
-use Rattle.std.proofs.lemmas.List.{map-append}
+use Rattle.std.proofs.lemmas.List.{map-append, length-map}
 use Rattle.std.proofs.lemmas.List.Folds.{list_any-append}
-use Rattle.engine_ports.specs.Rose.{Rose, raised}
+use Rattle.engine_ports.specs.Rose.{Rose}
 use Rattle.engine_ports.specs.Source.{SourceView, SourceGave, SourceEnded}
 use Rattle.engine_ports.specs.Sink.{SinkView, SinkTook, IsFront}
-use Rattle.engine_ports.specs.Link.{LinkView, others, apart_from}
+use Rattle.engine_ports.specs.Link.{LinkView, others, but_for}
 use Rattle.engine_ports.proofs.PortLemmas.{sink_on, rose_since, rose_until}
 use Rattle.response_reader.specs.Answers.{Answer}
 use Rattle.history_replay.specs.declared.verdict.Verdict.{Verdict}
@@ -17,12 +17,12 @@ use Rattle.client_model.specs.Faults.{fault_line}
 use Rattle.client_model.specs.Lines.{command_names, address_in}
 use Rattle.client_model.specs.Plans.{Plan, Ends, Asks, Judges, Asked, Written, Ending, joined}
 use Rattle.client_model.specs.Client.{Said, said, said_by, plan_for, IsJudged, status_at, line_at}
-use Rattle.client_model.specs.Runs.{Outside, Exchange, HaveCome, AreLeft, ByAnswers, SoFar, sent_by, asks_input, ReadsInput, WroteLine, IsEnded, HasFailed, CauseOf, AreSentSoFar, missed_by, IsBrokenOff}
+use Rattle.client_model.specs.Runs.{Outside, Exchange, HaveCome, AreLeft, ByAnswers, SoFar, sent_by, asks_input, ReadsInput, WroteLine, IsEnded, HasFailed, CauseOf, AreSentSoFar, missed_by, IsUnfailed, IsBrokenOff}
 use Rattle.client_model.specs.declared.fault.Fault.{Fault}
 use Rattle.client_model.specs.declared.fault.Fault.TheVariants as F
 use Rattle.client_streams.specs.Outputs.{outputs, BothTook, BothBegan, OutputsFail}
 use Rattle.client_streams.proofs.OutputLemmas.{both_on, began_behind, fails_since}
-use Rattle.client_exchange.specs.Exchanges.{Reach, Misses, FailsOn}
+use Rattle.client_exchange.specs.Exchanges.{Reach, KeepsOff, FailsOn}
 use Rattle.client_exchange.specs.Walks.{said_behind, Walked, StopsBefore, StopsIn, FailsAlone}
 use Rattle.client_exchange.proofs.WalkLemmas.{came_on, left_on}
 use Rattle.client_program.specs.Running.{outside, reach_of, Tells}
@@ -78,7 +78,7 @@ line_since e e' e'' part line le (inr (front, rose)) = inr (front, rose_since e.
 
 pub ended : (words : List (List ℕ)) (input : List ℕ) (next : Plan) (w : Written) (ending : Ending) (status : ℕ) (o o' : Outside) (p : Reach) (e : SinkView) (part : List ℕ)
     (way : Walked (plan_for words) input (reach_of (address_in words) o) next p) → next ≡ Ends w ending → BothTook p.shown w (outputs o'.out e)
-    → apart_from (address_in words) o'.link ≡ p.link
+    → but_for (address_in words) o'.link ≡ p.link
     → SourceGave o.input input o'.input → MatchBool (list_any (λ a. a.input) way.asked) (SourceEnded o.input o'.input) (input ≡ [])
     → SinkTook e part o'.err → WroteLine e part (line_at ending) o'.err → status ≡ status_at ending → IsEnded words status o o'
 ended words input next w ending status o o' p e part way next_is took link gave reads told line status_is = record {
@@ -91,7 +91,7 @@ ended words input next w ending status o o' p e part way next_is took link gave 
   meets = record {
     came = subst (λ (l : LinkView). HaveCome o.link.coming (map (λ x. x.came) way.xs) l.coming) (sym link) way.came;
     left = subst (λ (l : LinkView). AreLeft o.link.past (map (λ x. x.left) way.xs) l.past) (sym link) way.left;
-    asked = ap (λ (l : LinkView). l.addresses) link ∙ way.others;
+    others = ap (λ (l : LinkView). l.addresses) link ∙ way.others;
     input_gave = gave;
   };
   missed = ap (λ (l : LinkView). l.faults) link ∙ way.faults;
@@ -176,18 +176,56 @@ failed_last [] x h = h
 failed_last (y ∷ xs) x h = inr (failed_last xs x h)
 
 -- of an output or memory
-output_cause : (fault : Fault) (o m : Outside) (xs : List Exchange) → OutputsFail fault (outputs o.out o.err) (outputs m.out m.err) → CauseOf fault o m xs
-output_cause F.Output o m xs r = r
-output_cause F.Errors o m xs r = r
-output_cause F.NoMemory o m xs r = tt
-output_cause F.Input o m xs r = absurd r
-output_cause F.Connection o m xs r = absurd r
-output_cause F.Words o m xs r = absurd r
-output_cause F.Answer o m xs r = absurd r
-output_cause F.NoCode o m xs r = absurd r
-output_cause F.EventsGone o m xs r = absurd r
-output_cause (F.Refused message) o m xs r = absurd r
-output_cause F.Link o m xs r = absurd r
+output_cause : (fault : Fault) (said : Said) (o m : Outside) (xs : List Exchange) → OutputsFail fault (outputs o.out o.err) (outputs m.out m.err)
+    → CauseOf fault said o m xs
+output_cause F.Output said o m xs r = r
+output_cause F.Errors said o m xs r = r
+output_cause F.NoMemory said o m xs r = tt
+output_cause F.Input said o m xs r = absurd r
+output_cause F.Link said o m xs r = absurd r
+output_cause F.Connection said o m xs r = absurd r
+output_cause F.Words said o m xs r = absurd r
+output_cause F.Answer said o m xs r = absurd r
+output_cause F.NoCode said o m xs r = absurd r
+output_cause F.EventsGone said o m xs r = absurd r
+output_cause (F.Refused message) said o m xs r = absurd r
+
+-- of a connection that wasn't made
+miss_cause : (fault : Fault) (said : Said) (o m : Outside) (xs : List Exchange) → KeepsOff fault → length said.asked ≡ length xs + 1 → CauseOf fault said o m xs
+miss_cause F.Link said o m xs keeps more = more
+miss_cause F.NoMemory said o m xs keeps more = tt
+miss_cause F.Output said o m xs keeps more = absurd keeps
+miss_cause F.Errors said o m xs keeps more = absurd keeps
+miss_cause F.Input said o m xs keeps more = absurd keeps
+miss_cause F.Connection said o m xs keeps more = absurd keeps
+miss_cause F.Words said o m xs keeps more = absurd keeps
+miss_cause F.Answer said o m xs keeps more = absurd keeps
+miss_cause F.NoCode said o m xs keeps more = absurd keeps
+miss_cause F.EventsGone said o m xs keeps more = absurd keeps
+miss_cause (F.Refused message) said o m xs keeps more = absurd keeps
+
+pub alone_cause : (plan : Plan) (fault : Fault) (said : Said) (o m : Outside) (p q : Reach) (w : Written) (xs : List Exchange)
+    → BothTook (outputs o.out o.err) w p.shown → q.shown ≡ outputs m.out m.err → (length (said_by plan None []).asked ≡ 1 → length said.asked ≡ length xs + 1)
+    → FailsAlone plan fault p q → CauseOf fault said o m xs
+alone_cause plan fault said o m p q w xs took same more (inl r) =
+    output_cause fault said o m xs (fails_since fault (outputs o.out o.err) p.shown (outputs m.out m.err) w took (subst (OutputsFail fault p.shown) same r))
+alone_cause plan fault said o m p q w xs took same more (inr (keeps, one)) = miss_cause fault said o m xs keeps (more one)
+
+-- of an exchange
+exchange_cause : (fault : Fault) (starved : Type 0) (said : Said) (o m : Outside) (p : Reach) (w : Written) (xs : List Exchange) (x : Exchange)
+    → BothTook (outputs o.out o.err) w p.shown → (starved → Rose o.input.faults m.input.faults) → FailsOn starved fault x p.shown (outputs m.out m.err)
+    → CauseOf fault said o m (xs ++ x ∷ [])
+exchange_cause F.Connection starved said o m p w xs x took rose r = failed_last xs x r
+exchange_cause F.Input starved said o m p w xs x took rose r = rose r
+exchange_cause F.Output starved said o m p w xs x took rose r = rose_since o.out.faults p.shown.out.faults m.out.faults took.out.faults r
+exchange_cause F.Errors starved said o m p w xs x took rose r = rose_since o.err.faults p.shown.err.faults m.err.faults took.err.faults r
+exchange_cause F.NoMemory starved said o m p w xs x took rose r = tt
+exchange_cause F.Words starved said o m p w xs x took rose r = absurd r
+exchange_cause F.Answer starved said o m p w xs x took rose r = absurd r
+exchange_cause F.NoCode starved said o m p w xs x took rose r = absurd r
+exchange_cause F.EventsGone starved said o m p w xs x took rose r = absurd r
+exchange_cause (F.Refused message) starved said o m p w xs x took rose r = absurd r
+exchange_cause F.Link starved said o m p w xs x took rose r = absurd r
 
 -- behind another fault than the link's connecting failed as often
 pub as_often : (fault : Fault) (n m : ℕ) → (fault ≡ F.Link → ⊥) → m ≡ n → m ≡ missed_by fault n
@@ -203,68 +241,25 @@ as_often F.NoCode n m other same = same
 as_often F.EventsGone n m other same = same
 as_often (F.Refused message) n m other same = same
 
--- what a fault of the whole call leaves behind: its cause, and how often connecting failed
-abbrev pub IsCaused : Fault → Outside → Outside → List Exchange → Type 0
-IsCaused fault o m xs = CauseOf fault o m xs × (m.link.faults ≡ missed_by fault o.link.faults)
-
--- of a connection that wasn't made
-missed_so : (fault : Fault) (address : List ℕ) (o m : Outside) (p : Reach) (xs : List Exchange) → p.link.faults ≡ o.link.faults
-    → Misses fault p.link (reach_of address m).link → IsCaused fault o m xs
-missed_so F.Link address o m p xs was r = (tt, r ∙ ap raised was)
-missed_so F.NoMemory address o m p xs was r = (tt, r ∙ was)
-missed_so F.Output address o m p xs was r = absurd r
-missed_so F.Errors address o m p xs was r = absurd r
-missed_so F.Input address o m p xs was r = absurd r
-missed_so F.Connection address o m p xs was r = absurd r
-missed_so F.Words address o m p xs was r = absurd r
-missed_so F.Answer address o m p xs was r = absurd r
-missed_so F.NoCode address o m p xs was r = absurd r
-missed_so F.EventsGone address o m p xs was r = absurd r
-missed_so (F.Refused message) address o m p xs was r = absurd r
-
-pub alone_caused : (fault : Fault) (address : List ℕ) (o m : Outside) (p : Reach) (w : Written) (xs : List Exchange) → BothTook (outputs o.out o.err) w p.shown
-    → p.link.faults ≡ o.link.faults → FailsAlone fault p (reach_of address m) → IsCaused fault o m xs
-alone_caused fault address o m p w xs took was (inl (r, same)) = (
-  output_cause fault o m xs (fails_since fault (outputs o.out o.err) p.shown (outputs m.out m.err) w took r),
-  as_often fault o.link.faults m.link.faults (λ is. subst (λ f. OutputsFail f p.shown (outputs m.out m.err)) is r) (same ∙ was),
-)
-alone_caused fault address o m p w xs took was (inr r) = missed_so fault address o m p xs was r
-
-exchange_cause : (fault : Fault) (starved : Type 0) (o m : Outside) (p : Reach) (w : Written) (xs : List Exchange) (x : Exchange) → BothTook (outputs o.out o.err) w p.shown
-    → (starved → Rose o.input.faults m.input.faults) → FailsOn starved fault x p.shown (outputs m.out m.err) → CauseOf fault o m (xs ++ x ∷ [])
-exchange_cause F.Connection starved o m p w xs x took rose r = failed_last xs x r
-exchange_cause F.Input starved o m p w xs x took rose r = rose r
-exchange_cause F.Output starved o m p w xs x took rose r = rose_since o.out.faults p.shown.out.faults m.out.faults took.out.faults r
-exchange_cause F.Errors starved o m p w xs x took rose r = rose_since o.err.faults p.shown.err.faults m.err.faults took.err.faults r
-exchange_cause F.NoMemory starved o m p w xs x took rose r = tt
-exchange_cause F.Words starved o m p w xs x took rose r = absurd r
-exchange_cause F.Answer starved o m p w xs x took rose r = absurd r
-exchange_cause F.NoCode starved o m p w xs x took rose r = absurd r
-exchange_cause F.EventsGone starved o m p w xs x took rose r = absurd r
-exchange_cause (F.Refused message) starved o m p w xs x took rose r = absurd r
-exchange_cause F.Link starved o m p w xs x took rose r = absurd r
-
-pub exchange_caused : (fault : Fault) (starved : Type 0) (o m : Outside) (p : Reach) (w : Written) (xs : List Exchange) (x : Exchange)
-    → BothTook (outputs o.out o.err) w p.shown → (starved → Rose o.input.faults m.input.faults) → m.link.faults ≡ o.link.faults
-    → FailsOn starved fault x p.shown (outputs m.out m.err) → IsCaused fault o m (xs ++ x ∷ [])
-exchange_caused fault starved o m p w xs x took rose same r = (
-  exchange_cause fault starved o m p w xs x took rose r,
-  as_often fault o.link.faults m.link.faults (λ is. subst (λ f. FailsOn starved f x p.shown (outputs m.out m.err)) is r) same,
-)
-
 -- what is told behind it doesn't change it
-cause_until : (fault : Fault) (o m : Outside) (e : SinkView) (xs : List Exchange) → m.err.faults ≤ e.faults → CauseOf fault o m xs → CauseOf fault o (outside m.link m.input m.out e) xs
-cause_until F.Errors o m e xs le r = rose_until o.err.faults m.err.faults e.faults r le
-cause_until F.Input o m e xs le r = r
-cause_until F.Output o m e xs le r = r
-cause_until F.NoMemory o m e xs le r = r
-cause_until F.Link o m e xs le r = r
-cause_until F.Connection o m e xs le r = r
-cause_until F.Words o m e xs le r = r
-cause_until F.Answer o m e xs le r = r
-cause_until F.NoCode o m e xs le r = r
-cause_until F.EventsGone o m e xs le r = r
-cause_until (F.Refused message) o m e xs le r = r
+cause_until : (fault : Fault) (said : Said) (o m : Outside) (e : SinkView) (xs : List Exchange) → m.err.faults ≤ e.faults → CauseOf fault said o m xs
+    → CauseOf fault said o (outside m.link m.input m.out e) xs
+cause_until F.Errors said o m e xs le r = rose_until o.err.faults m.err.faults e.faults r le
+cause_until F.Input said o m e xs le r = r
+cause_until F.Output said o m e xs le r = r
+cause_until F.NoMemory said o m e xs le r = r
+cause_until F.Link said o m e xs le r = r
+cause_until F.Connection said o m e xs le r = r
+cause_until F.Words said o m e xs le r = r
+cause_until F.Answer said o m e xs le r = r
+cause_until F.NoCode said o m e xs le r = r
+cause_until F.EventsGone said o m e xs le r = r
+cause_until (F.Refused message) said o m e xs le r = r
+
+-- before it ended by a fault
+pub unfailed_before : {A B C : Type 0} → A ⊎ B → A ⊎ (B ⊎ C)
+unfailed_before (inl lack) = inl lack
+unfailed_before (inr unfailed) = inr (inl unfailed)
 
 -- ---- broken off
 
@@ -273,9 +268,10 @@ pub broken_off : (words : List (List ℕ)) (input : List ℕ) (verdict : Option 
     → others (address_in words) m.link.addresses ≡ others (address_in words) o.link.addresses → SourceGave o.input input m.input
     → (verdict ≡ None) ⊎ IsJudged (plan_for words) input verdict → ByAnswers (plan_for words) verdict xs s ⊎ SoFar (plan_for words) verdict xs s
     → AreSentSoFar (map (λ x. x.sent) xs) (map (sent_by input) s.asked) → (IsFalse (asks_input (plan_for words) s) → input ≡ [])
-    → BothBegan (outputs o.out o.err) s.written (outputs m.out m.err) → IsCaused fault o m xs → Tells fault status m.err e
+    → BothBegan (outputs o.out o.err) s.written (outputs m.out m.err) → m.link.faults ≡ missed_by fault o.link.faults → CauseOf fault s o m xs
+    → (fault ≡ F.NoMemory) ⊎ (IsUnfailed s.end ⊎ SoFar (plan_for words) verdict xs s) → Tells fault status m.err e
     → IsBrokenOff words status o (outside m.link m.input m.out e)
-broken_off words input verdict xs s fault status o m e came left asked gave judged says sent unread began caused tells = record {
+broken_off words input verdict xs s fault status o m e came left others gave judged says sent unread began missed cause unfailed tells = record {
   xs = xs;
   input = input;
   verdict = verdict;
@@ -284,8 +280,8 @@ broken_off words input verdict xs s fault status o m e came left asked gave judg
   out_part = began.part.out;
   err_part = began.part.err;
   part = tells.part;
-  meets = record { came = came; left = left; asked = asked; input_gave = gave };
-  missed = caused.1;
+  meets = record { came = came; left = left; others = others; input_gave = gave };
+  missed = missed;
   judged = judged;
   says = says;
   sent = sent;
@@ -295,7 +291,8 @@ broken_off words input verdict xs s fault status o m e came left asked gave judg
   out = began.took.out;
   err = sink_on o.err m.err e began.part.err tells.part began.took.err tells.took;
   line = line_since o.err m.err e tells.part (fault_line command_names fault) began.took.err.faults tells.line;
-  cause = cause_until fault o m e xs tells.took.faults caused.0;
+  cause = cause_until fault s o m e xs tells.took.faults cause;
+  unfailed = unfailed;
   status_is = tells.status_is;
 }
 
@@ -313,9 +310,15 @@ stopped_before words input next fault status o m p e way b gave unread tells =
     (inl (way.answers, way.answered, sym (way.says []) ∙ ap (said_by (plan_for words) None) (append-nil way.answers)))
     sent unread
     (began_behind (outputs o.out o.err) p.shown (outputs m.out m.err) way.written (said_by next None []).written way.took b.began)
-    (alone_caused fault (address_in words) o m p way.written way.xs way.took way.faults b.cause)
-    tells
+    (b.missed.faults ∙ ap (missed_by fault) way.faults)
+    (alone_cause next fault (said_behind way.asked way.written (said_by next None [])) o m p (reach_of (address_in words) m) way.written way.xs way.took refl one_more b.cause)
+    (unfailed_before b.unfailed) tells
   where
+    one_more : length (said_by next None []).asked ≡ 1 → length (way.asked ++ (said_by next None []).asked) ≡ length way.xs + 1
+    one_more one =
+        length-append way.asked (said_by next None []).asked ∙ ap (λ n. length way.asked + n) one
+        ∙ ap (λ n. n + 1) (sym (length-map way.asked (sent_by input)) ∙ sym (ap length way.sent) ∙ length-map way.xs (λ (x : Exchange). x.sent))
+
     sent : AreSentSoFar (map (λ x. x.sent) way.xs) (map (sent_by input) (way.asked ++ (said_by next None []).asked))
     sent =
         subst (λ l. AreSentSoFar l (map (sent_by input) (way.asked ++ (said_by next None []).asked))) (sym way.sent)
@@ -334,17 +337,21 @@ stopped_in words input next starved fault status o m p e way b rose gave unread 
     (left_on o.link.past p.link.past m.link.past way.xs (b.exchange ∷ []) way.left b.meets.left)
     (b.meets.others ∙ way.others)
     gave (inl refl)
-    (inr (way.xs, b.exchange, way.answers, b.answer, refl, way.answered, b.tells, sym (way.says (b.answer ∷ []))))
+    (inr so_far)
     sent (unread b.answer)
     (began_behind (outputs o.out o.err) p.shown (outputs m.out m.err) way.written last.written way.took b.began)
-    (exchange_caused fault starved o m p way.written way.xs b.exchange way.took rose (b.meets.faults ∙ way.faults) b.cause)
-    tells
+    (as_often fault o.link.faults m.link.faults (λ is. subst (λ f. FailsOn starved f b.exchange p.shown (outputs m.out m.err)) is b.cause) (b.meets.faults ∙ way.faults))
+    (exchange_cause fault starved (said_behind way.asked way.written last) o m p way.written way.xs b.exchange way.took rose b.cause)
+    (inr (inr so_far)) tells
   where
     last : Said
     last = said_by next None (b.answer ∷ [])
 
     asked : List Asked
     asked = (said_by next None (b.answer ∷ [])).asked
+
+    so_far : SoFar (plan_for words) None (way.xs ++ b.exchange ∷ []) (said_behind way.asked way.written (said_by next None (b.answer ∷ [])))
+    so_far = (way.xs, b.exchange, way.answers, b.answer, refl, way.answered, b.tells, sym (way.says (b.answer ∷ [])))
 
     sent : AreSentSoFar (map (λ x. x.sent) (way.xs ++ b.exchange ∷ [])) (map (sent_by input) (way.asked ++ (said_by next None (b.answer ∷ [])).asked))
     sent =

@@ -2,7 +2,7 @@
 use Rattle.std.specs.Prelude.{ℕ, ◌≡◌, ◌⊎◌, ◌≤◌, ⊤, List, Result}
 use Rattle.engine_ports.specs.Source.{SourceView}
 use Rattle.engine_ports.specs.Sink.{SinkView, SinkTook}
-use Rattle.engine_ports.specs.Link.{LinkView, apart_from}
+use Rattle.engine_ports.specs.Link.{LinkView, but_for}
 use Rattle.machine_model.specs.History.{greatest_moment}
 use Rattle.client_model.specs.Faults.{status_of, fault_line}
 use Rattle.client_model.specs.Lines.{command_names}
@@ -20,7 +20,7 @@ outside link input out err = record { link = link; input = input; out = out; err
 
 -- what requests to this address reach of it
 abbrev pub reach_of : List ℕ → Outside → Reach
-reach_of address o = reach (apart_from address o.link) o.out o.err
+reach_of address o = reach (but_for address o.link) o.out o.err
 
 -- what was done of a plan by requests to this address, before a fault is told
 abbrev pub Ran : List ℕ → Plan → Result ℕ Fault → Outside → Outside → Type 0

@@ -5,7 +5,7 @@ use Rattle.std.proofs.lemmas.Bool.{false≢true}
 use Rattle.atomic_table.specs.Seated.{TableId}
 use Rattle.engine_text.specs.declared.step.Step.{Step}
 use Rattle.engine_ports.specs.Rose.{Rose}
-use Rattle.engine_ports.specs.Door.{Outside, DoorView, IsEmpty, Came, Adds, LeaveSays}
+use Rattle.engine_ports.specs.Door.{Outside, DoorView, IsEmpty, Came, ToldLast, LeaveSays}
 use Rattle.engine_ports.proofs.PortLemmas.{rose_since}
 use Rattle.machine_model.specs.History.{Extends}
 use Rattle.session_model.specs.declared.ending.Ending.{Ending}
@@ -50,7 +50,7 @@ module _ {A : Type 0} where
   out_none None = tt
   out_none (Some xs) = sym (append-nil xs)
 
-  pub out_more : (l m n : Option (List A)) (xs : List A) (x : A) → GoOut l xs m → Adds m x n → GoOut l (xs ++ x ∷ []) n
+  pub out_more : (l m n : Option (List A)) (xs : List A) (x : A) → GoOut l xs m → ToldLast m x n → GoOut l (xs ++ x ∷ []) n
   out_more (Some l) (Some m) (Some n) xs x f g = g ∙ ap (λ v. v ++ x ∷ []) f ∙ append_assoc l xs (x ∷ [])
   out_more None None None xs x f g = tt
   out_more (Some l) None n xs x f g = absurd f

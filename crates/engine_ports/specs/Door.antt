@@ -48,11 +48,11 @@ Came (Some before) o None = ⊥
 Came None o (Some now) = ⊥
 
 -- what is told now is what was told, and this behind it
-abbrev pub Adds : {A : Type 0} → Option (List A) → A → Option (List A) → Type 0
-Adds (Some before) o (Some now) = now ≡ before ++ o ∷ []
-Adds None o None = Unit {0}
-Adds (Some before) o None = ⊥
-Adds None o (Some now) = ⊥
+abbrev pub ToldLast : {A : Type 0} → Option (List A) → A → Option (List A) → Type 0
+ToldLast (Some before) o (Some now) = now ≡ before ++ o ∷ []
+ToldLast None o None = Unit {0}
+ToldLast (Some before) o None = ⊥
+ToldLast None o (Some now) = ⊥
 
 -- none is to come, where they are told
 abbrev pub IsEmpty : {A : Type 0} → Option (List A) → Type 0
@@ -97,7 +97,7 @@ AcceptSays tells arrival.Failed v v' = SameDoor v v' × Rose v.faults v'.faults
 
 -- what leaving says: the connection is the last of the past
 pub record LeaveSays (number : ℕ) (o : Outside) (v v' : DoorView) : Type 0 where
-  pub past : Adds v.past (number, o) v'.past
+  pub past : ToldLast v.past (number, o) v'.past
   pub coming : v'.coming ≡ v.coming
   pub owed : v.owed ≤ v'.owed + 1
   pub faults : v'.faults ≡ v.faults

@@ -3,7 +3,7 @@ use Rattle.std.specs.Prelude.{ℕ, ◌≡◌, ◌≤◌, ◌+◌, ◌⊎◌, not
 use Rattle.engine_ports.specs.Rose.{Rose, raised}
 use Rattle.engine_ports.specs.Source.{SourceView}
 use Rattle.engine_ports.specs.Sink.{SinkView}
-use Rattle.engine_ports.specs.Door.{Came, Adds, IsFresh}
+use Rattle.engine_ports.specs.Door.{Came, ToldLast, IsFresh}
 use Rattle.engine_ports.specs.declared.ports.Failed.{Failed}
 
 -- what the two parts of a connection tell
@@ -35,7 +35,7 @@ pub record Connects (address : List ℕ) (w : Wire) (v v' : LinkView) : Type 0 w
   pub came : Came v.coming w v'.coming
   pub new : IsNewWire w
   pub past : v'.past ≡ v.past
-  pub addresses : Adds v.addresses address v'.addresses
+  pub addresses : ToldLast v.addresses address v'.addresses
   pub owed : Rose v.owed v'.owed
   pub faults : v'.faults ≡ v.faults
 
@@ -43,7 +43,7 @@ pub record Connects (address : List ℕ) (w : Wire) (v v' : LinkView) : Type 0 w
 pub record Misses (address : List ℕ) (v v' : LinkView) : Type 0 where
   pub coming : v'.coming ≡ v.coming
   pub past : v'.past ≡ v.past
-  pub addresses : Adds v.addresses address v'.addresses ⊎ (v'.addresses ≡ v.addresses)
+  pub addresses : ToldLast v.addresses address v'.addresses ⊎ (v'.addresses ≡ v.addresses)
   pub owed : v'.owed ≡ v.owed
   pub faults : v'.faults ≡ raised v.faults
 
@@ -54,7 +54,7 @@ ConnectSays address tells (Err x) v v' = Misses address v v'
 
 -- what leaving says: the connection is the last of the past
 pub record Leaves (w : Wire) (v v' : LinkView) : Type 0 where
-  pub past : Adds v.past w v'.past
+  pub past : ToldLast v.past w v'.past
   pub coming : v'.coming ≡ v.coming
   pub addresses : v'.addresses ≡ v.addresses
   pub owed : v.owed ≤ v'.owed + 1
@@ -64,6 +64,6 @@ pub record Leaves (w : Wire) (v v' : LinkView) : Type 0 where
 abbrev pub others : List ℕ → Option (List (List ℕ)) → Option (List (List ℕ))
 others address = option_map (filter (λ other. not (bytes_eq other address)))
 
--- a link apart from this address: of the addresses that were asked for, the others
-abbrev pub apart_from : List ℕ → LinkView → LinkView
-apart_from address v = record v { addresses = others address v.addresses }
+-- a link but for this address: of the addresses that were asked for, the others
+abbrev pub but_for : List ℕ → LinkView → LinkView
+but_for address v = record v { addresses = others address v.addresses }

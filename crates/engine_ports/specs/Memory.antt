@@ -107,11 +107,11 @@ pub record Misses : Type 0 where
   pub calls : ℕ
   pub faults : ℕ
 
--- the addresses that a link was asked for
-abbrev pub texts_of : List (String Global) → List (List ℕ)
-texts_of = map string_bytes
-
 -- a call fails exactly where its number says so
 abbrev pub IsCall : Misses → Bool → Misses → Type 0
 IsCall s true s' = Contains s.failing s.calls × (s' ≡ record s { calls = raised s.calls; faults = raised s.faults })
 IsCall s false s' = ¬ (Contains s.failing s.calls) × (s' ≡ record s { calls = raised s.calls })
+
+-- the addresses that these strings are
+abbrev pub addresses_in : List (String Global) → List (List ℕ)
+addresses_in = map string_bytes

@@ -1,6 +1,6 @@
 // `exec`, by its plan.
 ghost use Rattle.std.specs.Prelude.{true, false};
-ghost use Rattle.engine_ports.specs.Link.{apart_from};
+ghost use Rattle.engine_ports.specs.Link.{but_for};
 ghost use Rattle.client_model.specs.Commands.Exec.{exec_plan};
 ghost use Rattle.client_exchange.specs.Exchanges.{reach};
 ghost use Rattle.client_exchange.specs.Walks.{Does};
@@ -28,8 +28,8 @@ fn inspect_and_end<W: Wait, L: Link, K: Sink, E: Sink>(
     errors: &mut E,
 ) -> Result<u8, Fault>
     ensures { Does (inspects id.now) result
-        (reach (apart_from address.now (L.links link.old)) (K.takes out.old) (E.takes errors.old))
-        (reach (apart_from address.now (L.links link.new)) (K.takes out.new) (E.takes errors.new)) }
+        (reach (but_for address.now (L.links link.old)) (K.takes out.old) (E.takes errors.old))
+        (reach (but_for address.now (L.links link.new)) (K.takes out.new) (E.takes errors.new)) }
 {
     match ask_exit_code(
         rt,
@@ -57,8 +57,8 @@ fn execute_alone<W: Wait, L: Link, K: Sink, E: Sink>(
     errors: &mut E,
 ) -> Result<u8, Fault>
     ensures { Does (executes false id.now) result
-        (reach (apart_from address.now (L.links link.old)) (K.takes out.old) (E.takes errors.old))
-        (reach (apart_from address.now (L.links link.new)) (K.takes out.new) (E.takes errors.new)) }
+        (reach (but_for address.now (L.links link.old)) (K.takes out.old) (E.takes errors.old))
+        (reach (but_for address.now (L.links link.new)) (K.takes out.new) (E.takes errors.new)) }
 {
     match show_some(
         rt,
@@ -88,8 +88,8 @@ fn execute_fed<W: Wait, L: Link, N: Source, K: Sink, E: Sink>(
 ) -> Result<u8, Fault>
     ensures { FedDoes (executes true id.now) result
         (N.gives input.old) (N.gives input.new)
-        (reach (apart_from address.now (L.links link.old)) (K.takes out.old) (E.takes errors.old))
-        (reach (apart_from address.now (L.links link.new)) (K.takes out.new) (E.takes errors.new)) }
+        (reach (but_for address.now (L.links link.old)) (K.takes out.old) (E.takes errors.old))
+        (reach (but_for address.now (L.links link.new)) (K.takes out.new) (E.takes errors.new)) }
 {
     match show_fed(
         rt,
@@ -121,8 +121,8 @@ fn execute_and_end<W: Wait, L: Link, N: Source, K: Sink, E: Sink>(
 ) -> Result<u8, Fault>
     ensures { FedDoes (executes fed id.now) result
         (N.gives input.old) (N.gives input.new)
-        (reach (apart_from address.now (L.links link.old)) (K.takes out.old) (E.takes errors.old))
-        (reach (apart_from address.now (L.links link.new)) (K.takes out.new) (E.takes errors.new)) }
+        (reach (but_for address.now (L.links link.old)) (K.takes out.old) (E.takes errors.old))
+        (reach (but_for address.now (L.links link.new)) (K.takes out.new) (E.takes errors.new)) }
 {
     if fed {
         execute_fed(rt, alloc, link, address, id, input, out, errors)
@@ -146,8 +146,8 @@ pub fn exec_command<W: Wait, L: Link, N: Source, K: Sink, E: Sink>(
 ) -> Result<u8, Fault>
     ensures { FedDoes (exec_plan target.now words.now fed) result
         (N.gives input.old) (N.gives input.new)
-        (reach (apart_from address.now (L.links link.old)) (K.takes out.old) (E.takes errors.old))
-        (reach (apart_from address.now (L.links link.new)) (K.takes out.new) (E.takes errors.new)) }
+        (reach (but_for address.now (L.links link.old)) (K.takes out.old) (E.takes errors.old))
+        (reach (but_for address.now (L.links link.new)) (K.takes out.new) (E.takes errors.new)) }
 {
     let request = exec_create_request(alloc, target, words, fed);
     match ask_id(rt, alloc, link, address, request, out, errors) {

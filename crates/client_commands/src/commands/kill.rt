@@ -1,5 +1,5 @@
 // `kill`, by its plan.
-ghost use Rattle.engine_ports.specs.Link.{apart_from};
+ghost use Rattle.engine_ports.specs.Link.{but_for};
 ghost use Rattle.client_model.specs.Commands.Kill.{kill_plan};
 ghost use Rattle.client_exchange.specs.Exchanges.{reach};
 ghost use Rattle.client_exchange.specs.Walks.{Does};
@@ -24,8 +24,8 @@ pub fn kill_container<W: Wait, L: Link, K: Sink, E: Sink>(
     errors: &mut E,
 ) -> Result<u8, Fault>
     ensures { Does (kill_plan target.now signal.now) result
-        (reach (apart_from address.now (L.links link.old)) (K.takes out.old) (E.takes errors.old))
-        (reach (apart_from address.now (L.links link.new)) (K.takes out.new) (E.takes errors.new)) }
+        (reach (but_for address.now (L.links link.old)) (K.takes out.old) (E.takes errors.old))
+        (reach (but_for address.now (L.links link.new)) (K.takes out.new) (E.takes errors.new)) }
 {
     ask_and_print(
         rt,

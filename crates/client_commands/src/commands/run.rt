@@ -1,6 +1,6 @@
 // `run`, by its plan.
 ghost use Rattle.std.specs.Prelude.{true, false};
-ghost use Rattle.engine_ports.specs.Link.{apart_from};
+ghost use Rattle.engine_ports.specs.Link.{but_for};
 ghost use Rattle.client_model.specs.Plans.{ends};
 ghost use Rattle.client_model.specs.Commands.Run.{removes, run_plan};
 ghost use Rattle.client_exchange.specs.Exchanges.{reach};
@@ -29,8 +29,8 @@ fn remove_it<W: Wait, L: Link, K: Sink, E: Sink>(
     errors: &mut E,
 ) -> Result<u8, Fault>
     ensures { Does (removes true id.now (ends code)) result
-        (reach (apart_from address.now (L.links link.old)) (K.takes out.old) (E.takes errors.old))
-        (reach (apart_from address.now (L.links link.new)) (K.takes out.new) (E.takes errors.new)) }
+        (reach (but_for address.now (L.links link.old)) (K.takes out.old) (E.takes errors.old))
+        (reach (but_for address.now (L.links link.new)) (K.takes out.new) (E.takes errors.new)) }
 {
     match ask_all(
         rt,
@@ -62,8 +62,8 @@ fn remove_and_end<W: Wait, L: Link, K: Sink, E: Sink>(
     errors: &mut E,
 ) -> Result<u8, Fault>
     ensures { Does (removes remove id.now (ends code)) result
-        (reach (apart_from address.now (L.links link.old)) (K.takes out.old) (E.takes errors.old))
-        (reach (apart_from address.now (L.links link.new)) (K.takes out.new) (E.takes errors.new)) }
+        (reach (but_for address.now (L.links link.old)) (K.takes out.old) (E.takes errors.old))
+        (reach (but_for address.now (L.links link.new)) (K.takes out.new) (E.takes errors.new)) }
 {
     if remove {
         remove_it(rt, alloc, link, address, id, code, out, errors)
@@ -84,8 +84,8 @@ fn wait_and_end<W: Wait, L: Link, K: Sink, E: Sink>(
     errors: &mut E,
 ) -> Result<u8, Fault>
     ensures { Does (waits remove id.now) result
-        (reach (apart_from address.now (L.links link.old)) (K.takes out.old) (E.takes errors.old))
-        (reach (apart_from address.now (L.links link.new)) (K.takes out.new) (E.takes errors.new)) }
+        (reach (but_for address.now (L.links link.old)) (K.takes out.old) (E.takes errors.old))
+        (reach (but_for address.now (L.links link.new)) (K.takes out.new) (E.takes errors.new)) }
 {
     match ask_status_code(
         rt,
@@ -113,8 +113,8 @@ fn attach_alone<W: Wait, L: Link, K: Sink, E: Sink>(
     errors: &mut E,
 ) -> Result<u8, Fault>
     ensures { Does (attaches false remove id.now) result
-        (reach (apart_from address.now (L.links link.old)) (K.takes out.old) (E.takes errors.old))
-        (reach (apart_from address.now (L.links link.new)) (K.takes out.new) (E.takes errors.new)) }
+        (reach (but_for address.now (L.links link.old)) (K.takes out.old) (E.takes errors.old))
+        (reach (but_for address.now (L.links link.new)) (K.takes out.new) (E.takes errors.new)) }
 {
     match show_some(
         rt,
@@ -145,8 +145,8 @@ fn attach_fed<W: Wait, L: Link, N: Source, K: Sink, E: Sink>(
 ) -> Result<u8, Fault>
     ensures { FedDoes (attaches true remove id.now) result
         (N.gives input.old) (N.gives input.new)
-        (reach (apart_from address.now (L.links link.old)) (K.takes out.old) (E.takes errors.old))
-        (reach (apart_from address.now (L.links link.new)) (K.takes out.new) (E.takes errors.new)) }
+        (reach (but_for address.now (L.links link.old)) (K.takes out.old) (E.takes errors.old))
+        (reach (but_for address.now (L.links link.new)) (K.takes out.new) (E.takes errors.new)) }
 {
     match show_fed(
         rt,
@@ -179,8 +179,8 @@ fn attach_and_end<W: Wait, L: Link, N: Source, K: Sink, E: Sink>(
 ) -> Result<u8, Fault>
     ensures { FedDoes (attaches fed remove id.now) result
         (N.gives input.old) (N.gives input.new)
-        (reach (apart_from address.now (L.links link.old)) (K.takes out.old) (E.takes errors.old))
-        (reach (apart_from address.now (L.links link.new)) (K.takes out.new) (E.takes errors.new)) }
+        (reach (but_for address.now (L.links link.old)) (K.takes out.old) (E.takes errors.old))
+        (reach (but_for address.now (L.links link.new)) (K.takes out.new) (E.takes errors.new)) }
 {
     if fed {
         attach_fed(rt, alloc, link, address, id, remove, input, out, errors)
@@ -204,8 +204,8 @@ fn start_and_end<W: Wait, L: Link, N: Source, K: Sink, E: Sink>(
 ) -> Result<u8, Fault>
     ensures { FedDoes (starts fed remove id.now) result
         (N.gives input.old) (N.gives input.new)
-        (reach (apart_from address.now (L.links link.old)) (K.takes out.old) (E.takes errors.old))
-        (reach (apart_from address.now (L.links link.new)) (K.takes out.new) (E.takes errors.new)) }
+        (reach (but_for address.now (L.links link.old)) (K.takes out.old) (E.takes errors.old))
+        (reach (but_for address.now (L.links link.new)) (K.takes out.new) (E.takes errors.new)) }
 {
     match ask_all(
         rt,
@@ -240,8 +240,8 @@ pub fn run_container<W: Wait, L: Link, N: Source, K: Sink, E: Sink>(
 ) -> Result<u8, Fault>
     ensures { FedDoes (run_plan container.now remove) result
         (N.gives input.old) (N.gives input.new)
-        (reach (apart_from address.now (L.links link.old)) (K.takes out.old) (E.takes errors.old))
-        (reach (apart_from address.now (L.links link.new)) (K.takes out.new) (E.takes errors.new)) }
+        (reach (but_for address.now (L.links link.old)) (K.takes out.old) (E.takes errors.old))
+        (reach (but_for address.now (L.links link.new)) (K.takes out.new) (E.takes errors.new)) }
 {
     let request = create_request(alloc, container);
     match ask_id(rt, alloc, link, address, request, out, errors) {

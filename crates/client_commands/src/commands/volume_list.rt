@@ -1,5 +1,5 @@
 // `volume ls`, by its plan.
-ghost use Rattle.engine_ports.specs.Link.{apart_from};
+ghost use Rattle.engine_ports.specs.Link.{but_for};
 ghost use Rattle.client_model.specs.Commands.VolumeList.{volume_list_plan};
 ghost use Rattle.client_exchange.specs.Exchanges.{reach};
 ghost use Rattle.client_exchange.specs.Walks.{Does};
@@ -22,8 +22,8 @@ pub fn list_volumes<W: Wait, L: Link, K: Sink, E: Sink>(
     errors: &mut E,
 ) -> Result<u8, Fault>
     ensures { Does volume_list_plan result
-        (reach (apart_from address.now (L.links link.old)) (K.takes out.old) (E.takes errors.old))
-        (reach (apart_from address.now (L.links link.new)) (K.takes out.new) (E.takes errors.new)) }
+        (reach (but_for address.now (L.links link.old)) (K.takes out.old) (E.takes errors.old))
+        (reach (but_for address.now (L.links link.new)) (K.takes out.new) (E.takes errors.new)) }
 {
     match ask_volume_names(
         rt,

@@ -1,6 +1,6 @@
 // `watch`, by its plan.
 ghost use Rattle.std.specs.Prelude.{map, Some};
-ghost use Rattle.engine_ports.specs.Link.{LinkView, apart_from};
+ghost use Rattle.engine_ports.specs.Link.{LinkView, but_for};
 ghost use Rattle.engine_ports.specs.Sink.{SinkView};
 ghost use Rattle.client_model.specs.Plans.{if_whole, prints_all, done};
 ghost use Rattle.client_model.specs.Streams.{events_in};
@@ -99,8 +99,8 @@ pub fn watch_events<W: Wait, L: Link, K: Sink, E: Sink>(
     errors: &mut E,
 ) -> Result<u8, Fault>
     ensures { Does (watch_plan until.now) result
-        (reach (apart_from address.now (L.links link.old)) (K.takes out.old) (E.takes errors.old))
-        (reach (apart_from address.now (L.links link.new)) (K.takes out.new) (E.takes errors.new)) }
+        (reach (but_for address.now (L.links link.old)) (K.takes out.old) (E.takes errors.old))
+        (reach (but_for address.now (L.links link.new)) (K.takes out.new) (E.takes errors.new)) }
 {
     let request = events_request(alloc, "0", until);
     match ask_some(rt, alloc, link, address, request, out, errors) {

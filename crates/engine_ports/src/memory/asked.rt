@@ -1,6 +1,6 @@
 // Addresses that were asked for.
 ghost use Rattle.std.specs.Prelude.{◌≡◌, ◌++◌, ◌∷◌, [], ℕ, List, OnOk, OnErr};
-ghost use Rattle.engine_ports.specs.Memory.{texts_of};
+ghost use Rattle.engine_ports.specs.Memory.{addresses_in};
 
 use super::NoMemory;
 use std::alloc::Global;
@@ -15,7 +15,7 @@ pub struct Asked {
 impl Model for Asked {
     ghost Value = { List (List ℕ) };
 
-    ghost view = { λ a. texts_of a.addresses.items };
+    ghost view = { λ a. addresses_in a.addresses.items };
 }
 
 impl Asked {
@@ -41,7 +41,7 @@ impl Asked {
 
     /// All of them.
     pub fn addresses(&self) -> &[String]
-        ensures { texts_of result.now ≡ self.now }
+        ensures { addresses_in result.now ≡ self.now }
     {
         &self.addresses
     }

@@ -40,7 +40,7 @@ pub struct MemLink {
 
 impl MemLink {
     ghost use Rattle.engine_ports.specs.Links.{memory_wire, ready_of, closed_of};
-    ghost use Rattle.engine_ports.specs.Memory.{texts_of};
+    ghost use Rattle.engine_ports.specs.Memory.{addresses_in};
 
     /// A link that leads nowhere yet, and whose calls numbered in `failing` (from 0) fail.
     pub fn new(alloc: Global, failing: &[u64]) -> Result<MemLink, NoMemory>
@@ -85,9 +85,9 @@ impl MemLink {
         &self.past
     }
 
-    /// The addresses that were asked for, in that order, but for those for which there was no memory.
+    /// The addresses that were asked for, in that order, but for one for which there was no memory.
     pub fn asked(&self) -> &[String]
-        ensures { (⟦<MemLink as Link>⟧.links self.now).addresses ≡ Some (texts_of result.now) }
+        ensures { (⟦<MemLink as Link>⟧.links self.now).addresses ≡ Some (addresses_in result.now) }
     {
         self.asked.addresses()
     }
@@ -111,7 +111,7 @@ impl Link for MemLink {
 
     fn connect(&mut self, addr: &str) -> Result<(MemSource, MemSink), Failed> {
         if self.asked.add(addr).is_err() {
-            self.misses.count();
+            self.misses.fail();
             return Err(Failed);
         }
         if self.misses.fails() {

@@ -53,6 +53,17 @@ impl Misses {
         fails
     }
 
+    /// Counts a call that fails, whatever its number is.
+    pub fn fail(&mut self)
+        ensures { self.new ≡ record self.old {
+          calls = raised self.old.calls;
+          faults = raised self.old.faults;
+        } }
+    {
+        self.calls = self.calls.saturating_add(1);
+        self.faults = self.faults.saturating_add(1);
+    }
+
     /// Counts a fault more.
     pub fn count(&mut self)
         ensures one { self.new ≡ record self.old { faults = raised self.old.faults } }
