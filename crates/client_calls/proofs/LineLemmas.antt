@@ -1,5 +1,5 @@
 -- The commands of lines of texts have texts, so that the classes of what a line asks are those of the table.
-use Rattle.std.proofs.Common.{◌≡◌, ℕ, Bool, true, false, List, [], ◌∷◌, cond, codes, Option, Some, None, refl, ap, ◌∙◌, ◌++◌, ◌⊎◌, inl, inr, ⊎_elim}
+use Rattle.std.proofs.Common.{◌≡◌, ℕ, Bool, true, false, List, [], ◌∷◌, cond, codes, Option, Some, None, refl, sym, subst, ap, ◌∙◌, ◌++◌, ◌⊎◌, inl, inr}
 use Rattle.std.specs.Prelude.{IfSome, option_map, option_and_then, find, ⊤}
 use Rattle.std.specs.Option.{option_map_or}
 use Rattle.engine_line.specs.Lines.{port_in, seed_of, moment_in}
@@ -29,7 +29,7 @@ use Rattle.client_model.specs.declared.command.Line.{Line}
 use Rattle.client_model.specs.declared.fault.Fault.TheVariants as F
 use Rattle.client_calls.specs.Table.{calls_of, calls_for}
 use Rattle.client_calls.proofs.CommandTexts.{IsContainer, HasTexts}
-use Rattle.client_model.specs.Runs.{AreAnswered, ByAnswers, SoFar}
+use Rattle.client_model.specs.Runs.{Exchange, AreAnswered, LacksVerdict, BreaksBehind, BreaksWithin}
 use Rattle.client_calls.specs.Laws.{entries_of, AsksCalls, EndsByCalls, AreToldSoFar, BreaksOffByCalls}
 use Rattle.engine_text.specs.Words.{AreUtf8}
 use Rattle.client_calls.proofs.JsonByteLemmas.{map-good}
@@ -193,18 +193,22 @@ asks-calls words texts verdict answers = line-calls (line_of words) verdict answ
 -- and so is what a call of the client asked
 pub ends-by-calls : (words : List (List ℕ)) → AreUtf8 words → EndsByCalls words
 ends-by-calls words texts status o o' run =
-    let says = run.says in
-    (says.0, says.1, ap (λ said. entries_of said.asked) says.2 ∙ asks-calls words texts run.verdict says.0)
+    ap (λ said. entries_of said.asked) run.says ∙ asks-calls words texts run.verdict run.answers
 
 pub breaks-off-by-calls : (words : List (List ℕ)) → AreUtf8 words → BreaksOffByCalls words
-breaks-off-by-calls words texts status o o' run = ⊎_elim by_answers so_far run.says
+breaks-off-by-calls words texts status o o' run = by run.breaks
   where
-    by_answers : ByAnswers (plan_for words) run.verdict run.xs run.said
-        → (answers : List Answer) × (AreAnswered run.xs answers ⊎ AreToldSoFar run.xs answers) × (entries_of run.said.asked ≡ calls_for words answers)
-    by_answers says = (says.0, inl says.1, ap (λ said. entries_of said.asked) says.2 ∙ asks-calls words texts run.verdict says.0)
-
-    so_far : SoFar (plan_for words) run.verdict run.xs run.said
-        → (answers : List Answer) × (AreAnswered run.xs answers ⊎ AreToldSoFar run.xs answers) × (entries_of run.said.asked ≡ calls_for words answers)
-    so_far says =
-        let answers = says.2 ++ says.3 ∷ [] in
-        (answers, inr (says.0, says.1, says.2, says.3, says.4, refl, says.5, says.6), ap (λ said. entries_of said.asked) says.7 ∙ asks-calls words texts run.verdict answers)
+    by : LacksVerdict (plan_for words) run.fault run.course o o' ⊎ (BreaksBehind (plan_for words) run.fault run.course o o' ⊎ BreaksWithin (plan_for words) run.fault run.course o o')
+        → (answers : List Answer) × (AreAnswered run.course.xs answers ⊎ AreToldSoFar run.course.xs answers) × (entries_of run.course.said.asked ≡ calls_for words answers)
+    by (inl b) = (
+      [],
+      inl (subst (λ (xs : List Exchange). AreAnswered xs []) (sym b.unasked) tt),
+      ap (λ said. entries_of said.asked) b.says ∙ asks-calls words texts None [],
+    )
+    by (inr (inl b)) =
+        (b.answers, inl b.whole.answered, ap (λ said. entries_of said.asked) b.says ∙ asks-calls words texts run.course.verdict b.answers)
+    by (inr (inr b)) = (
+      b.answers ++ b.answer ∷ [],
+      inr (b.before, b.last, b.answers, b.answer, b.xs_are, refl, b.whole.answered, b.tells),
+      ap (λ said. entries_of said.asked) b.says ∙ asks-calls words texts run.course.verdict (b.answers ++ b.answer ∷ []),
+    )

@@ -16,12 +16,8 @@ sent-as input (s ∷ sents) (a ∷ asked) h = ((a.request, refl, h.0), sent-as i
 
 pub sends-calls : (words : List (List ℕ)) → AreUtf8 words → EndedCallsSend → SendsCalls words
 sends-calls words texts sends status o o' run short =
-    let ends = ends-by-calls words texts status o o' run in (
-      ends.0,
-      ends.1,
-      subst (AllZip (IsSentAs run.input) (map (λ x. x.sent) run.xs)) ends.2
-          (sent-as run.input (map (λ x. x.sent) run.xs) run.said.asked (sends words status o o' run short)),
-    )
+    subst (AllZip (IsSentAs run.input) (map (λ x. x.sent) run.xs)) (ends-by-calls words texts status o o' run)
+    (sent-as run.input (map (λ x. x.sent) run.xs) run.said.asked (sends words status o o' run short))
 
 sent-up-to : (input : List ℕ) (sents : List (List ℕ)) (asked : List Asked) → AreSentUpTo input sents asked → AreSentAsUpTo input sents (entries_of asked)
 sent-up-to input [] asked h = tt
@@ -35,6 +31,6 @@ sends-calls-so-far words texts sends status o o' run short =
     let says = breaks-off-by-calls words texts status o o' run in (
       says.0,
       says.1,
-      subst (AreSentAsUpTo run.input (map (λ x. x.sent) run.xs)) says.2
-          (sent-up-to run.input (map (λ x. x.sent) run.xs) run.said.asked (sends words status o o' run short)),
+      subst (AreSentAsUpTo run.course.input (map (λ x. x.sent) run.course.xs)) says.2
+          (sent-up-to run.course.input (map (λ x. x.sent) run.course.xs) run.course.said.asked (sends words status o o' run short)),
     )

@@ -32,9 +32,9 @@ RequestsAreCalls = (words : List (List ℕ)) → AreUtf8 words → AsksCalls wor
 -- one that came to its end asked the calls of the answers that its connections gave
 abbrev pub EndsByCalls : List (List ℕ) → Type 0
 EndsByCalls words = (status : ℕ) (o o' : Outside) (run : IsEnded words status o o')
-    → (answers : List Answer) × AreAnswered run.xs answers × (entries_of run.said.asked ≡ calls_for words answers)
+    → entries_of run.said.asked ≡ calls_for words run.answers
 
--- each but the last gave its answer, and the last tells as much of one as has come
+-- each but the last gave its answer, and the last tells at least so much of one
 abbrev pub AreToldSoFar : List Exchange → List Answer → Type 0
 AreToldSoFar xs answers =
     (before : List Exchange) × (last : Exchange) × (whole : List Answer) × (answer : Answer)
@@ -43,4 +43,5 @@ AreToldSoFar xs answers =
 -- and so did one that was broken off, as far as they had come
 abbrev pub BreaksOffByCalls : List (List ℕ) → Type 0
 BreaksOffByCalls words = (status : ℕ) (o o' : Outside) (run : IsBrokenOff words status o o')
-    → (answers : List Answer) × (AreAnswered run.xs answers ⊎ AreToldSoFar run.xs answers) × (entries_of run.said.asked ≡ calls_for words answers)
+    → (answers : List Answer) × (AreAnswered run.course.xs answers ⊎ AreToldSoFar run.course.xs answers)
+    × (entries_of run.course.said.asked ≡ calls_for words answers)

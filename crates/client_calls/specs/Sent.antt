@@ -29,11 +29,10 @@ AreSentAsUpTo input sents [] = ⊥
 -- and by the answers that they gave.
 abbrev pub SendsCalls : List (List ℕ) → Type 0
 SendsCalls words = (status : ℕ) (o o' : Outside) (run : IsEnded words status o o') → IsShortLine words
-    → (answers : List Answer) × AreAnswered run.xs answers
-    × AllZip (IsSentAs run.input) (map (λ x. x.sent) run.xs) (calls_for words answers)
+    → AllZip (IsSentAs run.input) (map (λ x. x.sent) run.xs) (calls_for words run.answers)
 
 -- so were those of a run that was broken off, as far as they came, by the answers so far
 abbrev pub SendsCallsSoFar : List (List ℕ) → Type 0
 SendsCallsSoFar words = (status : ℕ) (o o' : Outside) (run : IsBrokenOff words status o o') → IsShortLine words
-    → (answers : List Answer) × (AreAnswered run.xs answers ⊎ AreToldSoFar run.xs answers)
-    × AreSentAsUpTo run.input (map (λ x. x.sent) run.xs) (calls_for words answers)
+    → (answers : List Answer) × (AreAnswered run.course.xs answers ⊎ AreToldSoFar run.course.xs answers)
+    × AreSentAsUpTo run.course.input (map (λ x. x.sent) run.course.xs) (calls_for words answers)

@@ -40,7 +40,7 @@ stops_short plan o = record {
   next = plan;
   between = o;
   walks = walk_none plan o;
-  comes = inr (inl (record { missed = record { coming = refl; past = refl; others = refl; faults = refl }; began = began_none o.shown (said_by plan None []).written; cause = inl tt; unfailed = inl refl }));
+  comes = inr (inl (record { missed = record { coming = refl; past = refl; others = refl; faults = refl }; began = began_none o.shown (said_by plan None []).written; cause = tt; unfailed = inl refl }));
 }
 
 pub short_behind : (plan next : Plan) (o p : Reach) → Walks plan o next p → Does plan (Err F.NoMemory) o p
@@ -48,7 +48,7 @@ short_behind plan next o p walks = record {
   next = next;
   between = p;
   walks = walks;
-  comes = inr (inl (record { missed = record { coming = refl; past = refl; others = refl; faults = refl }; began = began_none p.shown (said_by next None []).written; cause = inl tt; unfailed = inl refl }));
+  comes = inr (inl (record { missed = record { coming = refl; past = refl; others = refl; faults = refl }; began = began_none p.shown (said_by next None []).written; cause = tt; unfailed = inl refl }));
 }
 
 -- ---- a plan that was reached, and its end

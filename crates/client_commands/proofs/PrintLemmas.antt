@@ -1,5 +1,5 @@
 -- Lines, printed one after another.
-use Rattle.std.proofs.Common.{◌≡◌, ◌<◌, ◌≤◌, inl, inr, ℕ, ◌+◌, List, [], ◌∷◌, ◌++◌, length, take, drop, get_or, refl, sym, ap, ◌∙◌, subst, append-nil, None, Result, Ok, Err, codes}
+use Rattle.std.proofs.Common.{arith, ◌≡◌, ◌<◌, ◌≤◌, inl, inr, ℕ, ◌+◌, List, [], ◌∷◌, ◌++◌, length, take, drop, get_or, refl, sym, ap, ◌∙◌, subst, append-nil, length-append, None, Result, Ok, Err, codes}
 use Rattle.std.proofs.lemmas.Grind.{flat_map-append}
 use Rattle.std.proofs.lemmas.List.{take_more, take_all, take-append-drop}
 use Rattle.engine_ports.specs.Sink.{SinkView, SinkTook, WriteSays}
@@ -10,7 +10,7 @@ use Rattle.client_model.specs.Plans.{Plan, Ends, Done, to_out, prints, prints_al
 use Rattle.client_model.specs.Client.{said_by}
 use Rattle.client_model.specs.declared.fault.Fault.{Fault}
 use Rattle.client_model.specs.declared.fault.Fault.TheVariants as F
-use Rattle.client_streams.proofs.OutputLemmas.{out_took, out_failed, began_none}
+use Rattle.client_streams.proofs.OutputLemmas.{out_took, out_failed, began_none, none_first}
 use Rattle.client_exchange.specs.Exchanges.{Reach, reach}
 use Rattle.client_exchange.specs.Walks.{IsAsking, StopsBefore, Comes}
 use Rattle.client_commands.specs.Printing.{lines_text, Prints, PrintsOrLacks}
@@ -45,6 +45,17 @@ line_failed lines i line text x u v w within at is before broke =
 pub lines_all : (lines : List (List ℕ)) (i : ℕ) (u v : SinkView) → length lines ≤ i → SinkTook u (lines_text (take i lines)) v → SinkTook u (lines_text lines) v
 lines_all lines i u v all took = subst (λ l. SinkTook u (lines_text l) v) (take_all i lines all) took
 
+-- a line has its end
+line_some : (line : List ℕ) → line ++ codes "\n" ≡ [] → ⊥
+line_some line e = omega (arith, ap length e, length-append line (codes "\n"), one)
+  where
+    one : length (codes "\n") ≡ 1
+    one = refl
+
+pub lines_some : (lines : List (List ℕ)) (i : ℕ) → i < length lines → lines_text lines ≡ [] → ⊥
+lines_some [] i within e = omega (arith, within)
+lines_some (line ∷ lines) i within e = line_some line (none_first (line ++ codes "\n") (lines_text lines) e)
+
 -- ---- the plans that print them
 
 prints_so : (line : List ℕ) → prints line done ≡ Ends (to_out (line ++ codes "\n")) (Done 0)
@@ -59,27 +70,27 @@ printed : (plan : Plan) (text : List ℕ) (status : ℕ) (x : Unit {0}) (link : 
     → Prints plan (Ok status) (reach link u e) (reach link u' e)
 printed plan text status x link u u' e is took = record { written = to_out text; is = is; took = out_took text u u' e took; link = refl }
 
-unprinted : (plan : Plan) (text : List ℕ) (status : ℕ) (x : Failed) (link : LinkView) (u u' e : SinkView) → plan ≡ Ends (to_out text) (Done status) → WriteSays (Err x) text u u'
+unprinted : (plan : Plan) (text : List ℕ) (status : ℕ) (x : Failed) (link : LinkView) (u u' e : SinkView) → plan ≡ Ends (to_out text) (Done status) → (text ≡ [] → ⊥) → WriteSays (Err x) text u u'
     → Prints plan (Err F.Output) (reach link u e) (reach link u' e)
-unprinted plan text status x link u u' e is broke =
+unprinted plan text status x link u u' e is some broke =
     subst (λ p. StopsBefore p F.Output (reach link u e) (reach link u' e)) (sym is)
     (let b = out_failed x text u u' e broke in
-    record { missed = record { coming = refl; past = refl; others = refl; faults = refl }; began = b.0; cause = inl b.1; unfailed = inr tt })
+    record { missed = record { coming = refl; past = refl; others = refl; faults = refl }; began = b.0; cause = (b.1, some); unfailed = inr tt })
 
 pub line_printed : (line : List ℕ) (x : Unit {0}) (link : LinkView) (u u' e : SinkView) → WriteSays (Ok x) (line ++ codes "\n") u u' → Prints (prints line done) (Ok 0) (reach link u e) (reach link u' e)
 line_printed line x link u u' e took = printed (prints line done) (line ++ codes "\n") 0 x link u u' e (prints_so line) took
 
 pub line_unprinted : (line : List ℕ) (x : Failed) (link : LinkView) (u u' e : SinkView) → WriteSays (Err x) (line ++ codes "\n") u u'
     → Prints (prints line done) (Err F.Output) (reach link u e) (reach link u' e)
-line_unprinted line x link u u' e broke = unprinted (prints line done) (line ++ codes "\n") 0 x link u u' e (prints_so line) broke
+line_unprinted line x link u u' e broke = unprinted (prints line done) (line ++ codes "\n") 0 x link u u' e (prints_so line) (line_some line) broke
 
 pub lines_printed : (lines : List (List ℕ)) (status : ℕ) (x : Unit {0}) (link : LinkView) (u u' e : SinkView) → WriteSays (Ok x) (lines_text lines) u u'
     → Prints (prints_all lines (ends status)) (Ok status) (reach link u e) (reach link u' e)
 lines_printed lines status x link u u' e took = printed (prints_all lines (ends status)) (lines_text lines) status x link u u' e (prints_all_so lines status) took
 
-pub lines_unprinted : (lines : List (List ℕ)) (status : ℕ) (x : Failed) (link : LinkView) (u u' e : SinkView) → WriteSays (Err x) (lines_text lines) u u'
+pub lines_unprinted : (lines : List (List ℕ)) (status : ℕ) (x : Failed) (link : LinkView) (u u' e : SinkView) → WriteSays (Err x) (lines_text lines) u u' → (lines_text lines ≡ [] → ⊥)
     → Prints (prints_all lines (ends status)) (Err F.Output) (reach link u e) (reach link u' e)
-lines_unprinted lines status x link u u' e broke = unprinted (prints_all lines (ends status)) (lines_text lines) status x link u u' e (prints_all_so lines status) broke
+lines_unprinted lines status x link u u' e broke some = unprinted (prints_all lines (ends status)) (lines_text lines) status x link u u' e (prints_all_so lines status) some broke
 
 -- ---- how a plan that prints comes out
 
@@ -111,7 +122,7 @@ lines_as lines lines' status result o o' is p = prints_come (prints_all lines' (
 -- memory was refused before anything was printed
 pub comes_short : (plan : Plan) (o : Reach) → Comes plan (Err F.NoMemory) o o
 comes_short plan o =
-    inr (inl (record { missed = record { coming = refl; past = refl; others = refl; faults = refl }; began = began_none o.shown (said_by plan None []).written; cause = inl tt; unfailed = inl refl }))
+    inr (inl (record { missed = record { coming = refl; past = refl; others = refl; faults = refl }; began = began_none o.shown (said_by plan None []).written; cause = tt; unfailed = inl refl }))
 
 pub prints_or_lacks : (plan : Plan) (result : Result ℕ Fault) (o o' : Reach) → PrintsOrLacks plan result o o' → Comes plan result o o'
 prints_or_lacks plan result o o' (inl p) = prints_come plan result o o' p

@@ -1,5 +1,5 @@
 // Lines on standard output, at the end of a command.
-ghost use Rattle.std.specs.Prelude.{◌++◌, codes, decimal};
+ghost use Rattle.std.specs.Prelude.{◌≡◌, ◌++◌, [], codes, decimal, IfErr};
 ghost use Rattle.engine_ports.specs.Link.{LinkView};
 ghost use Rattle.engine_ports.specs.Sink.{SinkView, WriteSays};
 ghost use Rattle.client_model.specs.Plans.{prints, prints_all, done, ends};
@@ -21,7 +21,8 @@ fn write_line<K: Sink>(out: &mut K, line: &[u8]) -> Result<(), Failed>
 
 /// Writes lines.
 fn write_lines<K: Sink>(out: &mut K, lines: &[Text]) -> Result<(), Failed>
-    ensures { WriteSays result (lines_text lines.now) (K.takes out.old) (K.takes out.new) }
+    ensures written { WriteSays result (lines_text lines.now) (K.takes out.old) (K.takes out.new) }
+    ensures failing { IfErr result (λ failed. ¬ (lines_text lines.now ≡ [])) }
 {
     'lines: for line in lines {
         match write_line(out, line.as_slice()) {

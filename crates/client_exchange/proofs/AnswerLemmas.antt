@@ -18,15 +18,16 @@ use Rattle.response_reader.specs.declared.got.Stopped.{Stopped}
 use Rattle.response_reader.specs.declared.got.Stopped.TheVariants as stop
 use Rattle.response_reader.specs.declared.got.Answered.TheVariants as head
 use Rattle.client_model.specs.Bodies.{message_in}
-use Rattle.client_model.specs.Plans.{nothing, goes_on, if_whole, fails}
+use Rattle.client_model.specs.Plans.{Written, nothing, goes_on, if_whole, fails}
+use Rattle.client_model.specs.Runs.{AreFronts}
 use Rattle.client_model.specs.declared.fault.Fault.{Fault}
 use Rattle.client_model.specs.declared.fault.Fault.TheVariants as F
 use Rattle.client_streams.specs.Outputs.{Outputs, BothBegan}
 use Rattle.client_streams.specs.Taking.{Taken, taken, shows}
-use Rattle.client_exchange.specs.Telling.{Stands, Told, ToldSoFar, Fails, FollowSays, Refuses, answer_shows, unread_answer, FaultSays, Goes, IsRefused, BreaksOff, RefusalSays, AnswerSays}
+use Rattle.client_exchange.specs.Telling.{Stands, Told, ToldSoFar, ReadFails, HadToWrite, FollowSays, Refuses, answer_shows, unread_answer, FaultSays, Goes, IsRefused, BreaksOff, RefusalSays, AnswerSays}
 use Rattle.client_streams.specs.declared.taker.Showing.{Showing}
 use Rattle.client_streams.specs.declared.taker.Showing.TheVariants.{Kept}
-use Rattle.client_streams.proofs.OutputLemmas.{both_none, fronts_none, began_none}
+use Rattle.client_streams.proofs.OutputLemmas.{both_none, fronts_none}
 use Rattle.client_exchange.proofs.FollowLemmas.{has_ended}
 
 -- ---- statuses
@@ -87,9 +88,11 @@ pub head_failed : (showing : Showing) (old new : Reading) (s s' : SourceView) (o
 head_failed showing old new s s' o is says =
     let now = stops_now old new stop.ReadFault s s' _ is says in record {
       answer = NoHead;
-      told = record { bytes = now.0.read; gave = now.0.gave; is = tt };
-      began = began_none o nothing;
+      told = record { bytes = now.0.read; gave = now.0.gave; is = given (IsPartOf IsHead) old s s' is now.0 };
+      began = record { part = nothing; fronts = fronts_none nothing; took = both_none o };
       cause = now.1;
+      had = tt;
+      all = λ connection. (given (IsPartOf IsHead) old s s' is now.0, refl);
     }
 
 -- ---- a body
@@ -100,6 +103,13 @@ shown_below showing h body whole less = ap (λ t. if t then shows showing body e
 shown_above : (showing : Showing) (h : Head) (body : List ℕ) (whole : Bool) → nat_lt h.status 400 ≡ false → nothing ≡ answer_shows showing (Answered h body whole)
 shown_above showing h body whole more = ap (λ t. if t then shows showing body else nothing) (sym more)
 
+-- the same part of it was written
+abbrev began_as : (o o' : Outputs) (w v : Written) → w ≡ v → BothBegan o w o' → BothBegan o v o'
+began_as o o' w v is b = record { part = b.part; fronts = subst (AreFronts b.part) is b.fronts; took = b.took }
+
+memory_connection : F.NoMemory ≡ F.Connection → ⊥
+memory_connection e = cc
+
 pub goes : (h : Head) (first : Option ℕ) (whole : Bool) (showing : Showing) (t : Taken) (came s : SourceView) (o o' : Outputs)
     → nat_lt h.status 400 ≡ true → first ≡ first_in h.form → FollowSays (Ok whole) came h showing t s o o'
     → Goes (record { first = first; whole = whole }) showing t came s o o'
@@ -108,11 +118,13 @@ goes h first whole showing t came s o o' less is (body, kept, told, took) =
 
 pub breaks_off : (h : Head) (fault : Fault) (showing : Showing) (t : Taken) (came s : SourceView) (o o' : Outputs)
     → nat_lt h.status 400 ≡ true → FollowSays (Err fault) came h showing t s o o' → BreaksOff fault showing came s o o'
-breaks_off h fault showing t came s o o' less (body, told, began, cause) = record {
+breaks_off h fault showing t came s o o' less (body, told, began, cause, had, all) = record {
   answer = Answered h body false;
   told = told;
-  began = subst (λ w. BothBegan o w o') (shown_below showing h body false less) began;
+  began = began_as o o' (shows showing body) (answer_shows showing (Answered h body false)) (shown_below showing h body false less) began;
   cause = cause;
+  had = subst (HadToWrite fault) (shown_below showing h body false less) had;
+  all = λ connection. let counted = all connection in (counted.0, counted.1 ∙ shown_below showing h body false less);
 }
 
 -- by an answer that refuses, every command fails so
@@ -131,8 +143,10 @@ refused_so h whole fault t kept came s o o' more (body, is, told, took) same (in
     inr (λ showing. record {
       answer = Answered h body false;
       told = told_less came s h body whole told;
-      began = subst (λ w. BothBegan o w o') (shown_above showing h body false more) (record { part = nothing; fronts = fronts_none nothing; took = took });
-      cause = subst (λ f. Fails f came s o o') (sym memory) tt;
+      began = record { part = nothing; fronts = fronts_none (answer_shows showing (Answered h body false)); took = took };
+      cause = subst (λ f. ReadFails f came s o o') (sym memory) tt;
+      had = subst (λ f. HadToWrite f (answer_shows showing (Answered h body false))) (sym memory) (sym (shown_above showing h body false more));
+      all = λ connection. absurd (memory_connection (sym memory ∙ connection));
     })
 refused_so h whole fault t kept came s o o' more (body, is, told, took) same (inr tells) =
     let bytes : kept ≡ body = same ∙ ap (λ (k : Taken). k.kept) is in
@@ -150,12 +164,14 @@ refused h whole fault showing t kept came s o o' is more says =
 
 failed_so : (h : Head) (fault : Fault) (t : Taken) (came s : SourceView) (o o' : Outputs) → nat_lt h.status 400 ≡ false
     → FollowSays (Err fault) came h Kept t s o o' → RefusalSays fault came s o o'
-failed_so h fault t came s o o' more (body, told, began, cause) =
+failed_so h fault t came s o o' more (body, told, began, cause, had, all) =
     inr (λ showing. record {
       answer = Answered h body false;
       told = told;
-      began = subst (λ w. BothBegan o w o') (shown_above showing h body false more) began;
+      began = began_as o o' nothing (answer_shows showing (Answered h body false)) (shown_above showing h body false more) began;
       cause = cause;
+      had = subst (HadToWrite fault) (shown_above showing h body false more) had;
+      all = λ connection. let counted = all connection in (counted.0, counted.1 ∙ shown_above showing h body false more);
     })
 
 pub refused_failed : (h : Head) (fault : Fault) (showing : Showing) (t : Taken) (came s : SourceView) (o o' : Outputs) → showing ≡ Kept

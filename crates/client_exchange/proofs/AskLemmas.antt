@@ -9,14 +9,14 @@ use Rattle.client_model.specs.Requests.{request_bytes}
 use Rattle.client_model.specs.Bodies.{message_in}
 use Rattle.client_model.specs.Plans.{Plan, Ends, Asks, Judges, Asked, Written, Fails, nothing, joined, writes, goes_on, if_whole, fails, by_answer}
 use Rattle.client_model.specs.Client.{said_by}
-use Rattle.client_model.specs.Runs.{sent_by}
+use Rattle.client_model.specs.Runs.{AreFronts, sent_by}
 use Rattle.client_model.specs.declared.fault.Fault.{Fault}
 use Rattle.client_model.specs.declared.fault.Fault.TheVariants as F
 use Rattle.client_streams.specs.Outputs.{BothBegan}
 use Rattle.client_streams.specs.Taking.{Taken, taken, shows, may_end, ends_by}
-use Rattle.client_exchange.specs.Telling.{answer_shows}
-use Rattle.client_exchange.specs.Exchanges.{Reach, HasGone, HasRefused, HasBroken, HasMissed, ExchangeSays}
-use Rattle.client_exchange.specs.Walks.{IsAsking, Walked, Walks, StopsIn, Does}
+use Rattle.client_exchange.specs.Telling.{HadToWrite, answer_shows}
+use Rattle.client_exchange.specs.Exchanges.{Reach, HasGone, HasRefused, HasBroken, KeepsOff, HasMissed, ExchangeSays}
+use Rattle.client_exchange.specs.Walks.{IsAsking, Walked, Walks, FailsAlone, StopsIn, Does}
 use Rattle.client_exchange.specs.Asking.{alone, asks_body, shown_by, numbered}
 use Rattle.client_exchange.specs.declared.got.Got.{Got}
 use Rattle.client_streams.specs.declared.taker.Showing.{Showing}
@@ -49,7 +49,7 @@ module _ (asked : Asked) (input : List ℕ) (f : Head → List ℕ → Bool → 
   CutFails showing = (h : Head) (body : List ℕ) → (fault : Fault) × (f h body false ≡ writes (shows showing body) (fails fault))
 
   -- what a cut answer comes to
-  cut_ends : (showing : Showing) → CutFails showing → (answer : Answer) (given : List ℕ) → TellsSoFar given answer
+  pub cut_ends : (showing : Showing) → CutFails showing → (answer : Answer) (given : List ℕ) → TellsSoFar given answer
       → (fault : Fault) × (by_answer f answer ≡ Ends (answer_shows showing answer) (Fails fault))
   cut_ends showing cut NoHead given tells = (F.Answer, refl)
   cut_ends showing cut (Answered h body true) given tells = absurd tells
@@ -61,20 +61,26 @@ module _ (asked : Asked) (input : List ℕ) (f : Head → List ℕ → Bool → 
           (c.0, c.1 ∙ λ i. Ends (record { out = append-nil (shows showing body).out i; err = append-nil (shows showing body).err i }) (Fails c.0))
       by_status false = (F.Answer, refl)
 
-  pub broken_stops : (starved : Type 0) (showing : Showing) (fault : Fault) (o o' : Reach) → CutFails showing → HasBroken (sent_by input asked) starved fault showing o o'
+  unfoldable pub broken_stops : (starved : Type 0) (showing : Showing) (fault : Fault) (o o' : Reach) → CutFails showing → HasBroken (sent_by input asked) starved fault showing o o'
       → StopsIn (Asks nothing asked (by_answer f)) input starved fault o o'
   broken_stops starved showing fault o o' cut b = record {
+    asks = record { asked = asked; next = by_answer f; is = refl };
     exchange = b.exchange;
     answer = b.answer;
     meets = b.meets;
     tells = b.tells;
     sent = b.sent;
-    began = subst (λ p. BothBegan o.shown (written_first p) o'.shown) (sym (cut_ends showing cut b.answer b.exchange.given b.tells).1) b.began;
+    began = record { part = b.began.part; fronts = subst (AreFronts b.began.part) same b.began.fronts; took = b.began.took };
     cause = b.cause;
+    had = subst (HadToWrite fault) same b.had;
+    all = λ connection. let counted = b.all connection in (counted.0, counted.1 ∙ same);
   }
     where
       written_first : Plan → Written
       written_first p = joined nothing (said_by p None []).written
+
+      same : answer_shows showing b.answer ≡ written_first (by_answer f b.answer)
+      same = ap written_first (sym (cut_ends showing cut b.answer b.exchange.given b.tells).1)
 
 -- no connection was made
 pub missed_does : (asked : Asked) (f : Head → List ℕ → Bool → Plan) (fault : Fault) (o o' : Reach)
@@ -86,10 +92,23 @@ missed_does asked f fault o o' m = record {
   comes = inr (inl (record {
     missed = m.missed;
     began = subst (λ p. BothBegan o.shown nothing p) (sym m.shown) (began_none o.shown nothing);
-    cause = inr (m.cause, refl);
+    cause = by_fault fault m.cause;
     unfailed = inr tt;
   }));
 }
+  where
+    by_fault : (fault : Fault) → KeepsOff fault → FailsAlone (Asks nothing asked (by_answer f)) fault o o'
+    by_fault F.Link keeps = record { asked = asked; next = by_answer f; is = refl }
+    by_fault F.NoMemory keeps = tt
+    by_fault F.Output keeps = absurd keeps
+    by_fault F.Errors keeps = absurd keeps
+    by_fault F.Input keeps = absurd keeps
+    by_fault F.Connection keeps = absurd keeps
+    by_fault F.Words keeps = absurd keeps
+    by_fault F.Answer keeps = absurd keeps
+    by_fault F.NoCode keeps = absurd keeps
+    by_fault F.EventsGone keeps = absurd keeps
+    by_fault (F.Refused message) keeps = absurd keeps
 
 -- ---- a request that standard input doesn't follow
 
@@ -104,11 +123,12 @@ refused_does request f fault o o' r =
 broken_does : (request : Request) (f : Head → List ℕ → Bool → Plan) (showing : Showing) (fault : Fault) (o o' : Reach)
     → CutFails (alone request) [] f showing → HasBroken (request_bytes request) ⊥ fault showing o o'
     → Does (Asks nothing (alone request) (by_answer f)) (Err fault) o o'
+unfolding broken_stops
 broken_does request f showing fault o o' cut b = record {
   next = Asks nothing (alone request) (by_answer f);
   between = o;
   walks = walk_none (Asks nothing (alone request) (by_answer f)) o;
-  comes = inr (inr (broken_stops (alone request) [] f ⊥ showing fault o o' cut b));
+  comes = inr (inr (record { stops = broken_stops (alone request) [] f ⊥ showing fault o o' cut b; quiet = refl }));
 }
 
 -- ---- a body that is kept

@@ -1,5 +1,5 @@
 -- A connection that was made, and left.
-use Rattle.std.proofs.Common.{◌≡◌, ◌⊎◌, ◌<◌, inl, inr, ℕ, List, [], ◌∷◌, ◌++◌, refl, sym, subst, ap, ◌∙◌, Bool, false, Option, Some, None, Result, Ok, Err, append-nil, arith}
+use Rattle.std.proofs.Common.{◌≡◌, ◌⊎◌, ◌<◌, inl, inr, ℕ, List, [], ◌∷◌, ◌++◌, refl, sym, subst, ap, ◌∙◌, Bool, false, Option, Some, None, Result, Ok, Err, arith}
 use Rattle.std.specs.Prelude.{not, cond, filter, bytes_eq}
 use Rattle.std.specs.Cmp.Lexicographic.{bytes_decides}
 use Rattle.engine_ports.specs.Rose.{Rose}
@@ -9,18 +9,19 @@ use Rattle.engine_ports.specs.Door.{Came, ToldLast}
 use Rattle.engine_ports.specs.Link.{LinkView, Wire, wire, Connects, Misses as LinkMisses, Leaves, others, but_for}
 use Rattle.engine_ports.proofs.PortLemmas.{source_none}
 use Rattle.response_reader.specs.Answers.{Answer, NoHead}
+use Rattle.response_reader.proofs.HeadLemmas.{nothing_begins}
 use Rattle.client_model.specs.Plans.{nothing}
-use Rattle.client_model.specs.Runs.{Exchange, HaveCome, AreLeft}
+use Rattle.client_model.specs.Runs.{Exchange, IsSilent, WasSent, HaveCome, AreLeft}
 use Rattle.client_model.specs.declared.fault.Fault.{Fault}
 use Rattle.client_model.specs.declared.fault.Fault.TheVariants as F
-use Rattle.client_streams.specs.Outputs.{Outputs, BothBegan}
+use Rattle.client_streams.specs.Outputs.{Outputs, BothTook}
 use Rattle.client_streams.specs.Taking.{Taken}
-use Rattle.client_exchange.specs.Telling.{Told, Fails, BreaksOff}
-use Rattle.client_exchange.specs.Exchanges.{SendFails, IsUnsent, ConverseSays, Meets, IsAnswered, HasGone, HasRefused, FailsOn, HasBroken, HasMissed, ExchangeSays}
+use Rattle.client_exchange.specs.Telling.{Told, ReadFails, HadToWrite, BreaksOff}
+use Rattle.client_exchange.specs.Exchanges.{SendFails, IsUnsent, ConverseSays, MeetsOne, IsAnswered, HasGone, HasRefused, FailsOn, HasBroken, HasMissed, ExchangeSays}
 use Rattle.client_exchange.specs.Feeding.{InputFails, TalkSays, FedSays}
 use Rattle.client_exchange.specs.declared.got.Got.{Got}
 use Rattle.client_streams.specs.declared.taker.Showing.{Showing}
-use Rattle.client_streams.proofs.OutputLemmas.{began_none}
+use Rattle.client_streams.proofs.OutputLemmas.{both_none, fronts_none}
 
 -- a connection that was made is owed
 pub is_owed : (address : List ℕ) (w : Wire) (v v' : LinkView) → Connects address w v v' → 0 < v'.owed
@@ -70,7 +71,7 @@ others_at address o o' (inl added) = others_stay address o o' o' added refl
 others_at address o o' (inr untold) = ap (others address) untold
 
 module _ (address : List ℕ) (v v1 v2 : LinkView) (s s' : SourceView) (u u' : SinkView) (made : Connects address (wire s u) v v1) (left : Leaves (wire s' u') v1 v2) where
-  meets : (x : Exchange) → x.came ≡ wire s u → x.left ≡ wire s' u' → Meets (but_for address v) (but_for address v2) x
+  meets : (x : Exchange) → x.came ≡ wire s u → x.left ≡ wire s' u' → MeetsOne (but_for address v) (but_for address v2) x
   meets x came was = record {
     came = subst (λ w. HaveCome v.coming (w ∷ []) v2.coming) (sym came) (came_one v.coming v1.coming v2.coming (wire s u) made.came left.coming);
     left = subst (λ w. AreLeft v.past (w ∷ []) v2.past) (sym was) (left_one v.past v1.past v2.past (wire s' u') made.past left.past);
@@ -87,9 +88,9 @@ module _ (address : List ℕ) (v v1 v2 : LinkView) (s s' : SourceView) (u u' : S
     is = told.is;
   }
 
-  fails_on : (starved : Type 0) (fault : Fault) (x : Exchange) (o o' : Outputs) → x.came ≡ wire s u → x.left ≡ wire s' u' → Fails fault s s' o o' → FailsOn starved fault x o o'
+  fails_on : (starved : Type 0) (fault : Fault) (x : Exchange) (o o' : Outputs) → x.came ≡ wire s u → x.left ≡ wire s' u' → ReadFails fault s s' o o' → FailsOn starved fault x o o'
   fails_on starved F.Connection x o o' came was f =
-      inl (inl (subst (λ (w : Wire). Rose w.source.faults x.left.source.faults) (sym came) (subst (λ (w : Wire). Rose s.faults w.source.faults) (sym was) f)))
+      inl (subst (λ (w : Wire). Rose w.source.faults x.left.source.faults) (sym came) (subst (λ (w : Wire). Rose s.faults w.source.faults) (sym was) f))
   fails_on starved F.Output x o o' came was f = f
   fails_on starved F.Errors x o o' came was f = f
   fails_on starved F.NoMemory x o o' came was f = f
@@ -103,7 +104,7 @@ module _ (address : List ℕ) (v v1 v2 : LinkView) (s s' : SourceView) (u u' : S
 
   send_fails : (starved : Type 0) (fault : Fault) (x : Exchange) (o o' : Outputs) → x.came ≡ wire s u → x.left ≡ wire s' u' → SendFails starved fault u u' → FailsOn starved fault x o o'
   send_fails starved F.Connection x o o' came was f =
-      inl (inr (subst (λ (w : Wire). Rose w.sink.faults x.left.sink.faults) (sym came) (subst (λ (w : Wire). Rose u.faults w.sink.faults) (sym was) f)))
+      inr (subst (λ (w : Wire). Rose w.sink.faults x.left.sink.faults) (sym came) (subst (λ (w : Wire). Rose u.faults w.sink.faults) (sym was) f))
   send_fails starved F.Input x o o' came was f = f
   send_fails starved F.Output x o o' came was f = absurd f
   send_fails starved F.Errors x o o' came was f = absurd f
@@ -123,27 +124,75 @@ module _ (address : List ℕ) (v v1 v2 : LinkView) (s s' : SourceView) (u u' : S
         answer = b.answer;
         exchange = x;
         meets = meets x refl refl;
-        sent = ([], append-nil bytes);
+        sent = sent_all fault b.cause;
         tells = b.told.is;
         began = b.began;
         cause = fails_on starved fault x o o' refl refl b.cause;
+        had = b.had;
+        all = b.all;
       }
+    where
+      sent_all : (fault : Fault) → ReadFails fault s s' o o' → WasSent fault (exchange_of s s' u u' b.told.bytes bytes b.told.gave took) bytes
+      sent_all F.Connection r = inl refl
+      sent_all F.Output r = refl
+      sent_all F.Errors r = refl
+      sent_all F.NoMemory r = refl
+      sent_all F.Input r = absurd r
+      sent_all F.Words r = absurd r
+      sent_all F.Answer r = absurd r
+      sent_all F.NoCode r = absurd r
+      sent_all F.EventsGone r = absurd r
+      sent_all (F.Refused message) r = absurd r
+      sent_all F.Link r = absurd r
+
+  -- nothing was to be written
+  unsent_had : (starved : Type 0) (fault : Fault) → SendFails starved fault u u' → HadToWrite fault nothing
+  unsent_had starved F.Connection f = tt
+  unsent_had starved F.Input f = tt
+  unsent_had starved F.Output f = absurd f
+  unsent_had starved F.Errors f = absurd f
+  unsent_had starved F.NoMemory f = absurd f
+  unsent_had starved F.Words f = absurd f
+  unsent_had starved F.Answer f = absurd f
+  unsent_had starved F.NoCode f = absurd f
+  unsent_had starved F.EventsGone f = absurd f
+  unsent_had starved (F.Refused message) f = absurd f
+  unsent_had starved F.Link f = absurd f
+
+  -- it is silent
+  unsent_sent : (starved : Type 0) (fault : Fault) (x : Exchange) (bytes : List ℕ) → SendFails starved fault u u' → IsSilent x bytes → WasSent fault x bytes
+  unsent_sent starved F.Connection x bytes f silent = inr silent
+  unsent_sent starved F.Input x bytes f silent = silent
+  unsent_sent starved F.Output x bytes f silent = absurd f
+  unsent_sent starved F.Errors x bytes f silent = absurd f
+  unsent_sent starved F.NoMemory x bytes f silent = absurd f
+  unsent_sent starved F.Words x bytes f silent = absurd f
+  unsent_sent starved F.Answer x bytes f silent = absurd f
+  unsent_sent starved F.NoCode x bytes f silent = absurd f
+  unsent_sent starved F.EventsGone x bytes f silent = absurd f
+  unsent_sent starved (F.Refused message) x bytes f silent = absurd f
+  unsent_sent starved F.Link x bytes f silent = absurd f
 
   unsent : (bytes : List ℕ) (starved : Type 0) (fault : Fault) (showing : Showing) (o o' : Outputs) → IsUnsent bytes starved (Err fault) s s' u u' o o'
-      → HasBroken bytes starved fault showing (record { link = but_for address v; shown = o }) (record { link = but_for address v2; shown = o' })
+      → (b : HasBroken bytes starved fault showing (record { link = but_for address v; shown = o }) (record { link = but_for address v2; shown = o' })) × (b.exchange.given ≡ [])
   unfolding exchange_of
   unsent bytes starved fault showing o o' b =
       let same : b.fault ≡ fault = err_same (Err fault) b.fault fault b.is refl in
       let gave : SourceGave s [] s' = subst (SourceGave s []) (sym b.unread) (source_none s) in
-      let x = exchange_of s s' u u' [] b.part gave b.took in record {
-        answer = NoHead;
-        exchange = x;
-        meets = meets x refl refl;
-        sent = b.front;
-        tells = tt;
-        began = subst (λ p. BothBegan o nothing p) (sym b.unshown) (began_none o nothing);
-        cause = subst (λ f. FailsOn starved f x o o') same (send_fails starved b.fault x o o' refl refl b.cause);
-      }
+      let x = exchange_of s s' u u' [] b.part gave b.took in (
+        record {
+          answer = NoHead;
+          exchange = x;
+          meets = meets x refl refl;
+          sent = subst (λ f. WasSent f x bytes) same (unsent_sent starved b.fault x bytes b.cause (b.front, refl));
+          tells = nothing_begins;
+          began = record { part = nothing; fronts = fronts_none nothing; took = subst (BothTook o nothing) (sym b.unshown) (both_none o) };
+          cause = subst (λ f. FailsOn starved f x o o') same (send_fails starved b.fault x o o' refl refl b.cause);
+          had = subst (λ f. HadToWrite f nothing) same (unsent_had starved b.fault b.cause);
+          all = λ connection. (nothing_begins, refl);
+        },
+        refl,
+      )
     where
       err_same : (r : Result Got Fault) (a b : Fault) → r ≡ Err a → r ≡ Err b → a ≡ b
       err_same r a b p q = cc
@@ -167,7 +216,7 @@ module _ (address : List ℕ) (v v1 v2 : LinkView) (s s' : SourceView) (u u' : S
     where
       no_fault : (r : Result Got Fault) (got : Got) (fault : Fault) → r ≡ Ok got → r ≡ Err fault → ⊥
       no_fault r got fault p q = cc
-  gets bytes starved (Err fault) showing t o o' (inr b) = inr (unsent bytes starved fault showing o o' b)
+  gets bytes starved (Err fault) showing t o o' (inr b) = inr (unsent bytes starved fault showing o o' b).0
 
   pub exchanged : (request : List ℕ) (result : Result Got Fault) (showing : Showing) (t : Taken) (o o' : Outputs)
       → ConverseSays request ⊥ result showing t s s' u u' o o'
@@ -193,13 +242,13 @@ module _ (address : List ℕ) (v v1 v2 : LinkView) (s s' : SourceView) (u u' : S
       by_answer : Gets (request ++ input) (InputFails i i') (Err fault) showing t o o'
           → FedSays request (Err fault) showing t i i' (record { link = but_for address v; shown = o }) (record { link = but_for address v2; shown = o' })
       by_answer (inl r) = inl (input, gave, inl (ended, r))
-      by_answer (inr b) = inl (input, gave, inr b)
+      by_answer (inr b) = inl (input, gave, inr (b, inl ended))
   talked request (Ok got) showing t i i' o o' (input, gave, inr b) = absurd (no_fault (Ok got) got b.fault refl b.is)
     where
       no_fault : (r : Result Got Fault) (got : Got) (fault : Fault) → r ≡ Ok got → r ≡ Err fault → ⊥
       no_fault r got fault p q = cc
   talked request (Err fault) showing t i i' o o' (input, gave, inr b) =
-      inl (input, gave, inr (unsent (request ++ input) (InputFails i i') fault showing o o' b))
+      let silent = unsent (request ++ input) (InputFails i i') fault showing o o' b in inl (input, gave, inr (silent.0, inr silent.1))
 
 -- no connection was made
 pub missed : (address : List ℕ) (v v' : LinkView) (o : Outputs) → LinkMisses address v v' → HasMissed F.Link (record { link = but_for address v; shown = o }) (record { link = but_for address v'; shown = o })
@@ -213,6 +262,3 @@ missed address v v' o m = record {
   shown = refl;
   cause = tt;
 }
-
-pub nothing_made : (v : LinkView) (o : Outputs) → HasMissed F.NoMemory (record { link = v; shown = o }) (record { link = v; shown = o })
-nothing_made v o = record { missed = record { coming = refl; past = refl; others = refl; faults = refl }; shown = refl; cause = tt }

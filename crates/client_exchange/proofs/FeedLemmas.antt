@@ -52,6 +52,7 @@ with_input plan next input o o' w = record {
   faults = w.way.faults;
   sent = w.way.sent ∙ sent_anyway input w.way.asked w.quiet;
   took = w.way.took;
+  wrote = w.way.wrote;
   says = w.way.says;
 }
 
@@ -102,8 +103,9 @@ fed_does plan next result v v' o p q w (inr (inr (fault, is, s))) =
         walks = walk_on plan next s.next o p s.between w s.walks;
         input = s.input;
         gave = s.gave;
-        loud = s.loud;
         stops = s.stops;
+        loud = s.loud;
+        fed = s.fed;
       },
     ))
 
@@ -162,7 +164,7 @@ module _ (showing : Showing) (request : Request) (next : Plan) where
 
   pub fed_fails : (fault : Fault) (t : Taken) (v v' : SourceView) (o o' : Reach)
       → FedSays (request_bytes request) (Err fault) showing t v v' o o' → FedDoes plan (Err fault) v v' o o'
-  unfolding by_shown refused_way way_one
+  unfolding by_shown refused_way way_one broken_stops
   fed_fails fault t v v' o o' (inl (input, gave, inl (ended, r))) = fails_fed fault v v' o o' (record {
     input = input;
     way = refused_way asked input (by_shown showing next) fault o o' r;
@@ -170,7 +172,7 @@ module _ (showing : Showing) (request : Request) (next : Plan) where
     gave = gave;
     ended = ended;
   })
-  fed_fails fault t v v' o o' (inl (input, gave, inr b)) = inr (inr (
+  fed_fails fault t v v' o o' (inl (input, gave, inr (b, fed))) = inr (inr (
     fault,
     refl,
     record {
@@ -179,8 +181,9 @@ module _ (showing : Showing) (request : Request) (next : Plan) where
       walks = walk_none plan o;
       input = input;
       gave = gave;
-      loud = λ answer. refl;
       stops = broken_stops asked input (by_shown showing next) (InputFails v v') showing fault o o' (λ h body. (F.Answer, refl)) b;
+      loud = refl;
+      fed = fed;
     },
   ))
   fed_fails fault t v v' o o' (inr (other, is, same, m)) =

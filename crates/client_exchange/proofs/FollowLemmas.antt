@@ -1,15 +1,17 @@
 -- A body that is read piece by piece.
-use Rattle.std.proofs.Common.{◌≡◌, ◌<◌, inl, inr, ℕ, List, [], ◌++◌, refl, sym, ap, ◌∙◌, subst, append_assoc, append-nil, Ok, Err, Bool, true, false, arith}
+use Rattle.std.proofs.Common.{◌≡◌, ◌<◌, ◌≤◌, inl, inr, ℕ, List, [], ◌++◌, length, take, refl, sym, ap, ◌∙◌, subst, append_assoc, append-nil, Result, Ok, Err, Bool, true, false, arith}
 use Rattle.std.specs.Prelude.{nat_lt}
 use Rattle.std.proofs.lemmas.Bool.Decides.{nat_tests}
+use Rattle.std.proofs.lemmas.List.{length-take-le}
 use Rattle.engine_ports.specs.Rose.{Rose}
 use Rattle.engine_ports.specs.Source.{SourceView, SourceGave, SourceEnded}
+use Rattle.engine_ports.specs.Sink.{IsFront}
 use Rattle.engine_ports.proofs.PortLemmas.{source_on, rose_since}
 use Rattle.http_edge.specs.declared.head.Head.{Head}
-use Rattle.response_reader.specs.Answers.{Answered, IsAnswer}
+use Rattle.response_reader.specs.Answers.{Answered, IsAnswer, TellsAll}
 use Rattle.response_reader.specs.Bodies.{IsWhole}
 use Rattle.response_reader.specs.Held.{Reading}
-use Rattle.response_reader.specs.Reader.{Gives, OfAll, IsBroken, IsCut, IsAtEnd, Stops, IsOpen, BodySays}
+use Rattle.response_reader.specs.Reader.{Gives, OfAll, IsBroken, IsCut, IsUnended, IsAtEnd, Stops, IsOpen, BodySays}
 use Rattle.response_reader.specs.declared.framing.Left.{Left}
 use Rattle.response_reader.specs.declared.framing.Left.TheVariants as left
 use Rattle.response_reader.specs.declared.got.Stage.{Stage}
@@ -17,14 +19,16 @@ use Rattle.response_reader.specs.declared.got.Stage.TheVariants as stage
 use Rattle.response_reader.specs.declared.got.Stopped.{Stopped}
 use Rattle.response_reader.specs.declared.got.Stopped.TheVariants as stop
 use Rattle.response_reader.specs.declared.got.BodyGot.TheVariants as body
-use Rattle.client_model.specs.Plans.{nothing}
+use Rattle.client_model.specs.Plans.{Written, nothing}
+use Rattle.client_model.specs.Runs.{AreFronts}
 use Rattle.client_model.specs.declared.fault.Fault.{Fault}
 use Rattle.client_model.specs.declared.fault.Fault.TheVariants as F
-use Rattle.client_streams.specs.Outputs.{Outputs, BothTook, BothBegan, OutputsFail, WritesBoth}
-use Rattle.client_streams.specs.Taking.{Taken, taken, shows, adds, after}
-use Rattle.client_exchange.specs.Telling.{Stands, Told, ToldSoFar, Fails, FollowSays}
+use Rattle.client_streams.specs.Outputs.{Outputs, BothTook, BothBegan, OutputsFail, WritesBoth, WasToWrite}
+use Rattle.client_streams.specs.Taking.{Taken, taken, shows, adds, IfUntaken, after}
+use Rattle.client_exchange.specs.Telling.{Stands, Told, ToldSoFar, ReadFails, HadToWrite, FollowSays}
 use Rattle.client_streams.specs.declared.taker.Showing.{Showing}
-use Rattle.client_streams.proofs.OutputLemmas.{both_none, goes_on, breaks_on, began_of}
+use Rattle.client_streams.specs.declared.taker.Showing.TheVariants.{Kept, Copied, Demuxed}
+use Rattle.client_streams.proofs.OutputLemmas.{both_none, goes_on, breaks_on, was_behind}
 use Rattle.client_streams.proofs.TakingLemmas.{nothing_shown, taken_on, shown_on}
 
 -- ---- what a reader says, of all the bytes of a connection
@@ -116,18 +120,25 @@ so_far came h b r s st = record {
   is = (st.bytes, r.ahead, st.taken.left, refl, st.taken.tells);
 }
 
-cut_so_far : (came : SourceView) (h : Head) (b : List ℕ) (old : Reading) (s s' : SourceView)
-    → Stands came h b old s → OfAll IsCut old s s' → ToldSoFar came s' (Answered h b false)
-cut_so_far came h b old s s' st all = go (all.holds st.bytes h b st.taken)
+-- and no more
+unended_told : (came : SourceView) (h : Head) (b : List ℕ) (old : Reading) (s s' : SourceView)
+    → Stands came h b old s → OfAll IsUnended old s s' → (told : ToldSoFar came s' (Answered h b false)) × TellsAll told.bytes (Answered h b false)
+unended_told came h b old s s' st all = go (all.holds st.bytes h b st.taken)
   where
-    go : IsCut h b (st.bytes ++ (old.ahead ++ all.read)) → ToldSoFar came s' (Answered h b false)
-    go (front, behind, lft, is, tells, lacks) = record {
-      bytes = st.bytes ++ (old.ahead ++ all.read);
-      gave = all_given came s s' st.bytes old.ahead all.read st.gave all.gave;
-      is = (front, behind, lft, is, tells);
-    }
+    go : IsUnended h b (st.bytes ++ (old.ahead ++ all.read)) → (told : ToldSoFar came s' (Answered h b false)) × TellsAll told.bytes (Answered h b false)
+    go (front, behind, lft, is, tells, may) = (
+      record {
+        bytes = st.bytes ++ (old.ahead ++ all.read);
+        gave = all_given came s s' st.bytes old.ahead all.read st.gave all.gave;
+        is = (front, behind, lft, is, tells);
+      },
+      (front, behind, lft, is, tells, may),
+    )
 
 -- ---- the loop
+
+pub some_taken : (n : ℕ) (into : List ℕ) → 0 < n → n ≤ length into → 0 < length (take n into)
+some_taken n into some within = omega (arith, some, length-take-le n into within)
 
 -- so much of the body was shown
 pub record Shown (came : SourceView) (h : Head) (showing : Showing) (r : Reading) (t : Taken) (s : SourceView) (o o' : Outputs) : Type 0 where
@@ -189,9 +200,8 @@ ends_cut r0 s0 showing r r' t s s' o o' into before says came h new st =
     let cut = stops_now came h sh.so r r' stop.CutShort s s' _ sh.stands says in
     (sh.so, sh.taken_is, cut_told came h sh.so r s s' new sh.stands cut.0 cut.1, sh.took)
 
-began_all : (o o' : Outputs) (showing : Showing) (b : List ℕ) → BothTook o (shows showing b) o' → BothBegan o (shows showing b) o'
-began_all o o' showing b took =
-    subst (λ w. BothBegan o w o') (λ i. record { out = append-nil (shows showing b).out i; err = append-nil (shows showing b).err i }) (began_of o o' (shows showing b) nothing took)
+front_whole : (bytes : List ℕ) → IsFront bytes bytes
+front_whole bytes = ([], append-nil bytes)
 
 pub ends_failed : (r0 : Reading) (s0 : SourceView) (showing : Showing) (r r' : Reading) (t : Taken) (s s' : SourceView) (o o' : Outputs) (into : List ℕ)
     → Showed r0 s0 showing r t s o o' → BodySays body.ReadFault into r r' s s'
@@ -199,14 +209,21 @@ pub ends_failed : (r0 : Reading) (s0 : SourceView) (showing : Showing) (r r' : R
 unfolding Showed
 ends_failed r0 s0 showing r r' t s s' o o' into before says came h new st =
     let sh = before came h new st in
-    let cut = stops_now came h sh.so r r' stop.ReadFault s s' _ sh.stands says in (
+    let cut = stops_now came h sh.so r r' stop.ReadFault s s' _ sh.stands says in
+    let told = unended_told came h sh.so r s s' sh.stands cut.0 in (
       sh.so,
-      cut_so_far came h sh.so r s s' sh.stands cut.0,
-      began_all o o' showing sh.so sh.took,
+      told.0,
+      record {
+        part = shows showing sh.so;
+        fronts = record { out = front_whole (shows showing sh.so).out; err = front_whole (shows showing sh.so).err };
+        took = sh.took;
+      },
       rose_since came.faults s.faults s'.faults sh.stands.gave.faults cut.1,
+      tt,
+      λ connection. (told.1, refl),
     )
 
-outputs_fail : (fault : Fault) (came s : SourceView) (o o' : Outputs) → OutputsFail fault o o' → Fails fault came s o o'
+outputs_fail : (fault : Fault) (came s : SourceView) (o o' : Outputs) → OutputsFail fault o o' → ReadFails fault came s o o'
 outputs_fail F.Output came s o o' r = r
 outputs_fail F.Errors came s o o' r = r
 outputs_fail F.NoMemory came s o o' r = r
@@ -219,15 +236,54 @@ outputs_fail (F.Refused message) came s o o' r = absurd r
 outputs_fail F.Link came s o o' r = absurd r
 outputs_fail F.Connection came s o o' r = absurd r
 
+-- what was to be written of a body that wasn't taken
+had_more : (showing : Showing) (body piece : List ℕ) (fault : Fault) → IfUntaken (Err fault) (taken showing body).showing (adds (taken showing body) piece)
+    → HadToWrite fault (shows showing (body ++ piece))
+had_more showing body piece fault (inl (kept, lack)) = by showing kept
+  where
+    memory : fault ≡ F.NoMemory
+    memory = same_err (Err fault) fault F.NoMemory refl lack
+      where
+        same_err : (r : Result (Unit {0}) Fault) (a b : Fault) → r ≡ Err a → r ≡ Err b → a ≡ b
+        same_err r a b is also = cc
+
+    by : (showing : Showing) → (taken showing body).showing ≡ Kept → HadToWrite fault (shows showing (body ++ piece))
+    by Kept kept = subst (λ f. HadToWrite f nothing) (sym memory) refl
+    by Copied kept = absurd (other kept)
+      where
+        other : Copied ≡ Kept → ⊥
+        other e = cc
+    by Demuxed kept = absurd (other kept)
+      where
+        other : Demuxed ≡ Kept → ⊥
+        other e = cc
+had_more showing body piece fault (inr was) =
+    had_by fault (shows showing (body ++ piece)) (subst (WasToWrite fault) (shown_on showing body piece) (was_behind fault (shows showing body) (adds (taken showing body) piece) was))
+  where
+    had_by : (fault : Fault) (w : Written) → WasToWrite fault w → HadToWrite fault w
+    had_by F.Output w was = was
+    had_by F.Errors w was = was
+    had_by F.NoMemory w was = absurd was
+    had_by F.Words w was = absurd was
+    had_by F.Input w was = absurd was
+    had_by F.Answer w was = absurd was
+    had_by F.NoCode w was = absurd was
+    had_by F.EventsGone w was = absurd was
+    had_by (F.Refused message) w was = absurd was
+    had_by F.Link w was = absurd was
+    had_by F.Connection w was = absurd was
+
 pub ends_unwritten : (r0 : Reading) (s0 : SourceView) (showing : Showing) (r r' : Reading) (t t' : Taken) (s s' : SourceView) (o o' o'' : Outputs) (piece : List ℕ) (fault : Fault)
-    → Showed r0 s0 showing r t s o o' → Gives piece r r' s s' → WritesBoth (Err fault) (adds t piece) o' o''
+    → Showed r0 s0 showing r t s o o' → Gives piece r r' s s' → WritesBoth (Err fault) (adds t piece) o' o'' → IfUntaken (Err fault) t.showing (adds t piece)
     → (came : SourceView) (h : Head) → came.ends ≡ 0 → Stands came h [] r0 s0 → FollowSays (Err fault) came h showing t' s' o o''
 unfolding Showed
-ends_unwritten r0 s0 showing r r' t t' s s' o o' o'' piece fault before gives writes came h new st =
+ends_unwritten r0 s0 showing r r' t t' s s' o o' o'' piece fault before gives writes untaken came h new st =
     let sh = before came h new st in
     let broke = breaks_on o o' o'' (shows showing sh.so) (adds (taken showing sh.so) piece) fault sh.took (subst (λ (k : Taken). WritesBoth (Err fault) (adds k piece) o' o'') sh.taken_is writes) in (
       sh.so ++ piece,
       so_far came h (sh.so ++ piece) r' s' (gives_more came h sh.so piece r r' s s' sh.stands gives),
-      subst (λ w. BothBegan o w o'') (shown_on showing sh.so piece) broke.0,
+      record { part = broke.0.part; fronts = subst (AreFronts broke.0.part) (shown_on showing sh.so piece) broke.0.fronts; took = broke.0.took },
       outputs_fail fault came s' o o'' broke.1,
+      had_more showing sh.so piece fault (subst (λ (k : Taken). IfUntaken (Err fault) k.showing (adds k piece)) sh.taken_is untaken),
+      λ connection. absurd (subst (λ f. OutputsFail f o o'') connection broke.1),
     )

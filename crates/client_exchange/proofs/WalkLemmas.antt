@@ -1,5 +1,5 @@
 -- Exchanges one after another.
-use Rattle.std.proofs.Common.{◌≡◌, ℕ, List, [], ◌∷◌, ◌++◌, map, refl, sym, ap, ap₂, ◌∙◌, append_assoc, append-nil, Option, Some, None, Result}
+use Rattle.std.proofs.Common.{arith, ◌≡◌, ◌⊎◌, inl, inr, ℕ, List, [], ◌∷◌, ◌++◌, length, take, map, refl, sym, ap, ap₂, ◌∙◌, subst, append_assoc, append-nil, length-append, Option, Some, None, Result}
 use Rattle.std.proofs.lemmas.List.{map-append}
 use Rattle.std.proofs.lemmas.List.Folds.{list_any-append}
 use Rattle.engine_ports.specs.Link.{Wire}
@@ -7,14 +7,14 @@ use Rattle.response_reader.specs.Answers.{Answer}
 use Rattle.client_model.specs.Requests.{request_bytes}
 use Rattle.client_model.specs.Plans.{Plan, Ends, Asks, Judges, Asked, Written, nothing, joined, writes}
 use Rattle.client_model.specs.Client.{Said, said, said_first, said_by}
-use Rattle.client_model.specs.Runs.{Exchange, AreAnswered, HaveCome, AreLeft, sent_by}
+use Rattle.client_model.specs.Runs.{Exchange, AreAnswered, HaveCome, AreLeft, sent_by, AreFronts}
 use Rattle.client_model.specs.declared.fault.Fault.{Fault}
 use Rattle.http_edge.specs.Message.{Request}
 use Rattle.client_streams.specs.Outputs.{BothTook}
 use Rattle.client_exchange.specs.Exchanges.{Reach, IsAnswered}
-use Rattle.client_exchange.specs.Walks.{IsAsking, AreQuiet, said_behind, Walked, Walks, Does}
+use Rattle.client_exchange.specs.Walks.{IsAsking, AreQuiet, said_behind, WroteBefore, Walked, Walks, Does}
 use Rattle.client_exchange.specs.Asking.{alone}
-use Rattle.client_streams.proofs.OutputLemmas.{both_none, both_on}
+use Rattle.client_streams.proofs.OutputLemmas.{both_none, both_on, fronts_none, fronts_longer, fronts_behind}
 
 -- ---- lists of connections
 
@@ -67,6 +67,56 @@ joined_assoc w v u = λ i. record { out = append_assoc w.out v.out u.out i; err 
 pub behind_on : (ms ns : List Asked) (w v : Written) (s : Said) → said_behind ms w (said_behind ns v s) ≡ said_behind (ms ++ ns) (joined w v) s
 behind_on ms ns w v s = λ i. said (sym (append_assoc ms ns s.asked) i) (sym (joined_assoc w v s.written) i) s.end
 
+-- ---- what was written by then
+
+-- lists of one more than each of two
+one_more_same : (xs ys : List Answer) (x y : Answer) → xs ++ x ∷ [] ≡ ys ++ y ∷ [] → xs ≡ ys
+one_more_same xs ys x y e =
+    sym (take_first xs x) ∙ ap₂ take (same_length xs ys x y e) e ∙ take_first ys y
+  where
+    take_first : (l : List Answer) (z : Answer) → take (length l) (l ++ z ∷ []) ≡ l
+    take_first [] z = refl
+    take_first (w ∷ l) z = ap (λ m. w ∷ m) (take_first l z)
+
+    same_length : (xs ys : List Answer) (x y : Answer) → xs ++ x ∷ [] ≡ ys ++ y ∷ [] → length xs ≡ length ys
+    same_length xs ys x y e = omega (arith, ap length e, length-append xs (x ∷ []), length-append ys (y ∷ []))
+
+pub none_is_more : (xs : List Answer) (x : Answer) → [] ≡ xs ++ x ∷ [] → ⊥
+none_is_more xs x e = omega (arith, ap length e, length-append xs (x ∷ []))
+
+-- a list is empty, or has a last
+last_of : (xs : List Answer) → (xs ≡ []) ⊎ ((before : List Answer) × (last : Answer) × (xs ≡ before ++ last ∷ []))
+last_of [] = inl refl
+last_of (x ∷ xs) = by (last_of xs)
+  where
+    by : (xs ≡ []) ⊎ ((before : List Answer) × (last : Answer) × (xs ≡ before ++ last ∷ []))
+        → (x ∷ xs ≡ []) ⊎ ((before : List Answer) × (last : Answer) × (x ∷ xs ≡ before ++ last ∷ []))
+    by (inl none) = inr ([], x, ap (λ l. x ∷ l) none)
+    by (inr (before, last, is)) = inr (x ∷ before, last, ap (λ l. x ∷ l) is)
+
+pub wrote_none : (plan : Plan) (w : Written) → WroteBefore plan [] w
+wrote_none plan w before last e = absurd (none_is_more before last e)
+
+-- what is asked first writes nothing before
+pub wrote_one : (asked : Asked) (cont : Answer → Plan) (answer : Answer) (w : Written) → WroteBefore (Asks nothing asked cont) (answer ∷ []) w
+wrote_one asked cont answer w before last e =
+    subst (λ l. AreFronts (said_by (Asks nothing asked cont) None l).written w) (one_more_same [] before answer last e) (fronts_none w)
+
+pub wrote_on : (plan next : Plan) (ms ns : List Answer) (asked : List Asked) (w v : Written)
+    → ((more : List Answer) → said_by plan None (ms ++ more) ≡ said_behind asked w (said_by next None more))
+    → WroteBefore plan ms w → WroteBefore next ns v → WroteBefore plan (ms ++ ns) (joined w v)
+wrote_on plan next ms ns asked w v says a b before last e = by (last_of ns)
+  where
+    by : (ns ≡ []) ⊎ ((front : List Answer) × (end : Answer) × (ns ≡ front ++ end ∷ [])) → AreFronts (said_by plan None before).written (joined w v)
+    by (inl none) =
+        fronts_longer (said_by plan None before).written w v
+        (a before last (sym (append-nil ms) ∙ ap (λ l. ms ++ l) (sym none) ∙ e))
+    by (inr (front, end, is)) =
+        subst (λ (l : List Answer). AreFronts (said_by plan None l).written (joined w v))
+        (one_more_same (ms ++ front) before end last (append_assoc ms front (end ∷ []) ∙ ap (λ l. ms ++ l) (sym is) ∙ e))
+        (subst (λ (s : Said). AreFronts s.written (joined w v)) (sym (says front))
+        (fronts_behind w (said_by next None front).written v (b front end is)))
+
 -- ---- walks
 
 unfoldable pub way_none : (plan : Plan) (input : List ℕ) (o : Reach) → Walked plan input o plan o
@@ -82,6 +132,7 @@ way_none plan input o = record {
   faults = refl;
   sent = refl;
   took = both_none o.shown;
+  wrote = wrote_none plan nothing;
   says = λ more. refl;
 }
 
@@ -99,6 +150,7 @@ way_on plan next last input o p q a b = record {
   sent =
       map-append (λ (x : Exchange). x.sent) a.xs b.xs ∙ ap₂ (λ l m. l ++ m) a.sent b.sent ∙ sym (map-append (sent_by input) a.asked b.asked);
   took = both_on o.shown p.shown q.shown a.written b.written a.took b.took;
+  wrote = wrote_on plan next a.answers b.answers a.asked a.written b.written a.says a.wrote b.wrote;
   says = λ more.
       ap (said_by plan None) (append_assoc a.answers b.answers more) ∙ a.says (b.answers ++ more)
       ∙ ap (said_behind a.asked a.written) (b.says more) ∙ behind_on a.asked b.asked a.written b.written (said_by last None more);
@@ -143,6 +195,7 @@ way_one asked input cont answer w next o o' is took goes asking = record {
   faults = is.meets.faults;
   sent = ap (λ l. l ∷ []) is.sent;
   took = took;
+  wrote = wrote_one asked cont answer w;
   says = λ more.
       ap (λ (p : Plan). said_first nothing asked (said_by p None more)) goes
       ∙ ap (said_first nothing asked) (writes_says w next more asking);

@@ -8,12 +8,12 @@ use Rattle.http_edge.specs.declared.head.Head.{Head}
 use Rattle.response_reader.specs.Answers.{Answer, Answered, IsAnswer, TellsSoFar}
 use Rattle.response_reader.specs.Heads.{first_in}
 use Rattle.client_model.specs.Plans.{nothing}
-use Rattle.client_model.specs.Runs.{Exchange, has_ended, HaveCome, AreLeft, HasFailed, missed_by}
+use Rattle.client_model.specs.Runs.{Exchange, has_ended, WasSent, HaveCome, AreLeft, HasFailed, missed_by}
 use Rattle.client_model.specs.declared.fault.Fault.{Fault}
 use Rattle.client_model.specs.declared.fault.Fault.TheVariants as F
 use Rattle.client_streams.specs.Outputs.{Outputs, outputs, BothTook, BothBegan, OutputsFail}
 use Rattle.client_streams.specs.Taking.{Taken, taken, shows}
-use Rattle.client_exchange.specs.Telling.{Refuses, answer_shows, AnswerSays}
+use Rattle.client_exchange.specs.Telling.{HadToWrite, CountsAll, Refuses, answer_shows, AnswerSays}
 use Rattle.client_exchange.specs.declared.got.Got.{Got}
 use Rattle.client_streams.specs.declared.taker.Showing.{Showing}
 
@@ -52,7 +52,7 @@ ConverseSays bytes starved result showing t s s' u u' o o' =
 -- ---- over the link
 
 -- one connection was made at the first try, and left; of other addresses the link tells what it told
-pub record Meets (v v' : LinkView) (x : Exchange) : Type 0 where
+pub record MeetsOne (v v' : LinkView) (x : Exchange) : Type 0 where
   pub came : HaveCome v.coming (x.came ∷ []) v'.coming
   pub left : AreLeft v.past (x.left ∷ []) v'.past
   pub others : v'.addresses ≡ v.addresses
@@ -61,7 +61,7 @@ pub record Meets (v v' : LinkView) (x : Exchange) : Type 0 where
 -- it was sent the request, and gave this answer
 pub record IsAnswered (request : List ℕ) (answer : Answer) (v v' : LinkView) : Type 0 where
   pub exchange : Exchange
-  pub meets : Meets v v' exchange
+  pub meets : MeetsOne v v' exchange
   pub sent : exchange.sent ≡ request
   pub is : IsAnswer exchange.given (has_ended exchange) answer
 
@@ -91,19 +91,21 @@ pub record HasRefused (request : List ℕ) (fault : Fault) (o o' : Reach) : Type
 
 -- an output failed, memory was refused, the connection failed, or what was to be sent couldn't be had
 abbrev pub FailsOn : Type 0 → Fault → Exchange → Outputs → Outputs → Type 0
-FailsOn starved F.Connection x o o' = HasFailed (x ∷ [])
+FailsOn starved F.Connection x o o' = HasFailed x
 FailsOn starved F.Input x o o' = starved
 FailsOn starved fault x o o' = OutputsFail fault o o'
 
--- a connection broke off: it was sent a front of the bytes, and gave so much of an answer, of which fronts were shown
+-- an exchange broke off: at least so much of an answer came, and fronts of what is shown of that were written
 pub record HasBroken (bytes : List ℕ) (starved : Type 0) (fault : Fault) (showing : Showing) (o o' : Reach) : Type 0 where
   pub answer : Answer
   pub exchange : Exchange
-  pub meets : Meets o.link o'.link exchange
-  pub sent : IsFront exchange.sent bytes
+  pub meets : MeetsOne o.link o'.link exchange
+  pub sent : WasSent fault exchange bytes
   pub tells : TellsSoFar exchange.given answer
   pub began : BothBegan o.shown (answer_shows showing answer) o'.shown
   pub cause : FailsOn starved fault exchange o.shown o'.shown
+  pub had : HadToWrite fault (answer_shows showing answer)
+  pub all : CountsAll fault exchange.given answer began.part (answer_shows showing answer)
 
 -- what keeps a connection from being made: the link, or want of memory
 abbrev pub KeepsOff : Fault → Type 0

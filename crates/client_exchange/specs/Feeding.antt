@@ -1,13 +1,11 @@
 -- A request that standard input follows to its end (own).
-use Rattle.std.specs.Prelude.{ℕ, ◌≡◌, ◌⊎◌, true, List, ◌∷◌, [], ◌++◌, None, Result, Ok, Err}
+use Rattle.std.specs.Prelude.{ℕ, ◌≡◌, ◌⊎◌, true, List, [], ◌++◌, Result, Ok, Err}
 use Rattle.std.specs.List.{list_any}
 use Rattle.engine_ports.specs.Rose.{Rose}
 use Rattle.engine_ports.specs.Source.{SourceView, SourceGave, SourceEnded}
 use Rattle.engine_ports.specs.Sink.{SinkView, SinkTook, IsFront}
 use Rattle.http_edge.specs.Message.{Request}
-use Rattle.response_reader.specs.Answers.{Answer}
 use Rattle.client_model.specs.Plans.{Plan}
-use Rattle.client_model.specs.Client.{said_by}
 use Rattle.client_model.specs.declared.fault.Fault.{Fault}
 use Rattle.client_streams.specs.Outputs.{Outputs}
 use Rattle.client_streams.specs.Taking.{Taken}
@@ -53,12 +51,13 @@ TalkSays request result showing t v v' s s' u u' o o' =
 
 -- ---- over the link
 
--- so much input came for an exchange of these bytes and that
+-- so much input came for an exchange of these bytes and that; its end, where the exchange gave anything
 abbrev pub FedBy : List ℕ → List ℕ → Result Got Fault → Showing → Taken → SourceView → SourceView → Reach → Reach → Type 0
 FedBy request input (Ok got) showing t v v' o o' = SourceEnded v v' × HasGone (request ++ input) got showing t o o'
 FedBy request input (Err fault) showing t v v' o o' =
     (SourceEnded v v' × HasRefused (request ++ input) fault o o')
-    ⊎ HasBroken (request ++ input) (InputFails v v') fault showing o o'
+    ⊎ ((b : HasBroken (request ++ input) (InputFails v v') fault showing o o')
+    × (SourceEnded v v' ⊎ (b.exchange.given ≡ [])))
 
 -- no connection was made, and no input read
 abbrev pub MissedBy : Result Got Fault → SourceView → SourceView → Reach → Reach → Type 0
@@ -86,8 +85,9 @@ pub record StopsFeeding (plan : Plan) (fault : Fault) (v v' : SourceView) (o o' 
   pub walks : Walks plan o next between
   pub input : List ℕ
   pub gave : SourceGave v input v'
-  pub loud : (answer : Answer) → list_any (λ a. a.input) (said_by next None (answer ∷ [])).asked ≡ true
   pub stops : StopsIn next input (InputFails v v') fault between o'
+  pub loud : stops.asks.asked.input ≡ true
+  pub fed : SourceEnded v v' ⊎ (stops.exchange.given ≡ [])
 
 -- the input was sent, and the plan behind it ended or broke off
 pub record DoesBehind (plan : Plan) (result : Result ℕ Fault) (v v' : SourceView) (o o' : Reach) : Type 0 where

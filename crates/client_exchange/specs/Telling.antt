@@ -1,9 +1,9 @@
 -- What a connection tells of its answer, and what is done with it (own: told of all the bytes that its source gave).
-use Rattle.std.specs.Prelude.{ℕ, ◌≡◌, ◌⊎◌, nat_lt, Bool, true, false, List, [], ◌++◌, Result, Ok, Err, if◌then◌else◌}
+use Rattle.std.specs.Prelude.{ℕ, ◌≡◌, ◌⊎◌, nat_lt, Bool, true, false, List, [], ◌++◌, Result, Ok, Err, if◌then◌else◌, ⊤}
 use Rattle.engine_ports.specs.Rose.{Rose}
 use Rattle.engine_ports.specs.Source.{SourceView, SourceGave}
 use Rattle.http_edge.specs.declared.head.Head.{Head}
-use Rattle.response_reader.specs.Answers.{Answer, NoHead, Answered, IsAnswer, TellsSoFar}
+use Rattle.response_reader.specs.Answers.{Answer, NoHead, Answered, IsAnswer, TellsSoFar, TellsAll}
 use Rattle.response_reader.specs.Heads.{first_in}
 use Rattle.response_reader.specs.Held.{Reading}
 use Rattle.response_reader.specs.Reader.{HasTaken}
@@ -29,23 +29,37 @@ pub record Told (came s : SourceView) (answer : Answer) : Type 0 where
   pub gave : SourceGave came bytes s
   pub is : IsAnswer bytes (nat_lt came.ends s.ends) answer
 
--- it gave so much of this answer
+-- it gave at least so much of this answer
 pub record ToldSoFar (came s : SourceView) (answer : Answer) : Type 0 where
   pub bytes : List ℕ
   pub gave : SourceGave came bytes s
   pub is : TellsSoFar bytes answer
 
 -- an output failed, memory was refused, or the source failed
-abbrev pub Fails : Fault → SourceView → SourceView → Outputs → Outputs → Type 0
-Fails F.Connection came s o o' = Rose came.faults s.faults
-Fails fault came s o o' = OutputsFail fault o o'
+abbrev pub ReadFails : Fault → SourceView → SourceView → Outputs → Outputs → Type 0
+ReadFails F.Connection came s o o' = Rose came.faults s.faults
+ReadFails fault came s o o' = OutputsFail fault o o'
+
+-- what was to be written by then, where this fault broke it off: to an output that failed something; and nothing, where memory
+-- was refused
+abbrev pub HadToWrite : Fault → Written → Type 0
+HadToWrite F.Output w = ¬ (w.out ≡ [])
+HadToWrite F.Errors w = ¬ (w.err ≡ [])
+HadToWrite F.NoMemory w = w ≡ nothing
+HadToWrite fault w = ⊤
+
+-- where the connection failed, all that came of the answer is counted, and all was written
+abbrev pub CountsAll : Fault → List ℕ → Answer → Written → Written → Type 0
+CountsAll fault bytes answer part w = fault ≡ F.Connection → TellsAll bytes answer × (part ≡ w)
 
 -- the body came to its end, whole or not, and was shown; or so much of it, and fronts of that were shown
 abbrev pub FollowSays : Result Bool Fault → SourceView → Head → Showing → Taken → SourceView → Outputs → Outputs → Type 0
 FollowSays (Ok whole) came h showing t s o o' =
     (body : List ℕ) × (t ≡ taken showing body) × Told came s (Answered h body whole) × BothTook o (shows showing body) o'
 FollowSays (Err fault) came h showing t s o o' =
-    (body : List ℕ) × ToldSoFar came s (Answered h body false) × BothBegan o (shows showing body) o' × Fails fault came s o o'
+    (body : List ℕ) × (told : ToldSoFar came s (Answered h body false)) × (began : BothBegan o (shows showing body) o')
+    × ReadFails fault came s o o' × HadToWrite fault (shows showing body)
+    × CountsAll fault told.bytes (Answered h body false) began.part (shows showing body)
 
 -- ---- answers
 
@@ -85,12 +99,14 @@ pub record IsRefused (fault : Fault) (came s : SourceView) (o o' : Outputs) : Ty
   pub refuses : Refuses answer fault
   pub took : BothTook o nothing o'
 
--- so much of an answer came, and fronts of that were shown
+-- at least so much of an answer came, and fronts of what is shown of that were written
 pub record BreaksOff (fault : Fault) (showing : Showing) (came s : SourceView) (o o' : Outputs) : Type 0 where
   pub answer : Answer
   pub told : ToldSoFar came s answer
   pub began : BothBegan o (answer_shows showing answer) o'
-  pub cause : Fails fault came s o o'
+  pub cause : ReadFails fault came s o o'
+  pub had : HadToWrite fault (answer_shows showing answer)
+  pub all : CountsAll fault told.bytes answer began.part (answer_shows showing answer)
 
 -- what reading a refusal says
 abbrev pub RefusalSays : Fault → SourceView → SourceView → Outputs → Outputs → Type 0

@@ -2,7 +2,7 @@
 use Rattle.std.proofs.Common.{◌≡◌, inl, inr, ℕ, List, [], ◌∷◌, refl, sym, ap, ◌∙◌, subst, Option, Some, None, Result, Err}
 use Rattle.std.specs.Prelude.{option_and_then, option_map}
 use Rattle.std.specs.Option.{option_map_or}
-use Rattle.client_model.specs.Plans.{Plan, fails}
+use Rattle.client_model.specs.Plans.{Plan, Ends, Asks, Judges, fails}
 use Rattle.engine_line.specs.Lines.{port_in}
 use Rattle.client_model.specs.Lines.{read_by, commands, address_in, line_with, line_of}
 use Rattle.client_model.specs.Client.{plan_of, plan_for, said_by}
@@ -12,12 +12,14 @@ use Rattle.client_model.specs.declared.command.Line.{Line}
 use Rattle.client_model.specs.declared.fault.Fault.{Fault}
 use Rattle.client_model.specs.declared.fault.Fault.TheVariants as F
 use Rattle.client_streams.proofs.OutputLemmas.{began_none}
+use Rattle.client_exchange.specs.Walks.{IsAsking}
 use Rattle.client_exchange.proofs.WalkLemmas.{walk_none}
 use Rattle.client_exchange.proofs.AskLemmas.{does_fail}
 use Rattle.engine_client.specs.Reading.{Reads}
 use Rattle.engine_client.specs.declared.unread.Unread.{Unread}
 use Rattle.engine_client.specs.declared.unread.Unread.TheVariants.{NoForm}
 use Rattle.client_program.specs.Running.{reach_of, Ran}
+use Rattle.client_program.proofs.InputLemmas.{unread_lacks}
 
 -- its address is the first word
 with_address : (address : List ℕ) (port : Option ℕ) (command : Option Command) (line : Line) → option_and_then (λ p. option_map (line_with address) command) port ≡ Some line
@@ -52,16 +54,24 @@ pub no_line : (words : List (List ℕ)) (why : Unread) (o : Outside) → why ≡
 no_line words why o form reads =
     subst (λ l. Ran (address_in words) (option_map_or (λ (m : Line). plan_of m.command) l (fails F.Words)) (Err F.Words) o o)
     (sym (subst (λ u. Reads (Err u) (line_of words)) form reads))
-    (inl (inl (does_fail (fails F.Words) F.Words (reach_of (address_in words) o) (reach_of (address_in words) o) (walk_none (fails F.Words) (reach_of (address_in words) o)), refl)))
+    (inl (tt, inl (does_fail (fails F.Words) F.Words (reach_of (address_in words) o) (reach_of (address_in words) o) (walk_none (fails F.Words) (reach_of (address_in words) o)), refl)))
 
 -- memory was refused
+asking_lacks : (address : List ℕ) (plan : Plan) (o : Outside) → IsAsking plan → Ran address plan (Err F.NoMemory) o o
+asking_lacks address plan o asking = inl (
+  asking,
+  inl (
+    record {
+      next = plan;
+      between = reach_of address o;
+      walks = walk_none plan (reach_of address o);
+      comes = inr (inl (record { missed = record { coming = refl; past = refl; others = refl; faults = refl }; began = began_none (reach_of address o).shown (said_by plan None []).written; cause = tt; unfailed = inl refl }));
+    },
+    refl,
+  ),
+)
+
 pub line_lacks : (address : List ℕ) (plan : Plan) (o : Outside) → Ran address plan (Err F.NoMemory) o o
-line_lacks address plan o = inl (inl (
-  record {
-    next = plan;
-    between = reach_of address o;
-    walks = walk_none plan (reach_of address o);
-    comes = inr (inl (record { missed = record { coming = refl; past = refl; others = refl; faults = refl }; began = began_none (reach_of address o).shown (said_by plan None []).written; cause = inl tt; unfailed = inl refl }));
-  },
-  refl,
-))
+line_lacks address (Ends w ending) o = asking_lacks address (Ends w ending) o tt
+line_lacks address (Asks w asked next) o = asking_lacks address (Asks w asked next) o tt
+line_lacks address (Judges charter next) o = inr (inr (record { fault = F.NoMemory; is = refl; unread = unread_lacks o.input; unshown = refl }))

@@ -1,12 +1,9 @@
 -- What a call says of its outside, by what was done of its plan.
-use Rattle.std.proofs.Common.{◌≡◌, ◌⊎◌, ◌≤◌, inl, inr, ℕ, List, [], ◌∷◌, ◌++◌, ◌+◌, length, length-append, map, refl, sym, ap, ◌∙◌, subst, append_assoc, append-nil, Option, Some, None, Bool, true, false, IsFalse}
-use Rattle.std.specs.Prelude.{if◌then◌else◌, ◌||◌}
-use Rattle.std.specs.Bool.{MatchBool}
+use Rattle.std.proofs.Common.{arith, ◌≡◌, ◌⊎◌, ◌≤◌, inl, inr, ℕ, List, [], ◌∷◌, ◌++◌, length, drop, map, refl, sym, ap, ◌∙◌, subst, append-nil, length-append, Option, Some, None, Bool, true, false}
+use Rattle.std.specs.Prelude.{if◌then◌else◌}
 use Rattle.std.specs.List.{list_any}
-use Rattle.std.proofs.lemmas.List.{map-append, length-map}
-use Rattle.std.proofs.lemmas.List.Folds.{list_any-append}
 use Rattle.engine_ports.specs.Rose.{Rose}
-use Rattle.engine_ports.specs.Source.{SourceView, SourceGave, SourceEnded}
+use Rattle.engine_ports.specs.Source.{SourceView, SourceGave}
 use Rattle.engine_ports.specs.Sink.{SinkView, SinkTook, IsFront}
 use Rattle.engine_ports.specs.Link.{LinkView, others, but_for}
 use Rattle.engine_ports.proofs.PortLemmas.{sink_on, rose_since, rose_until}
@@ -15,58 +12,31 @@ use Rattle.history_replay.specs.declared.verdict.Verdict.{Verdict}
 use Rattle.client_model.specs.Requests.{request_bytes}
 use Rattle.client_model.specs.Faults.{fault_line}
 use Rattle.client_model.specs.Lines.{command_names, address_in}
-use Rattle.client_model.specs.Plans.{Plan, Ends, Asks, Judges, Asked, Written, Ending, joined}
+use Rattle.client_model.specs.Plans.{Plan, Ends, Asks, Judges, Asked, Written, Ending, nothing, joined}
 use Rattle.client_model.specs.Client.{Said, said, said_by, plan_for, IsJudged, status_at, line_at}
-use Rattle.client_model.specs.Runs.{Outside, Exchange, HaveCome, AreLeft, ByAnswers, SoFar, sent_by, asks_input, ReadsInput, WroteLine, IsEnded, HasFailed, CauseOf, AreSentSoFar, missed_by, IsUnfailed, IsBrokenOff}
+use Rattle.client_model.specs.Runs.{Outside, Exchange, HaveCome, AreLeft, sent_by, WasSent, asks_input, InputStands, AreFronts, WroteLine, AreWhole, IsEnded, Course, LacksVerdict, but_last, said_sooner, CauseBehind, BreaksBehind, CauseWithin, BreaksWithin, missed_by, IsBrokenOff}
 use Rattle.client_model.specs.declared.fault.Fault.{Fault}
 use Rattle.client_model.specs.declared.fault.Fault.TheVariants as F
-use Rattle.client_streams.specs.Outputs.{outputs, BothTook, BothBegan, OutputsFail}
-use Rattle.client_streams.proofs.OutputLemmas.{both_on, began_behind, fails_since}
-use Rattle.client_exchange.specs.Exchanges.{Reach, KeepsOff, FailsOn}
-use Rattle.client_exchange.specs.Walks.{said_behind, Walked, StopsBefore, StopsIn, FailsAlone}
+use Rattle.client_streams.specs.Outputs.{Outputs, outputs, BothTook}
+use Rattle.client_streams.proofs.OutputLemmas.{both_on, fronts_none, fronts_all, fronts_behind, fronts_longer, none_first}
+use Rattle.client_exchange.specs.Telling.{HadToWrite, CountsAll}
+use Rattle.client_exchange.specs.Exchanges.{Reach, FailsOn}
+use Rattle.client_exchange.specs.Walks.{IsAsking, said_behind, WroteBefore, Walked, AsksFirst, StopsBefore, StopsIn, StopsQuietly, FailsAlone}
 use Rattle.client_exchange.proofs.WalkLemmas.{came_on, left_on}
 use Rattle.client_program.specs.Running.{outside, reach_of, Tells}
 
 -- ---- plans that ask for no verdict
 
-some_none : (ending : Ending) → Some ending ≡ None → ⊥
-some_none ending e = cc
+not_judging : (plan : Plan) (input : List ℕ) → IsAsking plan → IsJudged plan input None
+not_judging (Ends w ending) input asking = refl
+not_judging (Asks w asked next) input asking = refl
+not_judging (Judges charter next) input asking = absurd asking
 
-not_judging : (plan : Plan) (answers : List Answer) (input : List ℕ) (asked : List Asked) (w : Written) (ending : Ending)
-    → said asked w (Some ending) ≡ said_by plan None answers → IsJudged plan input None
-not_judging (Ends v e) answers input asked w ending is = refl
-not_judging (Asks v a next) answers input asked w ending is = refl
-not_judging (Judges charter next) answers input asked w ending is = absurd (some_none ending (ap (λ (s : Said). s.end) is))
-
-input_so : (plan : Plan) (answers : List Answer) (input : List ℕ) (asked : List Asked) (w : Written) (ending : Ending) (v v' : SourceView)
-    → said asked w (Some ending) ≡ said_by plan None answers → MatchBool (list_any (λ a. a.input) asked) (SourceEnded v v') (input ≡ [])
-    → ReadsInput plan (said asked w (Some ending)) input v v'
-input_so (Ends u e) answers input asked w ending v v' is reads = reads
-input_so (Asks u a next) answers input asked w ending v v' is reads = reads
-input_so (Judges charter next) answers input asked w ending v v' is reads = absurd (some_none ending (ap (λ (s : Said). s.end) is))
-
-asks_loud : (plan : Plan) (s : Said) → list_any (λ a. a.input) s.asked ≡ true → asks_input plan s ≡ true
-asks_loud (Ends u e) s loud = loud
-asks_loud (Asks u a next) s loud = loud
-asks_loud (Judges charter next) s loud = refl
-
-true_false : true ≡ false → ⊥
-true_false e = cc
-
--- a plan whose request standard input follows reads it
-pub loud_reads : (plan : Plan) (s : Said) (input : List ℕ) → list_any (λ a. a.input) s.asked ≡ true → IsFalse (asks_input plan s) → input ≡ []
-loud_reads plan s input loud unread = absurd (true_false (sym (asks_loud plan s loud) ∙ unread))
-
-or_true : (t : Bool) → (t || true) ≡ true
-or_true true = refl
-or_true false = refl
-
-pub loud_first : (ms ns : List Asked) → list_any (λ a. a.input) ms ≡ true → list_any (λ a. a.input) (ms ++ ns) ≡ true
-loud_first ms ns loud = list_any-append (λ (x : Asked). x.input) ms ns ∙ ap (λ t. t || list_any (λ (x : Asked). x.input) ns) loud
-
-pub loud_last : (ms ns : List Asked) → list_any (λ a. a.input) ns ≡ true → list_any (λ a. a.input) (ms ++ ns) ≡ true
-loud_last ms ns loud =
-    list_any-append (λ (x : Asked). x.input) ms ns ∙ ap (λ t. list_any (λ (x : Asked). x.input) ms || t) loud ∙ or_true (list_any (λ (x : Asked). x.input) ms)
+read_so : (plan : Plan) (asked : List Asked) (now : Bool) (given input : List ℕ) (v v' : SourceView) → IsAsking plan
+    → InputStands (list_any (λ a. a.input) asked) now given input v v' → InputStands (asks_input plan asked) now given input v v'
+read_so (Ends w ending) asked now given input v v' asking reads = reads
+read_so (Asks w first next) asked now given input v v' asking reads = reads
+read_so (Judges charter next) asked now given input v v' asking reads = absurd asking
 
 -- ---- the line of a fault
 
@@ -77,12 +47,13 @@ line_since e e' e'' part line le (inr (front, rose)) = inr (front, rose_since e.
 -- ---- ends
 
 pub ended : (words : List (List ℕ)) (input : List ℕ) (next : Plan) (w : Written) (ending : Ending) (status : ℕ) (o o' : Outside) (p : Reach) (e : SinkView) (part : List ℕ)
-    (way : Walked (plan_for words) input (reach_of (address_in words) o) next p) → next ≡ Ends w ending → BothTook p.shown w (outputs o'.out e)
+    → IsAsking (plan_for words) → (way : Walked (plan_for words) input (reach_of (address_in words) o) next p) → next ≡ Ends w ending → BothTook p.shown w (outputs o'.out e)
     → but_for (address_in words) o'.link ≡ p.link
-    → SourceGave o.input input o'.input → MatchBool (list_any (λ a. a.input) way.asked) (SourceEnded o.input o'.input) (input ≡ [])
+    → SourceGave o.input input o'.input → InputStands (list_any (λ a. a.input) way.asked) false [] input o.input o'.input
     → SinkTook e part o'.err → WroteLine e part (line_at ending) o'.err → status ≡ status_at ending → IsEnded words status o o'
-ended words input next w ending status o o' p e part way next_is took link gave reads told line status_is = record {
+ended words input next w ending status o o' p e part asking way next_is took link gave reads told line status_is = record {
   xs = way.xs;
+  answers = way.answers;
   input = input;
   verdict = None;
   said = said way.asked all (Some ending);
@@ -95,11 +66,10 @@ ended words input next w ending status o o' p e part way next_is took link gave 
     input_gave = gave;
   };
   missed = ap (λ (l : LinkView). l.faults) link ∙ way.faults;
-  judged = not_judging (plan_for words) way.answers input way.asked all ending says;
-  says = (way.answers, way.answered, says);
+  whole = record { judged = not_judging (plan_for words) input asking; answered = way.answered; sent = way.sent };
+  says = says;
   ended = refl;
-  sent = way.sent;
-  input_read = input_so (plan_for words) way.answers input way.asked all ending o.input o'.input says reads;
+  input_read = read_so (plan_for words) way.asked false [] input o.input o'.input asking reads;
   out = both.out;
   err = sink_on o.err e o'.err all.err part both.err told;
   line = line_since o.err e o'.err part (line_at ending) both.err.faults line;
@@ -118,114 +88,110 @@ ended words input next w ending status o o' p e part way next_is took link gave 
         ∙ ap (λ n. said_behind way.asked way.written (said_by n None [])) (sym next_is) ∙ sym (way.says [])
         ∙ ap (said_by (plan_for words) None) (append-nil way.answers)
 
--- ---- what was sent by then
+-- ---- causes behind exchanges
 
-pub sent_all : (l more : List (List ℕ)) → AreSentSoFar l (l ++ more)
-sent_all [] more = tt
-sent_all (x ∷ []) more = ([], append-nil x)
-sent_all (x ∷ y ∷ l) more = (refl, sent_all (y ∷ l) more)
-
-pub sent_last : (l : List (List ℕ)) (s : List ℕ) (more : List (List ℕ)) → AreSentSoFar (s ∷ []) more → AreSentSoFar (l ++ s ∷ []) (l ++ more)
-sent_last [] s more h = h
-sent_last (x ∷ []) s more h = (refl, h)
-sent_last (x ∷ y ∷ l) s more h = (refl, sent_last (y ∷ l) s more h)
-
--- what is sent without input begins what is sent with it
-front_fed : (a : Asked) (part input : List ℕ) → IsFront part (sent_by [] a) → IsFront part (sent_by input a)
-front_fed a part input = by_flag a.input
+-- the front of a list whose rest is told too
+longer_none : (old part more : List ℕ) → IsFront old part → part ++ more ≡ old → more ≡ []
+longer_none old part more (cut, is) e =
+    none_of more (omega (arith, ap length is, length-append old cut, ap length e, length-append part more))
   where
-    by_flag : (t : Bool) → IsFront part (if t then request_bytes a.request ++ [] else request_bytes a.request)
-        → IsFront part (if t then request_bytes a.request ++ input else request_bytes a.request)
-    by_flag true (cut, is) =
-        (cut ++ input, sym (append_assoc part cut input) ∙ ap (λ l. l ++ input) is ∙ ap (λ l. l ++ input) (append-nil (request_bytes a.request)))
-    by_flag false front = front
+    none_of : (l : List ℕ) → length l ≡ 0 → l ≡ []
+    none_of [] none = refl
+    none_of (b ∷ l) some = absurd (omega (arith, some))
 
-sent_fed : (sent : List ℕ) (asked : List Asked) (input : List ℕ) → AreSentSoFar (sent ∷ []) (map (sent_by []) asked) → AreSentSoFar (sent ∷ []) (map (sent_by input) asked)
-sent_fed sent [] input h = absurd h
-sent_fed sent (a ∷ asked) input h = front_fed a sent input h
+-- why nothing more was asked, where this was written before and that was to be
+pub alone_cause : (next : Plan) (fault : Fault) (c : Course) (sooner w : Written) (o m : Outside) (p q : Reach)
+    → c.said.written ≡ joined w (said_by next None []).written → AreFronts sooner w
+    → BothTook (outputs o.out o.err) w p.shown → q.shown ≡ outputs m.out m.err → (AsksFirst next → (c.wrote ≡ c.said.written) × (length (said_by next None []).asked ≡ 1))
+    → FailsAlone next fault p q → CauseBehind fault c sooner (said_by next None []).asked o m
+alone_cause next F.Output c sooner w o m p q is fronts took same one (rose, some) = (
+  rose_since o.out.faults p.shown.out.faults m.out.faults took.out.faults
+      (subst (λ (s : Outputs). Rose p.shown.out.faults s.out.faults) same rose),
+  λ e. some (longer_none sooner.out w.out (said_by next None []).written.out fronts.out (sym (ap (λ (u : Written). u.out) is) ∙ e)),
+)
+alone_cause next F.NoMemory c sooner w o m p q is fronts took same one r = tt
+alone_cause next F.Link c sooner w o m p q is fronts took same one r = one r
+alone_cause next F.Errors c sooner w o m p q is fronts took same one r = absurd r
+alone_cause next F.Input c sooner w o m p q is fronts took same one r = absurd r
+alone_cause next F.Connection c sooner w o m p q is fronts took same one r = absurd r
+alone_cause next F.Words c sooner w o m p q is fronts took same one r = absurd r
+alone_cause next F.Answer c sooner w o m p q is fronts took same one r = absurd r
+alone_cause next F.NoCode c sooner w o m p q is fronts took same one r = absurd r
+alone_cause next F.EventsGone c sooner w o m p q is fronts took same one r = absurd r
+alone_cause next (F.Refused message) c sooner w o m p q is fronts took same one r = absurd r
 
--- an exchange without input, told together with some
-pub stop_fed : (next : Plan) (input : List ℕ) (starved : Type 0) (fault : Fault) (p q : Reach) → StopsIn next [] ⊥ fault p q → StopsIn next input starved fault p q
-stop_fed next input starved fault p q b = record {
-  exchange = b.exchange;
-  answer = b.answer;
-  meets = b.meets;
-  tells = b.tells;
-  sent = sent_fed b.exchange.sent (said_by next None (b.answer ∷ [])).asked input b.sent;
-  began = b.began;
-  cause = by_fault fault b.cause;
-}
-  where
-    by_fault : (fault : Fault) → FailsOn ⊥ fault b.exchange p.shown q.shown → FailsOn starved fault b.exchange p.shown q.shown
-    by_fault F.Input r = absurd r
-    by_fault F.Connection r = r
-    by_fault F.Output r = r
-    by_fault F.Errors r = r
-    by_fault F.NoMemory r = r
-    by_fault F.Words r = r
-    by_fault F.Answer r = r
-    by_fault F.NoCode r = r
-    by_fault F.EventsGone r = r
-    by_fault (F.Refused message) r = r
-    by_fault F.Link r = r
+-- what is told behind it doesn't change it
+behind_until : (fault : Fault) (c : Course) (sooner : Written) (more : List Asked) (o m : Outside) (e : SinkView) → CauseBehind fault c sooner more o m
+    → CauseBehind fault c sooner more o (outside m.link m.input m.out e)
+behind_until F.Output c sooner more o m e r = r
+behind_until F.NoMemory c sooner more o m e r = r
+behind_until F.Link c sooner more o m e r = r
+behind_until F.Errors c sooner more o m e r = absurd r
+behind_until F.Input c sooner more o m e r = absurd r
+behind_until F.Connection c sooner more o m e r = absurd r
+behind_until F.Words c sooner more o m e r = absurd r
+behind_until F.Answer c sooner more o m e r = absurd r
+behind_until F.NoCode c sooner more o m e r = absurd r
+behind_until F.EventsGone c sooner more o m e r = absurd r
+behind_until (F.Refused message) c sooner more o m e r = absurd r
 
--- ---- causes
+-- ---- what was said before the last answer
 
-failed_last : (xs : List Exchange) (x : Exchange) → HasFailed (x ∷ []) → HasFailed (xs ++ x ∷ [])
-failed_last [] x h = h
-failed_last (y ∷ xs) x h = inr (failed_last xs x h)
+abbrev last_in : Answer → List Answer → Answer
+last_in answer [] = answer
+last_in answer (next ∷ answers) = last_in next answers
 
--- of an output or memory
-output_cause : (fault : Fault) (said : Said) (o m : Outside) (xs : List Exchange) → OutputsFail fault (outputs o.out o.err) (outputs m.out m.err)
-    → CauseOf fault said o m xs
-output_cause F.Output said o m xs r = r
-output_cause F.Errors said o m xs r = r
-output_cause F.NoMemory said o m xs r = tt
-output_cause F.Input said o m xs r = absurd r
-output_cause F.Link said o m xs r = absurd r
-output_cause F.Connection said o m xs r = absurd r
-output_cause F.Words said o m xs r = absurd r
-output_cause F.Answer said o m xs r = absurd r
-output_cause F.NoCode said o m xs r = absurd r
-output_cause F.EventsGone said o m xs r = absurd r
-output_cause (F.Refused message) said o m xs r = absurd r
+but_last_on : (answer : Answer) (answers : List Answer) → answer ∷ answers ≡ but_last answer answers ++ last_in answer answers ∷ []
+but_last_on answer [] = refl
+but_last_on answer (next ∷ answers) = ap (λ l. answer ∷ l) (but_last_on next answers)
 
--- of a connection that wasn't made
-miss_cause : (fault : Fault) (said : Said) (o m : Outside) (xs : List Exchange) → KeepsOff fault → length said.asked ≡ length xs + 1 → CauseOf fault said o m xs
-miss_cause F.Link said o m xs keeps more = more
-miss_cause F.NoMemory said o m xs keeps more = tt
-miss_cause F.Output said o m xs keeps more = absurd keeps
-miss_cause F.Errors said o m xs keeps more = absurd keeps
-miss_cause F.Input said o m xs keeps more = absurd keeps
-miss_cause F.Connection said o m xs keeps more = absurd keeps
-miss_cause F.Words said o m xs keeps more = absurd keeps
-miss_cause F.Answer said o m xs keeps more = absurd keeps
-miss_cause F.NoCode said o m xs keeps more = absurd keeps
-miss_cause F.EventsGone said o m xs keeps more = absurd keeps
-miss_cause (F.Refused message) said o m xs keeps more = absurd keeps
+sooner_front : (plan : Plan) (answers : List Answer) (w : Written) → WroteBefore plan answers w → AreFronts (said_sooner plan None answers) w
+sooner_front plan [] w wrote = fronts_none w
+sooner_front plan (answer ∷ answers) w wrote = wrote (but_last answer answers) (last_in answer answers) (but_last_on answer answers)
 
-pub alone_cause : (plan : Plan) (fault : Fault) (said : Said) (o m : Outside) (p q : Reach) (w : Written) (xs : List Exchange)
-    → BothTook (outputs o.out o.err) w p.shown → q.shown ≡ outputs m.out m.err → (length (said_by plan None []).asked ≡ 1 → length said.asked ≡ length xs + 1)
-    → FailsAlone plan fault p q → CauseOf fault said o m xs
-alone_cause plan fault said o m p q w xs took same more (inl r) =
-    output_cause fault said o m xs (fails_since fault (outputs o.out o.err) p.shown (outputs m.out m.err) w took (subst (OutputsFail fault p.shown) same r))
-alone_cause plan fault said o m p q w xs took same more (inr (keeps, one)) = miss_cause fault said o m xs keeps (more one)
+-- ---- causes within an exchange
 
--- of an exchange
-exchange_cause : (fault : Fault) (starved : Type 0) (said : Said) (o m : Outside) (p : Reach) (w : Written) (xs : List Exchange) (x : Exchange)
-    → BothTook (outputs o.out o.err) w p.shown → (starved → Rose o.input.faults m.input.faults) → FailsOn starved fault x p.shown (outputs m.out m.err)
-    → CauseOf fault said o m (xs ++ x ∷ [])
-exchange_cause F.Connection starved said o m p w xs x took rose r = failed_last xs x r
-exchange_cause F.Input starved said o m p w xs x took rose r = rose r
-exchange_cause F.Output starved said o m p w xs x took rose r = rose_since o.out.faults p.shown.out.faults m.out.faults took.out.faults r
-exchange_cause F.Errors starved said o m p w xs x took rose r = rose_since o.err.faults p.shown.err.faults m.err.faults took.err.faults r
-exchange_cause F.NoMemory starved said o m p w xs x took rose r = tt
-exchange_cause F.Words starved said o m p w xs x took rose r = absurd r
-exchange_cause F.Answer starved said o m p w xs x took rose r = absurd r
-exchange_cause F.NoCode starved said o m p w xs x took rose r = absurd r
-exchange_cause F.EventsGone starved said o m p w xs x took rose r = absurd r
-exchange_cause (F.Refused message) starved said o m p w xs x took rose r = absurd r
-exchange_cause F.Link starved said o m p w xs x took rose r = absurd r
+rest_none : (bytes more : List ℕ) → bytes ++ more ≡ bytes → more ≡ []
+rest_none [] more e = e
+rest_none (b ∷ bytes) more e = rest_none bytes more (ap (drop 1) e)
+
+module _ (starved : Type 0) (x : Exchange) (answer : Answer) (now : Asked) (c : Course) (o m : Outside) (p : Reach) (w part v old : Written) where
+  within_cause : (fault : Fault) → old ≡ w → c.wrote ≡ joined w part → c.said.written ≡ joined w v
+      → BothTook (outputs o.out o.err) w p.shown → (starved → (now.input ≡ true) × Rose o.input.faults m.input.faults) → FailsOn starved fault x p.shown (outputs m.out m.err)
+      → HadToWrite fault v → CountsAll fault x.given answer part v → CauseWithin fault x answer now c old o m
+  within_cause F.Connection is wrote said took rose r had all =
+      let counted = all refl in (r, counted.0, wrote ∙ ap (joined w) counted.1 ∙ sym said)
+  within_cause F.Input is wrote said took rose r had all = rose r
+  within_cause F.Output is wrote said took rose r had all = (
+    rose_since o.out.faults p.shown.out.faults m.out.faults took.out.faults r,
+    λ e. had (rest_none w.out v.out (sym (ap (λ (u : Written). u.out) said) ∙ e ∙ ap (λ (u : Written). u.out) is)),
+  )
+  within_cause F.Errors is wrote said took rose r had all = (
+    rose_since o.err.faults p.shown.err.faults m.err.faults took.err.faults r,
+    λ e. had (rest_none w.err v.err (sym (ap (λ (u : Written). u.err) said) ∙ e ∙ ap (λ (u : Written). u.err) is)),
+  )
+  within_cause F.NoMemory is wrote said took rose r had all =
+      said ∙ ap (joined w) had ∙ (λ i. record { out = append-nil w.out i; err = append-nil w.err i }) ∙ sym is
+  within_cause F.Words is wrote said took rose r had all = absurd r
+  within_cause F.Answer is wrote said took rose r had all = absurd r
+  within_cause F.NoCode is wrote said took rose r had all = absurd r
+  within_cause F.EventsGone is wrote said took rose r had all = absurd r
+  within_cause (F.Refused message) is wrote said took rose r had all = absurd r
+  within_cause F.Link is wrote said took rose r had all = absurd r
+
+within_until : (fault : Fault) (x : Exchange) (answer : Answer) (now : Asked) (c : Course) (old : Written) (o m : Outside) (e : SinkView) → m.err.faults ≤ e.faults
+    → CauseWithin fault x answer now c old o m → CauseWithin fault x answer now c old o (outside m.link m.input m.out e)
+within_until F.Errors x answer now c old o m e le r = (rose_until o.err.faults m.err.faults e.faults r.0 le, r.1)
+within_until F.Output x answer now c old o m e le r = r
+within_until F.Input x answer now c old o m e le r = r
+within_until F.Connection x answer now c old o m e le r = r
+within_until F.NoMemory x answer now c old o m e le r = r
+within_until F.Link x answer now c old o m e le r = absurd r
+within_until F.Words x answer now c old o m e le r = absurd r
+within_until F.Answer x answer now c old o m e le r = absurd r
+within_until F.NoCode x answer now c old o m e le r = absurd r
+within_until F.EventsGone x answer now c old o m e le r = absurd r
+within_until (F.Refused message) x answer now c old o m e le r = absurd r
 
 -- behind another fault than the link's connecting failed as often
 pub as_often : (fault : Fault) (n m : ℕ) → (fault ≡ F.Link → ⊥) → m ≡ n → m ≡ missed_by fault n
@@ -241,121 +207,192 @@ as_often F.NoCode n m other same = same
 as_often F.EventsGone n m other same = same
 as_often (F.Refused message) n m other same = same
 
--- what is told behind it doesn't change it
-cause_until : (fault : Fault) (said : Said) (o m : Outside) (e : SinkView) (xs : List Exchange) → m.err.faults ≤ e.faults → CauseOf fault said o m xs
-    → CauseOf fault said o (outside m.link m.input m.out e) xs
-cause_until F.Errors said o m e xs le r = rose_until o.err.faults m.err.faults e.faults r le
-cause_until F.Input said o m e xs le r = r
-cause_until F.Output said o m e xs le r = r
-cause_until F.NoMemory said o m e xs le r = r
-cause_until F.Link said o m e xs le r = r
-cause_until F.Connection said o m e xs le r = r
-cause_until F.Words said o m e xs le r = r
-cause_until F.Answer said o m e xs le r = r
-cause_until F.NoCode said o m e xs le r = r
-cause_until F.EventsGone said o m e xs le r = r
-cause_until (F.Refused message) said o m e xs le r = r
-
--- before it ended by a fault
-pub unfailed_before : {A B C : Type 0} → A ⊎ B → A ⊎ (B ⊎ C)
-unfailed_before (inl lack) = inl lack
-unfailed_before (inr unfailed) = inr (inl unfailed)
-
 -- ---- broken off
 
-pub broken_off : (words : List (List ℕ)) (input : List ℕ) (verdict : Option Verdict) (xs : List Exchange) (s : Said) (fault : Fault) (status : ℕ) (o m : Outside) (e : SinkView)
-    → HaveCome o.link.coming (map (λ x. x.came) xs) m.link.coming → AreLeft o.link.past (map (λ x. x.left) xs) m.link.past
-    → others (address_in words) m.link.addresses ≡ others (address_in words) o.link.addresses → SourceGave o.input input m.input
-    → (verdict ≡ None) ⊎ IsJudged (plan_for words) input verdict → ByAnswers (plan_for words) verdict xs s ⊎ SoFar (plan_for words) verdict xs s
-    → AreSentSoFar (map (λ x. x.sent) xs) (map (sent_by input) s.asked) → (IsFalse (asks_input (plan_for words) s) → input ≡ [])
-    → BothBegan (outputs o.out o.err) s.written (outputs m.out m.err) → m.link.faults ≡ missed_by fault o.link.faults → CauseOf fault s o m xs
-    → (fault ≡ F.NoMemory) ⊎ (IsUnfailed s.end ⊎ SoFar (plan_for words) verdict xs s) → Tells fault status m.err e
-    → IsBrokenOff words status o (outside m.link m.input m.out e)
-broken_off words input verdict xs s fault status o m e came left others gave judged says sent unread began missed cause unfailed tells = record {
-  xs = xs;
-  input = input;
-  verdict = verdict;
-  said = s;
+abbrev pub Breaks : Plan → Fault → Course → Outside → Outside → Type 0
+Breaks plan fault c o o' = LacksVerdict plan fault c o o' ⊎ (BreaksBehind plan fault c o o' ⊎ BreaksWithin plan fault c o o')
+
+breaks_until : (plan : Plan) (fault : Fault) (c : Course) (o m : Outside) (e : SinkView) → m.err.faults ≤ e.faults → Breaks plan fault c o m
+    → Breaks plan fault c o (outside m.link m.input m.out e)
+breaks_until plan fault c o m e le (inl b) =
+    inl (record { judging = b.judging; none = b.none; unasked = b.unasked; says = b.says; cause = b.cause })
+breaks_until plan fault c o m e le (inr (inl b)) = inr (inl (record {
+  answers = b.answers;
+  done = b.done;
+  more = b.more;
+  whole = b.whole;
+  says = b.says;
+  asked = b.asked;
+  input_read = b.input_read;
+  wrote = b.wrote;
+  unfailed = b.unfailed;
+  cause = behind_until fault c (said_sooner plan c.verdict b.answers) b.more o m e b.cause;
+}))
+breaks_until plan fault c o m e le (inr (inr b)) = inr (inr (record {
+  before = b.before;
+  last = b.last;
+  answers = b.answers;
+  answer = b.answer;
+  done = b.done;
+  now = b.now;
+  more = b.more;
+  xs_are = b.xs_are;
+  whole = b.whole;
+  tells = b.tells;
+  says = b.says;
+  asked = b.asked;
+  sent = b.sent;
+  input_read = b.input_read;
+  wrote = b.wrote;
+  cause = within_until fault b.last b.answer b.now c (said_by plan c.verdict b.answers).written o m e le b.cause;
+}))
+
+pub broken_off : (words : List (List ℕ)) (c : Course) (fault : Fault) (status : ℕ) (o m : Outside) (e : SinkView)
+    → HaveCome o.link.coming (map (λ x. x.came) c.xs) m.link.coming → AreLeft o.link.past (map (λ x. x.left) c.xs) m.link.past
+    → others (address_in words) m.link.addresses ≡ others (address_in words) o.link.addresses → SourceGave o.input c.input m.input
+    → Breaks (plan_for words) fault c o m → AreFronts c.wrote c.said.written → BothTook (outputs o.out o.err) c.wrote (outputs m.out m.err)
+    → m.link.faults ≡ missed_by fault o.link.faults → Tells fault status m.err e → IsBrokenOff words status o (outside m.link m.input m.out e)
+broken_off words c fault status o m e came left others gave breaks fronts took missed tells = record {
   fault = fault;
-  out_part = began.part.out;
-  err_part = began.part.err;
+  course = c;
   part = tells.part;
   meets = record { came = came; left = left; others = others; input_gave = gave };
   missed = missed;
-  judged = judged;
-  says = says;
-  sent = sent;
-  input_unread = unread;
-  out_front = began.fronts.out;
-  err_front = began.fronts.err;
-  out = began.took.out;
-  err = sink_on o.err m.err e began.part.err tells.part began.took.err tells.took;
-  line = line_since o.err m.err e tells.part (fault_line command_names fault) began.took.err.faults tells.line;
-  cause = cause_until fault s o m e xs tells.took.faults cause;
-  unfailed = unfailed;
+  breaks = breaks_until (plan_for words) fault c o m e tells.took.faults breaks;
+  fronts = fronts;
+  out = took.out;
+  err = sink_on o.err m.err e c.wrote.err tells.part took.err tells.took;
+  line = line_since o.err m.err e tells.part (fault_line command_names fault) took.err.faults tells.line;
   status_is = tells.status_is;
 }
 
+-- ---- behind exchanges
+
+none_only : (part bytes : List ℕ) → bytes ≡ [] → IsFront part bytes → part ≡ bytes
+none_only part bytes none (cut, is) = none_first part cut (is ∙ none) ∙ sym none
+
+-- of nothing all was written
+fronts_whole : (part w : Written) → w ≡ nothing → AreFronts part w → part ≡ w
+fronts_whole part w none f = λ i. record {
+  out = none_only part.out w.out (ap (λ (u : Written). u.out) none) f.out i;
+  err = none_only part.err w.err (ap (λ (u : Written). u.err) none) f.err i;
+}
+
+-- a plan that asks first has written nothing, and asks one thing
+pub asks_one : (next : Plan) (w part : Written) → AreFronts part (said_by next None []).written → AsksFirst next
+    → (joined w part ≡ joined w (said_by next None []).written) × (length (said_by next None []).asked ≡ 1)
+asks_one next w part fronts asks = (
+  ap (joined w) (fronts_whole part (said_by next None []).written (ap (λ (n : Plan). (said_by n None []).written) asks.is) fronts),
+  ap (λ (n : Plan). length (said_by n None []).asked) asks.is,
+)
+
+abbrev pub course : List Exchange → List ℕ → Option Verdict → Said → Written → Course
+course xs input verdict s wrote = record { xs = xs; input = input; verdict = verdict; said = s; wrote = wrote }
+
 -- before anything more was asked
 pub stopped_before : (words : List (List ℕ)) (input : List ℕ) (next : Plan) (fault : Fault) (status : ℕ) (o m : Outside) (p : Reach) (e : SinkView)
-    (way : Walked (plan_for words) input (reach_of (address_in words) o) next p) → StopsBefore next fault p (reach_of (address_in words) m) → SourceGave o.input input m.input
-    → (IsFalse (asks_input (plan_for words) (said_behind way.asked way.written (said_by next None []))) → input ≡ []) → Tells fault status m.err e
+    → IsAsking (plan_for words) → (way : Walked (plan_for words) input (reach_of (address_in words) o) next p) → StopsBefore next fault p (reach_of (address_in words) m)
+    → SourceGave o.input input m.input → InputStands (list_any (λ a. a.input) way.asked) false [] input o.input m.input → Tells fault status m.err e
     → IsBrokenOff words status o (outside m.link m.input m.out e)
-stopped_before words input next fault status o m p e way b gave unread tells =
-    broken_off words input None way.xs (said_behind way.asked way.written (said_by next None [])) fault status o m e
+stopped_before words input next fault status o m p e asking way b gave reads tells =
+    broken_off words (course way.xs input None (said_behind way.asked way.written (said_by next None [])) (joined way.written b.began.part)) fault status o m e
     (subst (HaveCome o.link.coming (map (λ x. x.came) way.xs)) (sym b.missed.coming) way.came)
     (subst (AreLeft o.link.past (map (λ x. x.left) way.xs)) (sym b.missed.past) way.left)
     (b.missed.others ∙ way.others)
-    gave (inl refl)
-    (inl (way.answers, way.answered, sym (way.says []) ∙ ap (said_by (plan_for words) None) (append-nil way.answers)))
-    sent unread
-    (began_behind (outputs o.out o.err) p.shown (outputs m.out m.err) way.written (said_by next None []).written way.took b.began)
-    (b.missed.faults ∙ ap (missed_by fault) way.faults)
-    (alone_cause next fault (said_behind way.asked way.written (said_by next None [])) o m p (reach_of (address_in words) m) way.written way.xs way.took refl one_more b.cause)
-    (unfailed_before b.unfailed) tells
+    gave (inr (inl behind))
+    (fronts_behind way.written b.began.part (said_by next None []).written b.began.fronts)
+    (both_on (outputs o.out o.err) p.shown (outputs m.out m.err) way.written b.began.part way.took b.began.took)
+    (b.missed.faults ∙ ap (missed_by fault) way.faults) tells
   where
-    one_more : length (said_by next None []).asked ≡ 1 → length (way.asked ++ (said_by next None []).asked) ≡ length way.xs + 1
-    one_more one =
-        length-append way.asked (said_by next None []).asked ∙ ap (λ n. length way.asked + n) one
-        ∙ ap (λ n. n + 1) (sym (length-map way.asked (sent_by input)) ∙ sym (ap length way.sent) ∙ length-map way.xs (λ (x : Exchange). x.sent))
+    behind : BreaksBehind (plan_for words) fault (course way.xs input None (said_behind way.asked way.written (said_by next None [])) (joined way.written b.began.part)) o m
+    behind = record {
+      answers = way.answers;
+      done = way.asked;
+      more = (said_by next None []).asked;
+      whole = record { judged = not_judging (plan_for words) input asking; answered = way.answered; sent = way.sent };
+      says = sym (way.says []) ∙ ap (said_by (plan_for words) None) (append-nil way.answers);
+      asked = refl;
+      input_read = read_so (plan_for words) way.asked false [] input o.input m.input asking reads;
+      wrote = fronts_longer (said_sooner (plan_for words) None way.answers) way.written b.began.part (sooner_front (plan_for words) way.answers way.written way.wrote);
+      unfailed = b.unfailed;
+      cause =
+          alone_cause next fault (course way.xs input None (said_behind way.asked way.written (said_by next None [])) (joined way.written b.began.part)) (said_sooner (plan_for words) None way.answers) way.written o m p (reach_of (address_in words) m) refl
+          (sooner_front (plan_for words) way.answers way.written way.wrote) way.took refl
+          (asks_one next way.written b.began.part b.began.fronts) b.cause;
+    }
 
-    sent : AreSentSoFar (map (λ x. x.sent) way.xs) (map (sent_by input) (way.asked ++ (said_by next None []).asked))
-    sent =
-        subst (λ l. AreSentSoFar l (map (sent_by input) (way.asked ++ (said_by next None []).asked))) (sym way.sent)
-        (subst (AreSentSoFar (map (sent_by input) way.asked)) (sym (map-append (sent_by input) way.asked (said_by next None []).asked))
-        (sent_all (map (sent_by input) way.asked) (map (sent_by input) (said_by next None []).asked)))
+-- ---- within an exchange
+
+-- what is sent of a request that no input follows
+same_sent : (a : Asked) (input : List ℕ) → a.input ≡ false → sent_by [] a ≡ sent_by input a
+same_sent a input quiet =
+    ap (λ t. if t then request_bytes a.request ++ [] else request_bytes a.request) quiet
+    ∙ sym (ap (λ t. if t then request_bytes a.request ++ input else request_bytes a.request) quiet)
+
+-- an exchange without input, told together with some
+pub quiet_stop : (next : Plan) (input : List ℕ) (fault : Fault) (p q : Reach) → StopsQuietly next fault p q → StopsIn next input ⊥ fault p q
+quiet_stop next input fault p q s = let b = s.stops in record {
+  asks = b.asks;
+  exchange = b.exchange;
+  answer = b.answer;
+  meets = b.meets;
+  tells = b.tells;
+  sent = subst (WasSent fault b.exchange) (same_sent b.asks.asked input s.quiet) b.sent;
+  began = b.began;
+  cause = b.cause;
+  had = b.had;
+  all = b.all;
+}
 
 -- in its next exchange
 pub stopped_in : (words : List (List ℕ)) (input : List ℕ) (next : Plan) (starved : Type 0) (fault : Fault) (status : ℕ) (o m : Outside) (p : Reach) (e : SinkView)
-    (way : Walked (plan_for words) input (reach_of (address_in words) o) next p) → StopsIn next input starved fault p (reach_of (address_in words) m) → (starved → Rose o.input.faults m.input.faults)
-    → SourceGave o.input input m.input
-    → ((answer : Answer) → IsFalse (asks_input (plan_for words) (said_behind way.asked way.written (said_by next None (answer ∷ [])))) → input ≡ []) → Tells fault status m.err e
+    → IsAsking (plan_for words) → (way : Walked (plan_for words) input (reach_of (address_in words) o) next p) → (b : StopsIn next input starved fault p (reach_of (address_in words) m))
+    → (starved → (b.asks.asked.input ≡ true) × Rose o.input.faults m.input.faults) → SourceGave o.input input m.input
+    → InputStands (list_any (λ a. a.input) way.asked) b.asks.asked.input b.exchange.given input o.input m.input → Tells fault status m.err e
     → IsBrokenOff words status o (outside m.link m.input m.out e)
-stopped_in words input next starved fault status o m p e way b rose gave unread tells =
-    broken_off words input None (way.xs ++ b.exchange ∷ []) (said_behind way.asked way.written last) fault status o m e
+stopped_in words input next starved fault status o m p e asking way b rose gave reads tells =
+    broken_off words (course (way.xs ++ b.exchange ∷ []) input None (said_behind way.asked way.written (said_by next None (b.answer ∷ []))) (joined way.written b.began.part)) fault status o m e
     (came_on o.link.coming p.link.coming m.link.coming way.xs (b.exchange ∷ []) way.came b.meets.came)
     (left_on o.link.past p.link.past m.link.past way.xs (b.exchange ∷ []) way.left b.meets.left)
     (b.meets.others ∙ way.others)
-    gave (inl refl)
-    (inr so_far)
-    sent (unread b.answer)
-    (began_behind (outputs o.out o.err) p.shown (outputs m.out m.err) way.written last.written way.took b.began)
+    gave (inr (inr within))
+    (fronts_behind way.written b.began.part (said_by next None (b.answer ∷ [])).written b.began.fronts)
+    (both_on (outputs o.out o.err) p.shown (outputs m.out m.err) way.written b.began.part way.took b.began.took)
     (as_often fault o.link.faults m.link.faults (λ is. subst (λ f. FailsOn starved f b.exchange p.shown (outputs m.out m.err)) is b.cause) (b.meets.faults ∙ way.faults))
-    (exchange_cause fault starved (said_behind way.asked way.written last) o m p way.written way.xs b.exchange way.took rose b.cause)
-    (inr (inr so_far)) tells
+    tells
   where
-    last : Said
-    last = said_by next None (b.answer ∷ [])
+    none_yet : (said_by next None []).written ≡ nothing
+    none_yet = ap (λ (n : Plan). (said_by n None []).written) b.asks.is
 
-    asked : List Asked
-    asked = (said_by next None (b.answer ∷ [])).asked
+    start : said_by (plan_for words) None way.answers ≡ said_behind way.asked way.written (said_by next None [])
+    start = ap (said_by (plan_for words) None) (sym (append-nil way.answers)) ∙ way.says []
 
-    so_far : SoFar (plan_for words) None (way.xs ++ b.exchange ∷ []) (said_behind way.asked way.written (said_by next None (b.answer ∷ [])))
-    so_far = (way.xs, b.exchange, way.answers, b.answer, refl, way.answered, b.tells, sym (way.says (b.answer ∷ [])))
+    before_is : (said_by (plan_for words) None way.answers).written ≡ way.written
+    before_is =
+        ap (λ (s : Said). s.written) start ∙ ap (joined way.written) none_yet
+        ∙ (λ i. record { out = append-nil way.written.out i; err = append-nil way.written.err i })
 
-    sent : AreSentSoFar (map (λ x. x.sent) (way.xs ++ b.exchange ∷ [])) (map (sent_by input) (way.asked ++ (said_by next None (b.answer ∷ [])).asked))
-    sent =
-        subst (λ l. AreSentSoFar l (map (sent_by input) (way.asked ++ asked)))
-        (sym (map-append (λ (x : Exchange). x.sent) way.xs (b.exchange ∷ []) ∙ ap (λ l. l ++ b.exchange.sent ∷ []) way.sent))
-        (subst (AreSentSoFar (map (sent_by input) way.asked ++ b.exchange.sent ∷ [])) (sym (map-append (sent_by input) way.asked asked))
-        (sent_last (map (sent_by input) way.asked) b.exchange.sent (map (sent_by input) asked) b.sent))
+    within : BreaksWithin (plan_for words) fault (course (way.xs ++ b.exchange ∷ []) input None (said_behind way.asked way.written (said_by next None (b.answer ∷ []))) (joined way.written b.began.part)) o m
+    within = record {
+      before = way.xs;
+      last = b.exchange;
+      answers = way.answers;
+      answer = b.answer;
+      done = way.asked;
+      now = b.asks.asked;
+      more = (said_by (b.asks.next b.answer) None []).asked;
+      xs_are = refl;
+      whole = record { judged = not_judging (plan_for words) input asking; answered = way.answered; sent = way.sent };
+      tells = b.tells;
+      says = sym (way.says (b.answer ∷ []));
+      asked = ap (λ (n : Plan). way.asked ++ (said_by n None (b.answer ∷ [])).asked) b.asks.is;
+      sent = b.sent;
+      input_read = read_so (plan_for words) way.asked b.asks.asked.input b.exchange.given input o.input m.input asking reads;
+      wrote =
+          subst (λ (w : Written). AreFronts w (joined way.written b.began.part)) (sym before_is)
+          (fronts_all way.written b.began.part);
+      cause =
+          within_cause starved b.exchange b.answer b.asks.asked
+          (course (way.xs ++ b.exchange ∷ []) input None (said_behind way.asked way.written (said_by next None (b.answer ∷ []))) (joined way.written b.began.part)) o m p way.written b.began.part (said_by next None (b.answer ∷ [])).written
+          (said_by (plan_for words) None way.answers).written fault before_is refl refl way.took rose b.cause b.had b.all;
+    }

@@ -54,7 +54,7 @@ verdict_status (BadLine line) = 3
 -- ---- a plan that asks for a verdict
 
 -- standard input was read to its end, this is the verdict on it, and what goes on by it was printed
-pub record IsJudged (charter : Charter) (next : Verdict → Plan) (result : Result ℕ Fault) (v v' : SourceView) (o o' : Reach) : Type 0 where
+pub record HasVerdict (charter : Charter) (next : Verdict → Plan) (result : Result ℕ Fault) (v v' : SourceView) (o o' : Reach) : Type 0 where
   pub input : List ℕ
   pub gave : SourceGave v input v'
   pub ended : SourceEnded v v'
@@ -63,7 +63,7 @@ pub record IsJudged (charter : Charter) (next : Verdict → Plan) (result : Resu
   pub prints : PrintsOrLacks (next verdict) result o o'
 
 -- there is no verdict, and nothing was printed
-pub record IsUnjudged (result : Result ℕ Fault) (v v' : SourceView) (o o' : Reach) : Type 0 where
+pub record HasNoVerdict (result : Result ℕ Fault) (v v' : SourceView) (o o' : Reach) : Type 0 where
   pub fault : Fault
   pub is : result ≡ Err fault
   pub unread : IsUnread fault v v'
@@ -71,5 +71,5 @@ pub record IsUnjudged (result : Result ℕ Fault) (v v' : SourceView) (o o' : Re
 
 abbrev pub Judged : Plan → Result ℕ Fault → SourceView → SourceView → Reach → Reach → Type 0
 Judged (Judges charter next) result v v' o o' =
-    IsJudged charter next result v v' o o' ⊎ IsUnjudged result v v' o o'
+    HasVerdict charter next result v v' o o' ⊎ HasNoVerdict result v v' o o'
 Judged plan result v v' o o' = ⊥

@@ -12,6 +12,7 @@ use Rattle.client_model.specs.declared.fault.Fault.{Fault}
 use Rattle.client_model.specs.declared.command.Command.{Command}
 use Rattle.client_model.specs.declared.command.Command.TheVariants as command
 use Rattle.client_exchange.specs.Exchanges.{Reach, reach}
+use Rattle.client_exchange.specs.Walks.{IsAsking}
 use Rattle.client_exchange.specs.Feeding.{FedDoes}
 use Rattle.client_program.specs.Replaying.{Judged}
 
@@ -22,10 +23,10 @@ outside link input out err = record { link = link; input = input; out = out; err
 abbrev pub reach_of : List ℕ → Outside → Reach
 reach_of address o = reach (but_for address o.link) o.out o.err
 
--- what was done of a plan by requests to this address, before a fault is told
+-- what was done of a plan by requests to this address, before a fault is told; one that asks for a verdict does that alone
 abbrev pub Ran : List ℕ → Plan → Result ℕ Fault → Outside → Outside → Type 0
 Ran address plan result o o' =
-    FedDoes plan result o.input o'.input (reach_of address o) (reach_of address o')
+    (IsAsking plan × FedDoes plan result o.input o'.input (reach_of address o) (reach_of address o'))
     ⊎ Judged plan result o.input o'.input (reach_of address o) (reach_of address o')
 
 -- a journal's daemon was opened at a moment that has a text

@@ -26,12 +26,12 @@ EndedCallsSend =
     → IsShortLine words
     → AllZip (IsSent call.input) (map (λ x. x.sent) call.xs) call.said.asked
 
--- of a call that was broken off: all but the last
+-- of a call that was broken off: all but the last, which may have been sent a front
 abbrev pub BrokenCallsSend : Type 0
 BrokenCallsSend =
     (words : List (List ℕ)) (status : ℕ) (o o' : Outside) (call : IsBrokenOff words status o o')
     → IsShortLine words
-    → AreSentUpTo call.input (map (λ x. x.sent) call.xs) call.said.asked
+    → AreSentUpTo call.course.input (map (λ x. x.sent) call.course.xs) call.course.said.asked
 
 -- what was sent so is read as that request first
 abbrev pub AreReadFirst : Type 0

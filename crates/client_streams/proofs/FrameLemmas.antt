@@ -1,5 +1,5 @@
 -- The payloads of a stream's pieces are those of the stream.
-use Rattle.std.proofs.Common.{◌≡◌, ℕ, ◌-◌, List, [], ◌∷◌, ◌++◌, map, Bool, true, false, refl, sym, ap, ◌∙◌, subst, append_assoc, append-nil}
+use Rattle.std.proofs.Common.{arith, ◌≡◌, ◌<◌, ℕ, ◌-◌, List, [], ◌∷◌, ◌++◌, map, length, Bool, true, false, refl, sym, ap, ◌∙◌, subst, append_assoc, append-nil}
 use Rattle.std.specs.Prelude.{filter, nat_le, Ok, Err, if◌then◌else◌}
 use Rattle.std.proofs.lemmas.Grind.{flat_map-append}
 use Rattle.std.proofs.lemmas.List.{map-append}
@@ -14,10 +14,10 @@ use Rattle.engine_ports.specs.declared.ports.Failed.{Failed}
 use Rattle.client_model.specs.Plans.{nothing, to_out, joined}
 use Rattle.client_model.specs.declared.fault.Fault.{Fault}
 use Rattle.client_model.specs.declared.fault.Fault.TheVariants as F
-use Rattle.client_streams.specs.Outputs.{Outputs, outputs, BothTook, WritesBoth}
-use Rattle.client_streams.proofs.OutputLemmas.{both_none, both_on, out_took, err_took, out_failed, err_failed, breaks_on, breaks_before}
+use Rattle.client_streams.specs.Outputs.{Outputs, outputs, BothTook, WritesBoth, WasToWrite}
+use Rattle.client_streams.proofs.OutputLemmas.{both_none, both_on, out_took, err_took, out_failed, err_failed, breaks_on, breaks_before, some_bytes, was_behind, was_before}
 use Rattle.client_model.specs.Streams.{parts_of, unread, payloads_of}
-use Rattle.client_streams.specs.Writing.{part_written, items_written, piece_written}
+use Rattle.client_streams.specs.Writing.{part_written, items_written, piece_written, HaveBytes}
 
 -- the bytes of one stream among tagged ones
 abbrev bytes_on : Stream → List (Stream × ℕ) → List ℕ
@@ -204,3 +204,54 @@ wrote_less all left rest item o p q fault before e writes =
     (breaks_before o q (items_written (before.done ++ item ∷ [])) (items_written rest) fault
     (subst (λ l. WritesBoth (Err fault) l o q) (sym (items_joined before.done (item ∷ [])))
     (breaks_on o p q (items_written before.done) (items_written (item ∷ [])) fault before.took writes))))
+
+-- ---- what was to be written
+
+pub stdout_was : (bytes : List ℕ) → 0 < length bytes → WasToWrite F.Output (part_written (Stdout, bytes))
+stdout_was bytes some = subst (WasToWrite F.Output) (stdout_written bytes) (some_bytes bytes some)
+
+pub stderr_was : (bytes : List ℕ) → 0 < length bytes → WasToWrite F.Errors (part_written (Stderr, bytes))
+stderr_was bytes some = subst (WasToWrite F.Errors) (stderr_written bytes) (some_bytes bytes some)
+
+extended_has : (kind : Stream) (b : ℕ) (items : List Item) → HaveBytes items → HaveBytes (extend kind b items)
+extended_has kind b [] have = (omega arith, tt)
+extended_has kind b (Ok part ∷ items) have = (omega arith, have.1)
+extended_has kind b (Err fault ∷ items) have = (omega arith, have)
+
+put_has : (rest : Rest) (b : ℕ) (items : List Item) → HaveBytes items → HaveBytes (put_byte rest b items)
+put_has (Header part) b items have = have
+put_has (Payload kind missing) b items have = by (nat_le missing 1)
+  where
+    by : (t : Bool) → HaveBytes (if t then Ok (kind, b ∷ []) ∷ items else extend kind b items)
+    by true = (omega arith, have)
+    by false = extended_has kind b items have
+put_has (Faulted fault) b items have = have
+
+told_has : (rest : Rest) → HaveBytes (told_by rest)
+told_has (Header part) = tt
+told_has (Payload kind missing) = tt
+told_has (Faulted fault) = tt
+
+-- no item of a piece is empty
+items_have : (held : Held) (piece : List ℕ) → HaveBytes (items_of held piece)
+items_have held [] = told_has held.rest
+items_have held (b ∷ piece) =
+    put_has held.rest b (items_of (by_byte held.rest b held.at) piece) (items_have (by_byte held.rest b held.at) piece)
+
+has_of : (done rest : List Item) (item : Item) → HaveBytes (done ++ item ∷ rest) → HaveBytes (item ∷ [])
+has_of [] rest (Ok part) have = (have.0, tt)
+has_of [] rest (Err fault) have = tt
+has_of (Ok part ∷ done) rest item have = has_of done rest item have.1
+has_of (Err fault ∷ done) rest item have = has_of done rest item have
+
+-- what an item was to write, the piece was
+pub was_written : (held : Held) (piece : List ℕ) (left rest : List Item) (item : Item) (o p : Outputs) (fault : Fault)
+    → Wrote (items_of held piece) left o p → left ≡ item ∷ rest → (HaveBytes (item ∷ []) → WasToWrite fault (items_written (item ∷ [])))
+    → WasToWrite fault (piece_written held piece)
+was_written held piece left rest item o p fault before e was =
+    let some = was (has_of before.done rest item (subst HaveBytes (before.all_are ∙ ap (λ l. before.done ++ l) e) (items_have held piece))) in
+    subst (λ l. WasToWrite fault (items_written l)) (sym (done_more (items_of held piece) before.done left rest item before.all_are e))
+    (subst (WasToWrite fault) (sym (items_joined (before.done ++ item ∷ []) rest))
+    (was_before fault (items_written (before.done ++ item ∷ [])) (items_written rest)
+    (subst (WasToWrite fault) (sym (items_joined before.done (item ∷ [])))
+    (was_behind fault (items_written before.done) (items_written (item ∷ [])) some))))

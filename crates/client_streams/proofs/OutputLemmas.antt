@@ -1,12 +1,13 @@
 -- What the outputs took goes on.
-use Rattle.std.proofs.Common.{ℕ, List, [], ◌++◌, refl, sym, ap, ◌∙◌, append_assoc, Ok, Err}
+use Rattle.std.proofs.Common.{arith, ◌≡◌, ◌<◌, ℕ, List, [], ◌∷◌, ◌++◌, length, refl, sym, ap, ◌∙◌, append_assoc, Ok, Err}
 use Rattle.engine_ports.specs.Sink.{SinkView, SinkTook, IsFront, WriteSays}
 use Rattle.engine_ports.specs.declared.ports.Failed.{Failed}
 use Rattle.engine_ports.proofs.PortLemmas.{sink_none, sink_on, rose_since}
 use Rattle.client_model.specs.Plans.{Written, nothing, to_out, joined}
 use Rattle.client_model.specs.declared.fault.Fault.{Fault}
 use Rattle.client_model.specs.declared.fault.Fault.TheVariants as F
-use Rattle.client_streams.specs.Outputs.{Outputs, outputs, BothTook, AreFronts, BothBegan, OutputsFail, WritesBoth}
+use Rattle.client_model.specs.Runs.{AreFronts}
+use Rattle.client_streams.specs.Outputs.{Outputs, outputs, BothTook, BothBegan, OutputsFail, WritesBoth, WasToWrite}
 
 pub both_none : (o : Outputs) → BothTook o nothing o
 both_none o = record { out = sink_none o.out; err = sink_none o.err }
@@ -98,3 +99,46 @@ pub err_failed : (x : Failed) (bytes : List ℕ) (u e e' : SinkView) → WriteSa
     → WritesBoth (Err F.Errors) (record { out = []; err = bytes }) (outputs u e) (outputs u e')
 err_failed x bytes u e e' (part, front, took, rose) =
     (record { part = record { out = []; err = part }; fronts = record { out = front_none []; err = front }; took = err_took part u e e' took }, rose)
+
+-- ---- what was to be written
+
+pub some_bytes : (bytes : List ℕ) → 0 < length bytes → bytes ≡ [] → ⊥
+some_bytes bytes some none = omega (arith, some, ap length none)
+
+cons_none : (b : ℕ) (bytes : List ℕ) → b ∷ bytes ≡ [] → ⊥
+cons_none b bytes e = cc
+
+pub none_first : (bytes more : List ℕ) → bytes ++ more ≡ [] → bytes ≡ []
+none_first [] more e = refl
+none_first (b ∷ bytes) more e = absurd (cons_none b (bytes ++ more) e)
+
+none_last : (bytes more : List ℕ) → bytes ++ more ≡ [] → more ≡ []
+none_last [] more e = e
+none_last (b ∷ bytes) more e = absurd (cons_none b (bytes ++ more) e)
+
+-- behind others, and before others
+pub was_behind : (fault : Fault) (w v : Written) → WasToWrite fault v → WasToWrite fault (joined w v)
+was_behind F.Output w v some = λ e. some (none_last w.out v.out e)
+was_behind F.Errors w v some = λ e. some (none_last w.err v.err e)
+was_behind F.NoMemory w v some = absurd some
+was_behind F.Words w v some = absurd some
+was_behind F.Input w v some = absurd some
+was_behind F.Answer w v some = absurd some
+was_behind F.NoCode w v some = absurd some
+was_behind F.EventsGone w v some = absurd some
+was_behind (F.Refused message) w v some = absurd some
+was_behind F.Link w v some = absurd some
+was_behind F.Connection w v some = absurd some
+
+pub was_before : (fault : Fault) (w v : Written) → WasToWrite fault w → WasToWrite fault (joined w v)
+was_before F.Output w v some = λ e. some (none_first w.out v.out e)
+was_before F.Errors w v some = λ e. some (none_first w.err v.err e)
+was_before F.NoMemory w v some = absurd some
+was_before F.Words w v some = absurd some
+was_before F.Input w v some = absurd some
+was_before F.Answer w v some = absurd some
+was_before F.NoCode w v some = absurd some
+was_before F.EventsGone w v some = absurd some
+was_before (F.Refused message) w v some = absurd some
+was_before F.Link w v some = absurd some
+was_before F.Connection w v some = absurd some

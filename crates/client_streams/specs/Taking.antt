@@ -1,11 +1,14 @@
 -- What is done with a body as it comes (own).
-use Rattle.std.specs.Prelude.{ℕ, Bool, true, false, List, [], ◌++◌}
+use Rattle.std.specs.Prelude.{ℕ, ◌≡◌, ◌⊎◌, Bool, true, false, List, [], ◌++◌, Result, Err}
 use Rattle.stream_frame.specs.Demuxing.{Held}
 use Rattle.stream_frame.specs.Steps.{held_after}
 use Rattle.stream_frame.specs.declared.fault.Ended.{Ended}
 use Rattle.stream_frame.specs.declared.fault.Ended.TheVariants as ended
 use Rattle.client_model.specs.Plans.{Written, nothing, to_out}
 use Rattle.client_model.specs.Streams.{unread, payloads_of, is_border, ends_text, ends_frames}
+use Rattle.client_model.specs.declared.fault.Fault.{Fault}
+use Rattle.client_model.specs.declared.fault.Fault.TheVariants as F
+use Rattle.client_streams.specs.Outputs.{IfUnwritten}
 use Rattle.client_streams.specs.Writing.{piece_written}
 use Rattle.client_streams.specs.declared.taker.Showing.{Showing}
 use Rattle.client_streams.specs.declared.taker.Showing.TheVariants.{Kept, Copied, Demuxed}
@@ -39,6 +42,11 @@ adds_by Demuxed demux piece = piece_written demux piece
 
 abbrev pub adds : Taken → List ℕ → Written
 adds t piece = adds_by t.showing t.demux piece
+
+-- why a piece isn't taken: memory was refused for a body that is kept; or an output failed to which something of it was to be
+-- written
+abbrev pub IfUntaken : Result (Unit {0}) Fault → Showing → Written → Type 0
+IfUntaken result showing w = ((showing ≡ Kept) × (result ≡ Err F.NoMemory)) ⊎ IfUnwritten result w
 
 -- behind a piece more
 abbrev pub after_by : Showing → List ℕ → Held → List ℕ → Taken

@@ -1,9 +1,9 @@
 // Frames of a stream, written as they come (Docker Engine API v1.43, ContainerAttach, "Stream format").
-ghost use Rattle.std.specs.Prelude.{◌≡◌, ◌∷◌, []};
+ghost use Rattle.std.specs.Prelude.{◌≡◌, ◌<◌, ◌∷◌, [], length};
 ghost use Rattle.stream_frame.specs.Walks.{seen_item};
 ghost use Rattle.stream_frame.specs.Steps.{held_after};
-ghost use Rattle.client_streams.specs.Outputs.{outputs, WritesBoth};
-ghost use Rattle.client_streams.specs.Writing.{part_written, items_written, piece_written};
+ghost use Rattle.client_streams.specs.Outputs.{outputs, WritesBoth, IfUnwritten};
+ghost use Rattle.client_streams.specs.Writing.{part_written, items_written, piece_written, HaveBytes};
 
 use client_model::Fault;
 use engine_ports::Sink;
@@ -17,9 +17,11 @@ fn write_part<K: Sink, E: Sink>(
     out: &mut K,
     errors: &mut E,
 ) -> Result<(), Fault>
-    ensures { WritesBoth result (part_written (stream, bytes.now))
+    ensures written { WritesBoth result (part_written (stream, bytes.now))
         (outputs (K.takes out.old) (E.takes errors.old))
         (outputs (K.takes out.new) (E.takes errors.new)) }
+    ensures failing { 0 < length bytes.now
+        → IfUnwritten result (part_written (stream, bytes.now)) }
 {
     match stream {
         Stream::Stdin => Ok(()),
@@ -40,9 +42,11 @@ fn write_item<K: Sink, E: Sink>(
     out: &mut K,
     errors: &mut E,
 ) -> Result<(), Fault>
-    ensures { WritesBoth result (items_written (seen_item item.entry ∷ []))
+    ensures written { WritesBoth result (items_written (seen_item item.entry ∷ []))
         (outputs (K.takes out.old) (E.takes errors.old))
         (outputs (K.takes out.new) (E.takes errors.new)) }
+    ensures failing { HaveBytes (seen_item item.entry ∷ [])
+        → IfUnwritten result (items_written (seen_item item.entry ∷ [])) }
 {
     match item {
         Ok((stream, bytes)) => write_part(stream, bytes, out, errors),
@@ -60,6 +64,7 @@ pub(crate) fn write_frames<K: Sink, E: Sink>(
     ensures written { WritesBoth result (piece_written demux.old piece.now)
         (outputs (K.takes out.old) (E.takes errors.old))
         (outputs (K.takes out.new) (E.takes errors.new)) }
+    ensures failing { IfUnwritten result (piece_written demux.old piece.now) }
     ensures after { demux.new ≡ held_after demux.old piece.now }
 {
     let items = demux.push(piece);

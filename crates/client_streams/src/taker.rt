@@ -1,9 +1,10 @@
 // What is done with a body as it comes.
-ghost use Rattle.std.specs.Prelude.{◌≡◌, ◌++◌, [], IfOk};
+ghost use Rattle.std.specs.Prelude.{◌≡◌, ◌<◌, ◌++◌, [], length, IfOk};
 ghost use Rattle.engine_ports.specs.Sink.{SinkView};
-ghost use Rattle.client_model.specs.Plans.{nothing, to_out};
-ghost use Rattle.client_streams.specs.Outputs.{Outputs, outputs, WritesBoth};
-ghost use Rattle.client_streams.specs.Taking.{taken, adds, after, ends_by, is_whole};
+ghost use Rattle.client_model.specs.Plans.{Written, nothing, to_out};
+ghost use Rattle.client_streams.specs.Outputs.{Outputs, outputs, WritesBoth, IfUnwritten};
+ghost use Rattle.client_streams.specs.Taking.{IfUntaken, taken, adds, after, ends_by, is_whole};
+ghost use Rattle.client_streams.specs.declared.taker.Showing.TheVariants.{Kept};
 
 use crate::frames::write_frames;
 use client_model::Fault;
@@ -65,7 +66,7 @@ impl Taker {
         self.kept
     }
 
-    /// Takes a piece more, and writes what it shows.
+    /// Takes a piece more, and writes what it shows. An output fails only by a byte that was to be written to it.
     pub fn take<K: Sink, E: Sink>(
         &mut self,
         piece: &[u8],
@@ -75,6 +76,8 @@ impl Taker {
         ensures written { WritesBoth result (adds self.old piece.now)
             (outputs (K.takes out.old) (E.takes errors.old))
             (outputs (K.takes out.new) (E.takes errors.new)) }
+        ensures failing { 0 < length piece.now
+            → IfUntaken result self.old.showing (adds self.old piece.now) }
         ensures after { IfOk result (λ x. self.new ≡ after self.old piece.now) }
     {
         match self.showing {
@@ -111,6 +114,7 @@ fn is_whole(ended: Ended) -> bool
 #[tactic(auto, using(crate::proofs::OutputLemmas::both_none, crate::proofs::OutputLemmas::began_none))]
 fn keep(kept: &mut Vec<u8>, piece: &[u8]) -> Result<(), Fault>
     ensures written { (o : Outputs) → WritesBoth result nothing o o }
+    ensures failing { (w : Written) → IfUntaken result Kept w }
     ensures kept { IfOk result (λ x. kept.new.items ≡ kept.old.items ++ piece.now) }
 {
     match kept.extend_from_slice(piece) {
@@ -121,8 +125,9 @@ fn keep(kept: &mut Vec<u8>, piece: &[u8]) -> Result<(), Fault>
 
 /// Writes a piece to standard output.
 fn copy<K: Sink>(out: &mut K, piece: &[u8]) -> Result<(), Fault>
-    ensures { (e : SinkView) → WritesBoth result (to_out piece.now) (outputs (K.takes out.old) e)
-        (outputs (K.takes out.new) e) }
+    ensures written { (e : SinkView) → WritesBoth result (to_out piece.now)
+        (outputs (K.takes out.old) e) (outputs (K.takes out.new) e) }
+    ensures failing { 0 < length piece.now → IfUnwritten result (to_out piece.now) }
 {
     match out.write(piece) {
         Ok(()) => Ok(()),

@@ -10,6 +10,7 @@ use Rattle.http_edge.specs.Response.{head_text}
 use Rattle.http_edge.specs.declared.head.Head.{Head}
 use Rattle.response_reader.specs.Fronts.{NeverHas, IsPartOf}
 use Rattle.response_reader.specs.Heads.{IsTextOf, IsHead}
+use Rattle.response_reader.specs.Bodies.{Lacks, MayGoOn}
 use Rattle.response_reader.specs.Held.{Reading}
 use Rattle.response_reader.specs.Reader.{Follows, IsAtHead, IsInBody, IsOpen, HeadSays, BodySays}
 use Rattle.response_reader.specs.Steps.{IsRunning, missing_in, head_answer, body_answer, end_of, BeginSays, WhySays, GoSays}
@@ -22,7 +23,7 @@ use Rattle.response_reader.specs.declared.got.Stopped.TheVariants as stop
 use Rattle.response_reader.specs.declared.got.Answered.{Answered as HeadGot}
 use Rattle.response_reader.specs.declared.got.BodyGot.{BodyGot}
 use Rattle.response_reader.specs.declared.got.BodyGot.TheVariants as body
-use Rattle.response_reader.proofs.StepLemmas.{cut, lacks_more, taken_ended}
+use Rattle.response_reader.proofs.StepLemmas.{stands, may_more, taken_ended}
 
 -- ---- the end of the input
 
@@ -31,14 +32,17 @@ pub input_ended : (l : Left) (r : Result BodyGot Stopped) (V old new : Reading) 
 input_ended l r V old new into s t is same on some stage_is taken_is from_is none f e =
     subst (λ o. GoSays r into o new s t) same (subst (λ x. GoSays x into V new s t) (sym is) (by l on some))
   where
-    short : (l : Left) → V.stage ≡ stage.Body l → 0 < missing_in l → WhySays stop.CutShort V s t
-    short l on some = (cut V l on s t (lacks_more V l new.ahead s t some none f), e)
+    short : (l : Left) → V.stage ≡ stage.Body l → Reached V.ahead s t (Lacks l) → WhySays stop.CutShort V s t
+    short l on lacks = (stands V l on s t Lacks lacks, e)
+
+    may : (l : Left) → 0 < missing_in l → Reached V.ahead s t (MayGoOn l)
+    may l some = may_more V l new.ahead s t some none f
 
     by : (l : Left) → V.stage ≡ stage.Body l → 0 < missing_in l → GoSays (end_of l) into V new s t
-    by (left.Sized m) on some = short (left.Sized m) on some
-    by left.Chunk on some = short left.Chunk on some
-    by (left.Piece m) on some = short (left.Piece m) on some
-    by left.Over on some = short left.Over on some
+    by (left.Sized m) on some = short (left.Sized m) on (may (left.Sized m) some)
+    by left.Chunk on some = short left.Chunk on (may left.Chunk some)
+    by (left.Piece m) on some = short (left.Piece m) on (may (left.Piece m) some)
+    by left.Over on some = short left.Over on (may left.Over some)
     by left.UntilEnd on some = taken_ended V new s t on stage_is taken_is from_is none f e
 
 -- ---- one that has stopped

@@ -1,4 +1,5 @@
 pub mod ListLemmas
+pub mod HeadLemmas
 pub mod NumberLemmas
 pub mod MatchLemmas
 pub mod FormLemmas

@@ -13,10 +13,10 @@ use Rattle.http_edge.specs.Reading.{Fills, Reached}
 use Rattle.http_edge.specs.Response.{head_text}
 use Rattle.http_edge.specs.declared.head.Head.{Head}
 use Rattle.http_edge.specs.declared.parts.Part.TheVariants.{Line, End}
-use Rattle.response_reader.specs.Bodies.{framing_of, Carries, IsWhole, Breaks, Lacks}
+use Rattle.response_reader.specs.Bodies.{framing_of, Carries, IsWhole, Breaks, Lacks, MayGoOn}
 use Rattle.response_reader.specs.Answers.{Answered, Tells, IsAnswer}
 use Rattle.response_reader.specs.Held.{Reading}
-use Rattle.response_reader.specs.Reader.{place_behind, HasTaken, Facts, IsBroken, IsCut, OfAll, Gives, IsAtEnd}
+use Rattle.response_reader.specs.Reader.{place_behind, HasTaken, Facts, IsBroken, StandsBehind, IsCut, IsUnended, OfAll, Gives, IsAtEnd}
 use Rattle.response_reader.specs.Steps.{missing_in, left_after, is_line_end, is_line, WhySays, GoSays}
 use Rattle.response_reader.specs.declared.framing.Left.{Left}
 use Rattle.response_reader.specs.declared.framing.Left.TheVariants as left
@@ -68,7 +68,7 @@ module _ (old mid : Reading) (s t : SourceView) (g : Gives [] old mid s t) where
   why_on (stop.BadHead at) u x = x
   why_on (stop.BadChunk at) u x = all_on u (IsBroken at) x
   why_on stop.CutShort u x = (all_on u IsCut x.0, ends_on u x.1)
-  why_on stop.ReadFault u x = let gave = went.gave in (all_on u IsCut x.0, rose_since s.faults t.faults u.faults gave.faults x.1)
+  why_on stop.ReadFault u x = let gave = went.gave in (all_on u IsUnended x.0, rose_since s.faults t.faults u.faults gave.faults x.1)
 
   at_end_on : (u : SourceView) → IsAtEnd mid t u → IsAtEnd old s u
   at_end_on u (inl x) = inl (all_on u (λ h given bytes. IsAnswer bytes false (Answered h given true)) x)
@@ -138,8 +138,8 @@ module _ (old : Reading) (l : Left) (is : old.stage ≡ stage.Body l) (s t : Sou
         (bytes, old.ahead ++ x.read, l, refl, tells_so bytes h given old l is taken, x.holds, taken.from_is);
   }
 
-  pub cut : Reached old.ahead s t (Lacks l) → OfAll IsCut old s t
-  cut x = record {
+  pub stands : (Behind : Left → List ℕ → Type 0) → Reached old.ahead s t (Behind l) → OfAll (StandsBehind Behind) old s t
+  stands Behind x = record {
     read = x.read;
     gave = x.gave;
     holds = λ bytes h given taken. (bytes, old.ahead ++ x.read, l, refl, tells_so bytes h given old l is taken, x.holds);
@@ -264,15 +264,15 @@ is_over r l s is none ends lines = inl (record {
 })
 
 -- nothing more stands there
-lacks_by : (l : Left) → 0 < missing_in l → (behind : List ℕ) → behind ≡ [] → Lacks l behind
-lacks_by (left.Sized m) some behind none = (some, none)
-lacks_by left.Chunk some behind none = absurd (omega (arith, some))
-lacks_by (left.Piece m) some behind none = inl (some, none)
-lacks_by left.Over some behind none = absurd (omega (arith, some))
-lacks_by left.UntilEnd some behind none = none
+may_by : (l : Left) → 0 < missing_in l → (behind : List ℕ) → behind ≡ [] → MayGoOn l behind
+may_by (left.Sized m) some behind none = (some, none)
+may_by left.Chunk some behind none = absurd (omega (arith, some))
+may_by (left.Piece m) some behind none = inl (some, none)
+may_by left.Over some behind none = absurd (omega (arith, some))
+may_by left.UntilEnd some behind none = none
 
-pub lacks_more : (old : Reading) (l : Left) (ahead : List ℕ) (s t : SourceView) → 0 < missing_in l → ahead ≡ [] → Fills old.ahead ahead s t → Reached old.ahead s t (Lacks l)
-lacks_more old l ahead s t some none f = record { read = f.read; gave = f.gave; holds = lacks_by l some (old.ahead ++ f.read) (sym f.grows ∙ none) }
+pub may_more : (old : Reading) (l : Left) (ahead : List ℕ) (s t : SourceView) → 0 < missing_in l → ahead ≡ [] → Fills old.ahead ahead s t → Reached old.ahead s t (MayGoOn l)
+may_more old l ahead s t some none f = record { read = f.read; gave = f.gave; holds = may_by l some (old.ahead ++ f.read) (sym f.grows ∙ none) }
 
 -- a connection that was taken over has ended
 pub taken_ended : (old new : Reading) (s t : SourceView) → old.stage ≡ stage.Body left.UntilEnd → new.stage ≡ old.stage → new.taken ≡ old.taken → new.from ≡ old.from
@@ -300,8 +300,14 @@ module _ (V old : Reading) (s t : SourceView) (same : V ≡ old) where
   pub seen_broken : (l : Left) → old.stage ≡ stage.Body l → Reached V.ahead s t (Breaks l) → OfAll (IsBroken V.from) old s t
   seen_broken l is x = subst (λ r. OfAll (IsBroken V.from) r s t) same (broken V l (ap (λ r. r.stage) same ∙ is) s t x)
 
+  seen_stands : (Behind : Left → List ℕ → Type 0) (l : Left) → old.stage ≡ stage.Body l → Reached V.ahead s t (Behind l) → OfAll (StandsBehind Behind) old s t
+  seen_stands Behind l is x = subst (λ r. OfAll (StandsBehind Behind) r s t) same (stands V l (ap (λ r. r.stage) same ∙ is) s t Behind x)
+
   pub seen_cut : (l : Left) → old.stage ≡ stage.Body l → Reached V.ahead s t (Lacks l) → OfAll IsCut old s t
-  seen_cut l is x = subst (λ r. OfAll IsCut r s t) same (cut V l (ap (λ r. r.stage) same ∙ is) s t x)
+  seen_cut = seen_stands Lacks
+
+  pub seen_unended : (l : Left) → old.stage ≡ stage.Body l → Reached V.ahead s t (MayGoOn l) → OfAll IsUnended old s t
+  seen_unended = seen_stands MayGoOn
 
 -- a line end that is refused, or cut
 pub end_breaks : (before : List ℕ) (s t : SourceView) → Reached before s t (RefusesPart End) → Reached before s t (Breaks (left.Piece 0))

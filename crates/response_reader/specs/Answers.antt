@@ -1,11 +1,11 @@
 -- What a client has read of a connection (own: a head, and its body as far as it came).
-use Rattle.std.specs.Prelude.{ℕ, ◌≡◌, ◌⊎◌, Bool, true, false, IsTrue, List, ◌++◌, ⊤}
+use Rattle.std.specs.Prelude.{ℕ, ◌≡◌, ◌⊎◌, Bool, true, false, IsTrue, List, ◌++◌}
 use Rattle.http_edge.specs.Chunked.{Chunk}
 use Rattle.http_edge.specs.Response.{head_text}
 use Rattle.http_edge.specs.declared.head.Head.{Head}
 use Rattle.response_reader.specs.Fronts.{NeverHas, IsPartOf}
 use Rattle.response_reader.specs.Heads.{Fits, IsHead}
-use Rattle.response_reader.specs.Bodies.{framing_of, Carries, IsWhole, Breaks, Lacks}
+use Rattle.response_reader.specs.Bodies.{framing_of, Carries, IsWhole, Breaks, Lacks, MayGoOn}
 use Rattle.response_reader.specs.declared.framing.Left.{Left}
 
 -- no head of this API; or a head, so much of its body, and whether that is all of it
@@ -21,7 +21,7 @@ pub record Tells (bytes : List ℕ) (h : Head) (given : List ℕ) (left : Left) 
   pub bytes_are : bytes ≡ head_text h ++ coded
   pub carries : Carries (framing_of h.form) chunks coded given left
 
--- what is behind them ends the body: it is whole; or a chunk is none; or the input has ended before
+-- what is behind them ends the body: it is whole; or a chunk is none; or the input has ended, and more of it is left
 abbrev pub EndsSo : Bool → Left → List ℕ → Bool → Type 0
 EndsSo true left behind ended = IsWhole left behind ended
 EndsSo false left behind ended = Breaks left behind ⊎ (Lacks left behind × IsTrue ended)
@@ -33,9 +33,17 @@ IsAnswer bytes ended (Answered h given whole) =
     (front : List ℕ) × (behind : List ℕ) × (left : Left) × (bytes ≡ front ++ behind)
     × Tells front h given left × EndsSo whole left behind ended
 
--- the bytes that have come tell so much of an answer, of which more may come
+-- the bytes tell at least so much of an answer: a part of its head; or its head, and these bytes of its body
 abbrev pub TellsSoFar : List ℕ → Answer → Type 0
-TellsSoFar bytes NoHead = ⊤
+TellsSoFar bytes NoHead = IsPartOf IsHead bytes
 TellsSoFar bytes (Answered h given true) = ⊥
 TellsSoFar bytes (Answered h given false) =
     (front : List ℕ) × (behind : List ℕ) × (left : Left) × (bytes ≡ front ++ behind) × Tells front h given left
+
+-- the bytes tell just so much of an answer, of which more may come
+abbrev pub TellsAll : List ℕ → Answer → Type 0
+TellsAll bytes NoHead = IsPartOf IsHead bytes
+TellsAll bytes (Answered h given true) = ⊥
+TellsAll bytes (Answered h given false) =
+    (front : List ℕ) × (behind : List ℕ) × (left : Left) × (bytes ≡ front ++ behind)
+    × Tells front h given left × MayGoOn left behind

@@ -74,10 +74,14 @@ Breaks left.Chunk behind = RefusesPart Line behind ⊎ BehindLast (RefusesPart T
 Breaks (left.Piece missing) behind = (missing ≡ 0) × RefusesPart End behind
 Breaks other behind = ⊥
 
--- more of the body is left than these bytes, which carry nothing of it
+-- more of the body is left than these bytes, which carry nothing of it: the end of the input would cut it there
 abbrev pub Lacks : Left → List ℕ → Type 0
 Lacks (left.Sized missing) behind = (0 < missing) × (behind ≡ [])
 Lacks left.Chunk behind = CutsPart Line behind ⊎ BehindLast (CutsPart Trailers) behind
 Lacks (left.Piece missing) behind = ((0 < missing) × (behind ≡ [])) ⊎ ((missing ≡ 0) × CutsPart End behind)
-Lacks left.UntilEnd behind = behind ≡ []
-Lacks left.Over behind = ⊥
+Lacks other behind = ⊥
+
+-- more of it may come behind these bytes, which carry nothing of it
+abbrev pub MayGoOn : Left → List ℕ → Type 0
+MayGoOn left.UntilEnd behind = behind ≡ []
+MayGoOn left behind = Lacks left behind

@@ -8,7 +8,7 @@ use Rattle.http_edge.specs.Response.{head_text}
 use Rattle.http_edge.specs.declared.head.Head.{Head}
 use Rattle.response_reader.specs.Fronts.{NeverHas, IsPartOf}
 use Rattle.response_reader.specs.Heads.{IsHead, first_in}
-use Rattle.response_reader.specs.Bodies.{Breaks, Lacks}
+use Rattle.response_reader.specs.Bodies.{Breaks, Lacks, MayGoOn}
 use Rattle.response_reader.specs.Answers.{Answered, Tells, IsAnswer}
 use Rattle.response_reader.specs.Held.{Reading}
 use Rattle.response_reader.specs.declared.framing.Left.{Left}
@@ -89,11 +89,19 @@ IsBroken at h given bytes =
     (front : List ℕ) × (behind : List ℕ) × (left : Left) × (bytes ≡ front ++ behind)
     × (t : Tells front h given left) × Breaks left behind × (at ≡ place_behind (head_text h ++ print_chunks t.chunks))
 
+-- behind the bytes that carry what was given stands this, by what is left of the body
+abbrev pub StandsBehind : (Left → List ℕ → Type 0) → Facts
+StandsBehind Behind h given bytes =
+    (front : List ℕ) × (behind : List ℕ) × (left : Left) × (bytes ≡ front ++ behind)
+    × Tells front h given left × Behind left behind
+
 -- more of the body is left, and nothing of it stands there
 abbrev pub IsCut : Facts
-IsCut h given bytes =
-    (front : List ℕ) × (behind : List ℕ) × (left : Left) × (bytes ≡ front ++ behind)
-    × Tells front h given left × Lacks left behind
+IsCut = StandsBehind Lacks
+
+-- more of it may come, and nothing of it stands there
+abbrev pub IsUnended : Facts
+IsUnended = StandsBehind MayGoOn
 
 -- of all bytes that were taken before, and those that stood ahead or came, it is so
 abbrev pub OfAll : Facts → Reading → SourceView → SourceView → Type 0
@@ -121,4 +129,4 @@ BodySays (body.BadChunk at) into old new s s' =
 BodySays body.CutShort into old new s s' =
     Stops old new stop.CutShort s s' (OfAll IsCut old s s' × SourceEnded s s')
 BodySays body.ReadFault into old new s s' =
-    Stops old new stop.ReadFault s s' (OfAll IsCut old s s' × Rose s.faults s'.faults)
+    Stops old new stop.ReadFault s s' (OfAll IsUnended old s s' × Rose s.faults s'.faults)

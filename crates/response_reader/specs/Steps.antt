@@ -11,7 +11,7 @@ use Rattle.response_reader.specs.Fronts.{NeverHas, IsPartOf}
 use Rattle.response_reader.specs.Heads.{IsTextOf, IsHead, first_in}
 use Rattle.response_reader.specs.Bodies.{framing_of, Carries, Breaks, Lacks}
 use Rattle.response_reader.specs.Held.{Reading}
-use Rattle.response_reader.specs.Reader.{OfAll, IsBroken, IsCut, Gives, BodySays}
+use Rattle.response_reader.specs.Reader.{OfAll, IsBroken, IsCut, IsUnended, Gives, BodySays}
 use Rattle.response_reader.specs.declared.framing.Left.{Left}
 use Rattle.response_reader.specs.declared.framing.Left.TheVariants as left
 use Rattle.response_reader.specs.declared.got.Stage.{Stage}
@@ -138,7 +138,7 @@ abbrev pub WhySays : Stopped → Reading → SourceView → SourceView → Type 
 WhySays (stop.BadHead at) old s s' = ⊥
 WhySays (stop.BadChunk at) old s s' = OfAll (IsBroken at) old s s'
 WhySays stop.CutShort old s s' = OfAll IsCut old s s' × SourceEnded s s'
-WhySays stop.ReadFault old s s' = OfAll IsCut old s s' × Rose s.faults s'.faults
+WhySays stop.ReadFault old s s' = OfAll IsUnended old s s' × Rose s.faults s'.faults
 
 -- bytes were taken that carry nothing of the body, or the reader stops
 abbrev pub StepSays : Result (Unit {0}) Stopped → Reading → Reading → SourceView → SourceView → Type 0

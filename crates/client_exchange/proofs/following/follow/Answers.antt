@@ -1,4 +1,4 @@
-use Rattle.client_exchange.proofs.FollowLemmas.{shown_first, shown_more, ends_whole, ends_broken, ends_cut, ends_failed, ends_unwritten}
+use Rattle.client_exchange.proofs.FollowLemmas.{shown_first, shown_more, ends_whole, ends_broken, ends_cut, ends_failed, ends_unwritten, some_taken}
 use Rattle.client_exchange.proofs.following.follow.Goals as goal
 
 pub loop-init : goal.loop-init
@@ -14,6 +14,7 @@ loop-preserved g c = record {
 pub returns-in-Err : goal.returns-in-Err
 returns-in-Err g c =
     ends_unwritten _ _ _ _ _ _ c.loop.taker _ _ _ _ _ _ c.in-Err.fault c.loop.invariant.showed c.in-Bytes.ensures.says.2 c.in-Err.ensures.written
+    (c.in-Err.ensures.failing (some_taken _ _ c.in-Bytes.ensures.says.0 c.in-Bytes.ensures.says.1))
 
 pub returns-in-End : goal.returns-in-End
 returns-in-End g c = ends_whole _ _ _ _ _ _ _ _ _ _ c.body.new.into c.loop.invariant.showed c.in-End.ensures.says

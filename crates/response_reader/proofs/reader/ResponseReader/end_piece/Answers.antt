@@ -1,7 +1,7 @@
 use Rattle.std.proofs.Common.{[], ap, refl, sym, ◌∙◌}
 use Rattle.response_reader.specs.contracts.reader.ResponseReader.{the_view}
 use Rattle.response_reader.specs.declared.framing.Left.TheVariants as left
-use Rattle.response_reader.proofs.StepLemmas.{stays, at_line_end, ended, seen, seen_broken, seen_cut, end_breaks, end_lacks}
+use Rattle.response_reader.proofs.StepLemmas.{stays, at_line_end, ended, seen, seen_broken, seen_cut, seen_unended, end_breaks, end_lacks}
 use Rattle.response_reader.proofs.reader.ResponseReader.end_piece.Goals as goal
 
 pub returns-then-not-is_line_end-clause-says : goal.returns-then-not-is_line_end-clause-says
@@ -26,4 +26,4 @@ returns-in-CutShort-clause-says g c =
 pub returns-in-Failed-clause-says : goal.returns-in-Failed-clause-says
 returns-in-Failed-clause-says g c =
     let is = at_line_end c.args.self.now c.left.result c.left.ensures (sym c.is_line_end.ensures ∙ c.if-not-is_line_end.false) in
-    (seen_cut (the_view c.self.inside) c.args.self.now _ _ c.self.view_is (left.Piece 0) is (end_lacks _ _ _ c.in-Failed.ensures.0), c.in-Failed.ensures.1)
+    (seen_unended (the_view c.self.inside) c.args.self.now _ _ c.self.view_is (left.Piece 0) is (end_lacks _ _ _ c.in-Failed.ensures.0), c.in-Failed.ensures.1)

@@ -2,7 +2,7 @@ use Rattle.std.proofs.Common.{arith, ◌<◌, ◌≤◌, ap, take, refl, sym, su
 use Rattle.response_reader.specs.Steps.{IsGiving, missing_in}
 use Rattle.response_reader.specs.contracts.reader.ResponseReader.{the_view}
 use Rattle.response_reader.specs.declared.got.Stage.TheVariants as stage
-use Rattle.response_reader.proofs.StepLemmas.{stays, is_over, gave, lacks_more, seen_as, seen_cut}
+use Rattle.response_reader.proofs.StepLemmas.{stays, is_over, gave, may_more, seen_as, seen_unended}
 use Rattle.response_reader.proofs.AnswerLemmas.{input_ended}
 use Rattle.response_reader.proofs.reader.ResponseReader.give.Goals as goal
 
@@ -22,8 +22,8 @@ returns-in-End-clause-says g c =
 pub returns-in-Failed-clause-says : goal.returns-in-Failed-clause-says
 returns-in-Failed-clause-says g c =
     let some : 0 < missing_in c.left-left.result = omega (arith, c.missing_in-missing.ensures, c.if-missing-eq0.false) in (
-      seen_cut (the_view c.self.inside) c.args.self.now _ _ c.self.view_is c.left-left.result c.left-left.ensures
-          (lacks_more (the_view c.self.inside) c.left-left.result c.read_more.new.ahead _ _ some c.in-Failed.ensures.0 c.in-Failed.ensures.1),
+      seen_unended (the_view c.self.inside) c.args.self.now _ _ c.self.view_is c.left-left.result c.left-left.ensures
+          (may_more (the_view c.self.inside) c.left-left.result c.read_more.new.ahead _ _ some c.in-Failed.ensures.0 c.in-Failed.ensures.1),
       c.in-Failed.ensures.2,
     )
 
