@@ -23,7 +23,7 @@ use Rattle.client_model.specs.Plans.{Written, nothing}
 use Rattle.client_model.specs.Runs.{AreFronts}
 use Rattle.client_model.specs.declared.fault.Fault.{Fault}
 use Rattle.client_model.specs.declared.fault.Fault.TheVariants as F
-use Rattle.client_streams.specs.Outputs.{Outputs, BothTook, BothBegan, OutputsFail, WritesBoth, WasToWrite}
+use Rattle.client_streams.specs.Outputs.{Outputs, BothTook, OutputsFail, WritesBoth, WasToWrite}
 use Rattle.client_streams.specs.Taking.{Taken, taken, shows, adds, IfUntaken, after}
 use Rattle.client_exchange.specs.Telling.{Stands, Told, ToldSoFar, ReadFails, HadToWrite, FollowSays}
 use Rattle.client_streams.specs.declared.taker.Showing.{Showing}
@@ -181,7 +181,7 @@ pub ends_whole : (r0 : Reading) (s0 : SourceView) (showing : Showing) (r r' : Re
 unfolding Showed
 ends_whole r0 s0 showing r r' t s s' o o' into before says came h new st =
     let sh = before came h new st in
-    (sh.so, sh.taken_is, end_told came h sh.so r s s' new sh.stands says.1, sh.took)
+    (sh.so, sh.taken_is, end_told came h sh.so r s s' new sh.stands says.2, sh.took)
 
 pub ends_broken : (r0 : Reading) (s0 : SourceView) (showing : Showing) (r r' : Reading) (t : Taken) (s s' : SourceView) (o o' : Outputs) (into : List ℕ) (at : ℕ)
     → Showed r0 s0 showing r t s o o' → BodySays (body.BadChunk at) into r r' s s'

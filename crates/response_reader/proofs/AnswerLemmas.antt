@@ -13,7 +13,7 @@ use Rattle.response_reader.specs.Heads.{IsTextOf, IsHead}
 use Rattle.response_reader.specs.Bodies.{Lacks, MayGoOn}
 use Rattle.response_reader.specs.Held.{Reading}
 use Rattle.response_reader.specs.Reader.{Follows, IsAtHead, IsInBody, IsOpen, HeadSays, BodySays}
-use Rattle.response_reader.specs.Steps.{IsRunning, missing_in, head_answer, body_answer, end_of, BeginSays, WhySays, GoSays}
+use Rattle.response_reader.specs.Steps.{IsRunning, IsPastPiece, IsGiving, missing_in, head_answer, body_answer, end_of, BeginSays, WhySays, GoSays}
 use Rattle.response_reader.specs.declared.framing.Left.{Left}
 use Rattle.response_reader.specs.declared.framing.Left.TheVariants as left
 use Rattle.response_reader.specs.declared.got.Stage.{Stage}
@@ -127,6 +127,22 @@ follows_by why r st now is same at_head = subst (λ n. Follows r n) (sym same) (
 pub follows_head : (h : Head) (len : ℕ) (r : HeadGot) (mid new : Reading) → BeginSays h len r mid new → Follows r new.stage
 follows_head h len r mid new b = subst (λ x. Follows x new.stage) (sym b.got_is) (subst IsInBody (sym b.stage_is) tt)
 
+-- one in a body hasn't stopped
+pub open_running : (st : Stage) → IsRunning st → IsOpen st
+open_running stage.Head runs = absurd runs
+open_running (stage.Body l) runs = tt
+open_running (stage.Stopped why) runs = absurd runs
+
+pub open_past : (st : Stage) → IsPastPiece st → IsOpen st
+open_past stage.Head past = absurd past
+open_past (stage.Body l) past = tt
+open_past (stage.Stopped why) past = absurd past
+
+pub open_giving : (st : Stage) → IsGiving st → IsOpen st
+open_giving stage.Head gives = absurd gives
+open_giving (stage.Body l) gives = tt
+open_giving (stage.Stopped why) gives = absurd gives
+
 pub running_in : (st : Stage) → IsRunning st → IsInBody st
 running_in stage.Head runs = absurd runs
 running_in (stage.Body l) runs = tt
@@ -152,24 +168,27 @@ goes_body body.ReadFault old new into s t x = absurd x
 
 -- ---- a head
 
-pub head_taken : (h : Head) (len : ℕ) (r : HeadGot) (V old mid new : Reading) (s t : SourceView) → V ≡ old → BeginSays h len r mid new → len ≤ length mid.ahead → IsTextOf h (take len mid.ahead)
+pub head_taken : (h : Head) (len : ℕ) (r : HeadGot) (V old mid new : Reading) (s t : SourceView) → V ≡ old → IsOpen V.stage → BeginSays h len r mid new → len ≤ length mid.ahead → IsTextOf h (take len mid.ahead)
     → Fills V.ahead mid.ahead s t → HeadSays r old new s t
-head_taken h len r V old mid new s t same b within is f = subst (λ o. HeadSays r o new s t) same (subst (λ x. HeadSays x V new s t) (sym b.got_is) (
-  h,
-  refl,
-  refl,
-  record {
-    left = b.left;
-    stage_is = b.stage_is;
-    tells = record { chunks = []; coded = []; fits = is.0; bytes_are = sym (append-nil (head_text h)); carries = b.carries };
-    taken_is = b.taken_is ∙ place;
-    from_is = b.from_is ∙ place ∙ ap (λ l. min (length l) greatest_count) (sym (append-nil (head_text h)));
-  },
-  record {
-    read = f.read;
-    gave = f.gave;
-    holds = sym f.grows ∙ sym (take-append-drop len mid.ahead) ∙ ap (λ l. l ++ drop len mid.ahead) is.1 ∙ ap (λ l. head_text h ++ l) (sym b.ahead_is);
-  },
+head_taken h len r V old mid new s t same opens b within is f = subst (λ o. HeadSays r o new s t) same (subst (λ x. HeadSays x V new s t) (sym b.got_is) (
+  opens,
+  (
+    h,
+    refl,
+    refl,
+    record {
+      left = b.left;
+      stage_is = b.stage_is;
+      tells = record { chunks = []; coded = []; fits = is.0; bytes_are = sym (append-nil (head_text h)); carries = b.carries };
+      taken_is = b.taken_is ∙ place;
+      from_is = b.from_is ∙ place ∙ ap (λ l. min (length l) greatest_count) (sym (append-nil (head_text h)));
+    },
+    record {
+      read = f.read;
+      gave = f.gave;
+      holds = sym f.grows ∙ sym (take-append-drop len mid.ahead) ∙ ap (λ l. l ++ drop len mid.ahead) is.1 ∙ ap (λ l. head_text h ++ l) (sym b.ahead_is);
+    },
+  ),
 ))
   where
     place : len ≡ min (length (head_text h)) greatest_count

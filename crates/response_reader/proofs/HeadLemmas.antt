@@ -1,5 +1,5 @@
 -- A head has bytes: before the first, all of one may come.
-use Rattle.std.proofs.Common.{◌≡◌, ℕ, List, [], ◌∷◌, ◌++◌, Bool, true, false, refl, sym, ◌∙◌, subst}
+use Rattle.std.proofs.Common.{◌≡◌, ℕ, List, [], ◌∷◌, ◌++◌, Bool, true, false, refl, sym, subst}
 use Rattle.std.specs.Prelude.{⊤}
 use Rattle.http_edge.specs.Response.{head_text, head_by}
 use Rattle.http_edge.specs.declared.head.Head.{Head}

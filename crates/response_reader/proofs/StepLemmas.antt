@@ -16,7 +16,7 @@ use Rattle.http_edge.specs.declared.parts.Part.TheVariants.{Line, End}
 use Rattle.response_reader.specs.Bodies.{framing_of, Carries, IsWhole, Breaks, Lacks, MayGoOn}
 use Rattle.response_reader.specs.Answers.{Answered, Tells, IsAnswer}
 use Rattle.response_reader.specs.Held.{Reading}
-use Rattle.response_reader.specs.Reader.{place_behind, HasTaken, Facts, IsBroken, StandsBehind, IsCut, IsUnended, OfAll, Gives, IsAtEnd}
+use Rattle.response_reader.specs.Reader.{place_behind, HasTaken, IsOpen, Facts, IsBroken, StandsBehind, IsCut, IsUnended, OfAll, Gives, IsAtEnd}
 use Rattle.response_reader.specs.Steps.{missing_in, left_after, is_line_end, is_line, WhySays, GoSays}
 use Rattle.response_reader.specs.declared.framing.Left.{Left}
 use Rattle.response_reader.specs.declared.framing.Left.TheVariants as left
@@ -74,13 +74,13 @@ module _ (old mid : Reading) (s t : SourceView) (g : Gives [] old mid s t) where
   at_end_on u (inl x) = inl (all_on u (λ h given bytes. IsAnswer bytes false (Answered h given true)) x)
   at_end_on u (inr x) = inr (all_on u (λ h given bytes. IsAnswer bytes true (Answered h given true)) x.0, ends_on u x.1)
 
-  pub goes_on : (r : Result BodyGot Stopped) (new : Reading) (u : SourceView) (into : List ℕ) → GoSays r into mid new t u → GoSays r into old new s u
-  goes_on (Ok (body.Bytes n)) new u into x = (x.0, x.1, gives_on new u (take n into) x.2)
-  goes_on (Ok body.End) new u into x = (gives_on new u [] x.0, at_end_on u x.1)
-  goes_on (Ok (body.BadChunk at)) new u into x = absurd x
-  goes_on (Ok body.CutShort) new u into x = absurd x
-  goes_on (Ok body.ReadFault) new u into x = absurd x
-  goes_on (Err why) new u into x = why_on why u x
+  pub goes_on : IsOpen old.stage → (r : Result BodyGot Stopped) (new : Reading) (u : SourceView) (into : List ℕ) → GoSays r into mid new t u → GoSays r into old new s u
+  goes_on opens (Ok (body.Bytes n)) new u into x = (opens, x.1, x.2, gives_on new u (take n into) x.3)
+  goes_on opens (Ok body.End) new u into x = (opens, gives_on new u [] x.1, at_end_on u x.2)
+  goes_on opens (Ok (body.BadChunk at)) new u into x = absurd x
+  goes_on opens (Ok body.CutShort) new u into x = absurd x
+  goes_on opens (Ok body.ReadFault) new u into x = absurd x
+  goes_on opens (Err why) new u into x = why_on why u x
 
 -- no step
 pub stays : (r : Reading) (s : SourceView) → Gives [] r r s s
@@ -276,8 +276,9 @@ may_more old l ahead s t some none f = record { read = f.read; gave = f.gave; ho
 
 -- a connection that was taken over has ended
 pub taken_ended : (old new : Reading) (s t : SourceView) → old.stage ≡ stage.Body left.UntilEnd → new.stage ≡ old.stage → new.taken ≡ old.taken → new.from ≡ old.from
-    → new.ahead ≡ [] → Fills old.ahead new.ahead s t → SourceEnded s t → Gives [] old new s t × IsAtEnd old s t
+    → new.ahead ≡ [] → Fills old.ahead new.ahead s t → SourceEnded s t → IsOpen old.stage × Gives [] old new s t × IsAtEnd old s t
 taken_ended old new s t is stage_is taken_is from_is none f e = (
+  subst IsOpen (sym is) tt,
   (
     [],
     record { read = f.read; gave = f.gave; holds = sym f.grows },

@@ -65,11 +65,12 @@ Stops old new why s s' fact =
 
 -- ---- heads
 
--- what the head says, of the bytes that the source gave
+-- what the head says, of the bytes that the source gave: one that had stopped reads no head
 abbrev pub HeadSays : HeadGot → Reading → Reading → SourceView → SourceView → Type 0
 HeadSays (head.Head status first) old new s s' =
-    (h : Head) × (status ≡ h.status) × (first ≡ first_in h.form) × HasTaken (head_text h) h [] new
-    × Reached old.ahead s s' (λ bytes. bytes ≡ head_text h ++ new.ahead)
+    IsOpen old.stage
+    × ((h : Head) × (status ≡ h.status) × (first ≡ first_in h.form) × HasTaken (head_text h) h [] new
+    × Reached old.ahead s s' (λ bytes. bytes ≡ head_text h ++ new.ahead))
 HeadSays (head.BadHead at) old new s s' =
     Stops old new (stop.BadHead at) s s' ((at ≡ 0) × Reached old.ahead s s' (NeverHas IsHead))
 HeadSays head.CutShort old new s s' =
@@ -120,10 +121,11 @@ IsAtEnd old s s' =
     OfAll (λ h given bytes. IsAnswer bytes false (Answered h given true)) old s s'
     ⊎ (OfAll (λ h given bytes. IsAnswer bytes true (Answered h given true)) old s s' × SourceEnded s s')
 
--- what the next bytes of the body say
+-- what the next bytes of the body say: one that had stopped gives no bytes and no end
 abbrev pub BodySays : BodyGot → List ℕ → Reading → Reading → SourceView → SourceView → Type 0
-BodySays (body.Bytes n) into old new s s' = (0 < n) × (n ≤ length into) × Gives (take n into) old new s s'
-BodySays body.End into old new s s' = Gives [] old new s s' × IsAtEnd old s s'
+BodySays (body.Bytes n) into old new s s' =
+    IsOpen old.stage × (0 < n) × (n ≤ length into) × Gives (take n into) old new s s'
+BodySays body.End into old new s s' = IsOpen old.stage × Gives [] old new s s' × IsAtEnd old s s'
 BodySays (body.BadChunk at) into old new s s' =
     Stops old new (stop.BadChunk at) s s' (OfAll (IsBroken at) old s s')
 BodySays body.CutShort into old new s s' =

@@ -4,13 +4,13 @@ use Rattle.client_exchange.proofs.answer.read_answer.Goals as goal
 
 pub returns-then-status-lt400 : goal.returns-then-status-lt400
 returns-then-status-lt400 g c =
-    let says = c.in-Head.ensures.says in
+    let says = c.in-Head.ensures.says.1 in
     c.go_on.ensures _ says.0 c.requires.new (head_stands _ _ _ _ says.0 c.requires.unread says.4 says.3)
     (below c.in-Head.status says.0.status says.1 c.if-status-lt400.true) says.2
 
 pub returns-else-status-lt400 : goal.returns-else-status-lt400
 returns-else-status-lt400 g c =
-    let says = c.in-Head.ensures.says in
+    let says = c.in-Head.ensures.says.1 in
     refusal_says c.refusal.result c.args.taker.now.showing c.args.taker.now _ _ _ _
     (c.refusal.ensures _ says.0 c.requires.new (head_stands _ _ _ _ says.0 c.requires.unread says.4 says.3)
     (above c.in-Head.status says.0.status says.1 c.if-status-lt400.false))

@@ -8,13 +8,13 @@ pub loop-preserved : goal.loop-preserved
 loop-preserved g c = record {
   iterator = (tt, tt);
   stage = c.in-Bytes.ensures.stage;
-  showed = shown_more _ _ _ _ _ _ _ _ _ _ _ _ _ c.in-Ok.field-0 c.loop.invariant.showed c.in-Bytes.ensures.says.2 c.in-Ok.ensures.written c.in-Ok.ensures.after;
+  showed = shown_more _ _ _ _ _ _ _ _ _ _ _ _ _ c.in-Ok.field-0 c.loop.invariant.showed c.in-Bytes.ensures.says.3 c.in-Ok.ensures.written c.in-Ok.ensures.after;
 }
 
 pub returns-in-Err : goal.returns-in-Err
 returns-in-Err g c =
-    ends_unwritten _ _ _ _ _ _ c.loop.taker _ _ _ _ _ _ c.in-Err.fault c.loop.invariant.showed c.in-Bytes.ensures.says.2 c.in-Err.ensures.written
-    (c.in-Err.ensures.failing (some_taken _ _ c.in-Bytes.ensures.says.0 c.in-Bytes.ensures.says.1))
+    ends_unwritten _ _ _ _ _ _ c.loop.taker _ _ _ _ _ _ c.in-Err.fault c.loop.invariant.showed c.in-Bytes.ensures.says.3 c.in-Err.ensures.written
+    (c.in-Err.ensures.failing (some_taken _ _ c.in-Bytes.ensures.says.1 c.in-Bytes.ensures.says.2))
 
 pub returns-in-End : goal.returns-in-End
 returns-in-End g c = ends_whole _ _ _ _ _ _ _ _ _ _ c.body.new.into c.loop.invariant.showed c.in-End.ensures.says

@@ -3,12 +3,13 @@ use Rattle.response_reader.specs.Steps.{IsGiving, missing_in}
 use Rattle.response_reader.specs.contracts.reader.ResponseReader.{the_view}
 use Rattle.response_reader.specs.declared.got.Stage.TheVariants as stage
 use Rattle.response_reader.proofs.StepLemmas.{stays, is_over, gave, may_more, seen_as, seen_unended}
-use Rattle.response_reader.proofs.AnswerLemmas.{input_ended}
+use Rattle.response_reader.proofs.AnswerLemmas.{input_ended, open_giving}
 use Rattle.response_reader.proofs.reader.ResponseReader.give.Goals as goal
 
 pub returns-then-missing-eq0-clause-says : goal.returns-then-missing-eq0-clause-says
 returns-then-missing-eq0-clause-says g c =
     let giving = subst IsGiving c.left-left.ensures c.requires.stage in (
+      open_giving _ c.requires.stage,
       stays _ _,
       is_over c.args.self.now c.left-left.result _ c.left-left.ensures (sym c.missing_in-missing.ensures ∙ c.if-missing-eq0.true) giving.0 giving.1,
     )
@@ -31,6 +32,7 @@ pub returns-clause-says : goal.returns-clause-says
 returns-clause-says g c =
     let count = c.hand_out-count.ensures.count in
     let fits : c.hand_out-count.result ≤ missing_in c.left-left.result = omega (arith, count.2, c.missing_in-missing.ensures) in (
+      open_giving _ c.requires.stage,
       count.0,
       count.1,
       seen_as (the_view c.self.inside) c.args.self.now _ _ c.self.view_is _ _ (take c.hand_out-count.result c.read_more.new.ahead) c.hand_out-count.ensures.front

@@ -1,5 +1,5 @@
 use Rattle.response_reader.proofs.StepLemmas.{why_on, goes_on}
-use Rattle.response_reader.proofs.AnswerLemmas.{if_passed, passed_on}
+use Rattle.response_reader.proofs.AnswerLemmas.{if_passed, open_running, open_past, passed_on}
 use Rattle.response_reader.proofs.reader.ResponseReader.go_on.Goals as goal
 
 pub returns-in_err-begin_piece-clause-says : goal.returns-in_err-begin_piece-clause-says
@@ -9,8 +9,8 @@ returns-in_err-begin_piece-clause-says g c =
 
 pub returns-clause-says : goal.returns-clause-says
 returns-clause-says g c =
-    goes_on c.args.self.now c.end_piece.new.self _ _ c.in_ok-end_piece.ensures.says c.give.result _ _ _
-    (goes_on c.end_piece.new.self c.begin_piece.new.self _ _ c.in_ok-begin_piece.ensures.says c.give.result _ _ _ c.give.ensures.says)
+    goes_on c.args.self.now c.end_piece.new.self _ _ c.in_ok-end_piece.ensures.says (open_running _ c.requires.stage) c.give.result _ _ _
+    (goes_on c.end_piece.new.self c.begin_piece.new.self _ _ c.in_ok-begin_piece.ensures.says (open_past _ c.in_ok-end_piece.ensures.stage) c.give.result _ _ _ c.give.ensures.says)
 
 pub returns-in_err-begin_piece-clause-stage : goal.returns-in_err-begin_piece-clause-stage
 returns-in_err-begin_piece-clause-stage g c = if_passed c.from_residual-in_err-begin_piece.result _ c.from_residual-in_err-begin_piece.ensures.0

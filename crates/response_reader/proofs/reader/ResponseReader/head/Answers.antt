@@ -7,7 +7,8 @@ use Rattle.response_reader.proofs.reader.ResponseReader.head.Goals as goal
 
 pub returns-in-Head-clause-says : goal.returns-in-Head-clause-says
 returns-in-Head-clause-says g c =
-    head_taken c.in-Head.head c.in-Head.len c.begin.result (the_view c.self.inside) c.args.self.now _ _ _ _ c.self.view_is c.begin.ensures
+    head_taken c.in-Head.head c.in-Head.len c.begin.result (the_view c.self.inside) c.args.self.now _ _ _ _ c.self.view_is
+    (open_by c.self.inside.stage c.in_default.not-Stopped) c.begin.ensures
     c.in-Head.ensures.0 c.in-Head.ensures.1 c.in-Head.ensures.2
 
 pub returns-in-Never-clause-says : goal.returns-in-Never-clause-says
