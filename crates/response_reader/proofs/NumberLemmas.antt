@@ -1,13 +1,18 @@
 -- Fronts of a number's digits.
-use Rattle.std.proofs.Common.{arith, rules, ◌≡◌, ◌<◌, ◌≤◌, ◌+◌, ◌/◌, ◌%◌, ◌^◌, ◌⊎◌, inl, inr, ℕ, List, [], ◌∷◌, length, ◌++◌, sym, ap, ◌∙◌, append-nil, length-append, take, get_or, true, false}
-use Rattle.std.specs.Prelude.{decimal}
+use Rattle.std.proofs.Common.{arith, rules, zero, suc, ◌&&◌, ◌≡◌, ◌<◌, ◌≤◌, ◌+◌, ◌/◌, ◌%◌, ◌^◌, ◌⊎◌, inl, inr, ℕ, List, [], ◌∷◌, length, ◌++◌, sym, ap, ◌∙◌, append-nil, length-append, take, get_or, true, false, refl}
+use Rattle.std.specs.Prelude.{decimal, cond, Bool, nat_lt, take_while, IsUtf8, Result, Ok, Err}
 use Rattle.std.specs.Char.{is_ascii_digit}
+use Rattle.std.specs.Result.{OkIff, result_unwrap_or}
+use Rattle.std.specs.Str.{all_ascii_digits}
+use Rattle.std.specs.Str.Parse.{digits_value, ParsesUnsigned}
 use Rattle.std.proofs.lemmas.Bool.{cases_lt}
 use Rattle.std.proofs.lemmas.Bool.Decides.{nat_tests}
+use Rattle.std.proofs.lemmas.List.Sums.{take_while-cons}
 use Rattle.std.proofs.lemmas.List.{nil_from_length, get_or_append_left, get_or-append-add, take_at}
-use Rattle.std.proofs.lemmas.Fmt.{decimal_digit, decimal_step, decimal_by_steps, decimal_is_IsNumeral}
-use Rattle.std.proofs.lemmas.Str.Parse.{digit_at}
-use Rattle.response_reader.specs.Numbers.{HasNoDigit, BeginsWithNumber, IsDigitsEnd}
+use Rattle.std.proofs.lemmas.Fmt.{decimal_digit, decimal_step, decimal_by_steps, decimal_is_IsNumeral, IsAscii-from_digits}
+use Rattle.std.proofs.lemmas.Str.{IsUtf8-from_ascii}
+use Rattle.std.proofs.lemmas.Str.Parse.{digit_at, IsNumeralModel, numerals_by_value, tells_all_ascii_digits, parse_digits}
+use Rattle.response_reader.specs.Numbers.{HasNoDigit, BeginsWithNumber, IsDigitsEnd, small_or_zero, number_in_front}
 use Rattle.response_reader.proofs.ListLemmas.{cut_twice}
 
 -- some of its first digits are the digits of a number that is no greater
@@ -98,3 +103,59 @@ digits_taken bytes place n end fits (behind, e, none) = go (cases_lt place (leng
     go (inl less) other = absurd (early less)
     go (inr le) (inl more) = absurd (late more)
     go (inr le) (inr ge) = ap (take place) e ∙ take_at (decimal n) behind place (omega (arith, le, ge))
+
+-- they are all the digits that the bytes begin with
+pub front_digits : (bytes : List ℕ) (place : ℕ) → IsDigitsEnd bytes place → take place bytes ≡ take_while is_ascii_digit bytes
+front_digits [] zero end = refl
+front_digits [] (suc p) end = absurd (omega (arith, end.within))
+front_digits (b ∷ bytes) zero end = sym (take_while-cons is_ascii_digit b bytes ∙ ap (λ t. cond t (b ∷ take_while is_ascii_digit bytes) []) (end.behind (omega arith)))
+front_digits (b ∷ bytes) (suc p) end =
+    ap (λ l. b ∷ l) (front_digits bytes p (record {
+      within = omega (arith, end.within);
+      digits = λ k less. end.digits (suc k) (omega (arith, less));
+      behind = λ less. end.behind (omega (arith, less));
+    }))
+    ∙ sym (take_while-cons is_ascii_digit b bytes ∙ ap (λ t. cond t (b ∷ take_while is_ascii_digit bytes) []) (end.digits 0 (omega arith)))
+
+-- ---- what digits tell
+
+own : IsNumeralModel (λ ds. all_ascii_digits ds ≡ true) (digits_value 10)
+own = numerals_by_value _ tells_all_ascii_digits
+
+all_digits : (bytes : List ℕ) → all_ascii_digits (take_while is_ascii_digit bytes) ≡ true
+all_digits [] = refl
+all_digits (b ∷ bytes) = go (is_ascii_digit b) refl (all_digits bytes)
+  where
+    taken : (t : Bool) → is_ascii_digit b ≡ t → cond t (b ∷ take_while is_ascii_digit bytes) [] ≡ take_while is_ascii_digit (b ∷ bytes)
+    taken t is = sym (take_while-cons is_ascii_digit b bytes ∙ ap (λ t. cond t (b ∷ take_while is_ascii_digit bytes) []) is)
+
+    go : (t : Bool) → is_ascii_digit b ≡ t → all_ascii_digits (take_while is_ascii_digit bytes) ≡ true → all_ascii_digits (take_while is_ascii_digit (b ∷ bytes)) ≡ true
+    go true is rest = ap all_ascii_digits (sym (taken true is)) ∙ ap (λ t. t && all_ascii_digits (take_while is_ascii_digit bytes)) is ∙ rest
+    go false is rest = ap all_ascii_digits (sym (taken false is))
+
+pub digits_text : (bytes text : List ℕ) → text ≡ take_while is_ascii_digit bytes → IsUtf8 text
+digits_text bytes text is = IsUtf8-from_ascii text (IsAscii-from_digits text (own.to text (ap all_ascii_digits is ∙ all_digits bytes)))
+
+kept : (n : ℕ) → n < 2 ^ 64 → small_or_zero n ≡ n
+kept n less = ap (λ t. cond t n 0) test
+  where
+    test : nat_lt n (2 ^ 64) ≡ true
+    test = grind (arith, nat_tests)
+
+-- one that isn't read as a number of 64 bits has no digits, or tells 2^64 or more
+unread : (text : List ℕ) → ((0 < length text) × (digits_value 10 text < 2 ^ 64) → ⊥) → 0 ≡ small_or_zero (digits_value 10 text)
+unread [] none = refl
+unread (c ∷ text) none = go (nat_lt (digits_value 10 (c ∷ text)) (2 ^ 64)) refl
+  where
+    go : (t : Bool) → nat_lt (digits_value 10 (c ∷ text)) (2 ^ 64) ≡ t → 0 ≡ small_or_zero (digits_value 10 (c ∷ text))
+    go true less = let small : digits_value 10 (c ∷ text) < 2 ^ 64 = grind (arith, nat_tests) in absurd (none (omega arith, small))
+    go false more = sym (ap (λ t. cond t (digits_value 10 (c ∷ text)) 0) more)
+
+-- a text of digits, read as a number of 64 bits
+pub read_or_zero : {E : Type 0} (bytes text : List ℕ) (r : Result ℕ E) (n : ℕ) → text ≡ take_while is_ascii_digit bytes → ParsesUnsigned 64 10 text r → n ≡ result_unwrap_or r 0 → n ≡ number_in_front bytes
+read_or_zero {E} bytes text r n is parsed got =
+    got ∙ by r (parse_digits own 64 text r parsed (ap all_ascii_digits is ∙ all_digits bytes)) ∙ ap (λ l. small_or_zero (digits_value 10 l)) is
+  where
+    by : (r : Result ℕ E) → OkIff r ((0 < length text) × (digits_value 10 text < 2 ^ 64)) (digits_value 10 text) → result_unwrap_or r 0 ≡ small_or_zero (digits_value 10 text)
+    by (Ok x) ok = ok.1 ∙ sym (kept (digits_value 10 text) ok.0.1)
+    by (Err e) lacks = unread text lacks

@@ -1,6 +1,7 @@
 -- Numbers at the front of bytes (own: for the code that finds them).
-use Rattle.std.specs.Prelude.{ℕ, ◌≡◌, ◌≢◌, ◌<◌, ◌≤◌, true, false, List, [], ◌∷◌, ◌++◌, length, slice_index, decimal, ⊤}
+use Rattle.std.specs.Prelude.{ℕ, ◌≡◌, ◌≢◌, ◌<◌, ◌≤◌, ◌^◌, nat_lt, true, false, if◌then◌else◌, List, [], ◌∷◌, ◌++◌, length, slice_index, take_while, decimal, ⊤}
 use Rattle.std.specs.Char.{is_ascii_digit}
+use Rattle.std.specs.Str.Parse.{digits_value}
 
 -- they are the same up to this place, where they differ
 pub record FirstDiffer (one other : List ℕ) (place : ℕ) : Type 0 where
@@ -17,6 +18,14 @@ HasNoDigit (b ∷ bytes) = is_ascii_digit b ≡ false
 -- the bytes begin with the digits of the number, and with no digit more
 abbrev pub BeginsWithNumber : List ℕ → ℕ → Type 0
 BeginsWithNumber bytes n = (behind : List ℕ) × (bytes ≡ decimal n ++ behind) × HasNoDigit behind
+
+-- a number below 2^64, and 0 in place of any other
+abbrev pub small_or_zero : ℕ → ℕ
+small_or_zero n = if nat_lt n (2 ^ 64) then n else 0
+
+-- what the digits tell that the bytes begin with, as 007 tells 7, and no digit tells 0; and 0 if that is 2^64 or more
+abbrev pub number_in_front : List ℕ → ℕ
+number_in_front bytes = small_or_zero (digits_value 10 (take_while is_ascii_digit bytes))
 
 -- before this place stand digits alone, and there none
 pub record IsDigitsEnd (bytes : List ℕ) (place : ℕ) : Type 0 where

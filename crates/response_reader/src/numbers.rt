@@ -1,6 +1,6 @@
 // The number that a head tells, found by comparing the head with the one that tells 0.
 ghost use Rattle.std.specs.Prelude.{◌≡◌, ◌<◌, ◌≤◌, ◌^◌, ℕ, length};
-ghost use Rattle.response_reader.specs.Numbers.{FirstDiffer, BeginsWithNumber, IsDigitsEnd};
+ghost use Rattle.response_reader.specs.Numbers.{FirstDiffer, BeginsWithNumber, IsDigitsEnd, number_in_front};
 
 use std::str;
 
@@ -20,7 +20,8 @@ pub(crate) fn first_difference(one: &[u8], other: &[u8]) -> usize
 
 /// The number whose digits the bytes begin with.
 pub fn leading_number(bytes: &[u8]) -> u64
-    ensures { (n : ℕ) → n < 2 ^ 64 → BeginsWithNumber bytes.now n → result ≡ n }
+    ensures told { result ≡ number_in_front bytes.now }
+    ensures written { (n : ℕ) → n < 2 ^ 64 → BeginsWithNumber bytes.now n → result ≡ n }
 {
     match str::from_utf8(&bytes[..digits_end(bytes)]) {
         Ok(digits) => digits.parse::<u64>().unwrap_or(0),

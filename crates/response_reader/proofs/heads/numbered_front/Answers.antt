@@ -15,5 +15,5 @@ returns c =
     let told_front = subst (λ h. FrontSays (IsOne h) c.front_by-2.result bytes) c.head_with.ensures c.front_by-2.ensures in
     let says = numbered_says c.args.kind c.args.status c.args.close bytes c.first_difference-place.result c.leading_number-number.result c.requires small
     (λ k differ. c.first_difference-place.ensures.first k (subst (λ l. FirstDiffer bytes l k) (sym text) differ))
-    (λ n fits starts. c.leading_number-number.ensures n fits (subst (λ l. BeginsWithNumber l n) (sym (take_rest bytes c.first_difference-place.result)) starts)) c.front_by.result c.front_by-2.result zero_front told_front in
+    (λ n fits starts. c.leading_number-number.ensures.written n fits (subst (λ l. BeginsWithNumber l n) (sym (take_rest bytes c.first_difference-place.result)) starts)) c.front_by.result c.front_by-2.result zero_front told_front in
     subst (λ r. FrontSays (IsNumbered c.args.kind c.args.status c.args.close) r bytes) (sym c.either.ensures) says
