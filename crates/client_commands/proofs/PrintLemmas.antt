@@ -72,10 +72,12 @@ printed plan text status x link u u' e is took = record { written = to_out text;
 
 unprinted : (plan : Plan) (text : List ℕ) (status : ℕ) (x : Failed) (link : LinkView) (u u' e : SinkView) → plan ≡ Ends (to_out text) (Done status) → (text ≡ [] → ⊥) → WriteSays (Err x) text u u'
     → Prints plan (Err F.Output) (reach link u e) (reach link u' e)
-unprinted plan text status x link u u' e is some broke =
-    subst (λ p. StopsBefore p F.Output (reach link u e) (reach link u' e)) (sym is)
-    (let b = out_failed x text u u' e broke in
-    record { missed = record { coming = refl; past = refl; others = refl; faults = refl }; began = b.0; cause = (b.1, some); unfailed = inr tt })
+unprinted plan text status x link u u' e is some broke = (
+  refl,
+  subst (λ p. StopsBefore p F.Output (reach link u e) (reach link u' e)) (sym is)
+      (let b = out_failed x text u u' e broke in
+      record { missed = record { coming = refl; past = refl; others = refl; faults = refl }; began = b.0; cause = (b.1, some); unfailed = inr tt }),
+)
 
 pub line_printed : (line : List ℕ) (x : Unit {0}) (link : LinkView) (u u' e : SinkView) → WriteSays (Ok x) (line ++ codes "\n") u u' → Prints (prints line done) (Ok 0) (reach link u e) (reach link u' e)
 line_printed line x link u u' e took = printed (prints line done) (line ++ codes "\n") 0 x link u u' e (prints_so line) took
@@ -96,7 +98,7 @@ lines_unprinted lines status x link u u' e broke some = unprinted (prints_all li
 
 pub prints_come : (plan : Plan) (result : Result ℕ Fault) (o o' : Reach) → Prints plan result o o' → Comes plan result o o'
 prints_come plan (Ok status) o o' f = f
-prints_come plan (Err fault) o o' s = inr (inl s)
+prints_come plan (Err fault) o o' s = inr (inl s.1)
 
 -- what is printed asks nothing
 pub printed_asks : (line : List ℕ) → IsAsking (prints line done)

@@ -10,10 +10,10 @@ use Rattle.client_exchange.specs.Walks.{Finishes, StopsBefore}
 abbrev pub lines_text : List (List ℕ) → List ℕ
 lines_text lines = flat_map (λ line. line ++ codes "\n") lines
 
--- the plan ended so, and all that it writes was written; or fronts of that, and it broke off
+-- the plan ended so, and all that it writes was written; or fronts of that, and standard output failed
 abbrev pub Prints : Plan → Result ℕ Fault → Reach → Reach → Type 0
 Prints plan (Ok status) o o' = Finishes plan (Done status) o o'
-Prints plan (Err fault) o o' = StopsBefore plan fault o o'
+Prints plan (Err fault) o o' = (fault ≡ F.Output) × StopsBefore plan fault o o'
 
 -- that, or nothing was printed for want of memory
 abbrev pub PrintsOrLacks : Plan → Result ℕ Fault → Reach → Reach → Type 0

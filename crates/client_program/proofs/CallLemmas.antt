@@ -233,7 +233,7 @@ module _ (words : List (List ℕ)) (o m : Outside) where
     where
       by_print : PrintsOrLacks (next j.verdict) (Err fault) (reach_of (address_in words) o) (reach_of (address_in words) m)
           → IsBrokenOff words status o (outside m.link m.input m.out e)
-      by_print (inl b) = judged_stops fault status e charter next is j b tells
+      by_print (inl b) = judged_stops fault status e charter next is j b.1 tells
       by_print (inr (lack, same)) = unjudged fault status e charter next j.input is j.gave same (inl (same_err (Err F.NoMemory) F.NoMemory fault refl (sym lack))) tells
   by_plan_err fault status e (Judges charter next) is (inr u) tells =
       unjudged fault status e charter next u.unread.0 is u.unread.1 u.unshown
