@@ -4,9 +4,9 @@ ghost use Rattle.engine_ports.specs.Link.{but_for};
 ghost use Rattle.http_edge.specs.Message.{Request};
 ghost use Rattle.client_model.specs.Requests.{request_bytes};
 ghost use Rattle.client_model.specs.Plans.{asks_and_prints, asks_and_shows, done};
-ghost use Rattle.client_exchange.specs.Asking.{AskSays, NumberedSays, ShowSays, shown_by};
+ghost use Rattle.client_exchange.specs.Asking.{AskDoes, NumberedDoes, ShowDoes, shown_by};
 ghost use Rattle.client_exchange.specs.Exchanges.{reach};
-ghost use Rattle.client_exchange.specs.Feeding.{ShowFedSays};
+ghost use Rattle.client_exchange.specs.Feeding.{ShowFedDoes};
 ghost use Rattle.client_exchange.specs.Walks.{Does};
 
 use crate::printing::print;
@@ -28,7 +28,7 @@ pub(crate) fn ask_all<W: Wait, L: Link, K: Sink, E: Sink>(
     out: &mut K,
     errors: &mut E,
 ) -> Result<Vec<u8>, Fault>
-    ensures { (r : Request) → IfOk request (λ v. v.items ≡ request_bytes r) → AskSays r result
+    ensures { (r : Request) → IfOk request (λ v. v.items ≡ request_bytes r) → AskDoes r result
         (reach (but_for address.now (L.links link.old)) (K.takes out.old) (E.takes errors.old))
         (reach (but_for address.now (L.links link.new)) (K.takes out.new) (E.takes errors.new)) }
 {
@@ -48,7 +48,7 @@ pub(crate) fn ask_some<W: Wait, L: Link, K: Sink, E: Sink>(
     out: &mut K,
     errors: &mut E,
 ) -> Result<(Got, Vec<u8>), Fault>
-    ensures { (r : Request) → IfOk request (λ v. v.items ≡ request_bytes r) → NumberedSays r result
+    ensures { (r : Request) → IfOk request (λ v. v.items ≡ request_bytes r) → NumberedDoes r result
         (reach (but_for address.now (L.links link.old)) (K.takes out.old) (E.takes errors.old))
         (reach (but_for address.now (L.links link.new)) (K.takes out.new) (E.takes errors.new)) }
 {
@@ -116,7 +116,7 @@ pub(crate) fn show_some<W: Wait, L: Link, K: Sink, E: Sink>(
     errors: &mut E,
 ) -> Result<(), Fault>
     ensures { (r : Request) → IfOk request (λ v. v.items ≡ request_bytes r)
-        → ShowSays showing r result
+        → ShowDoes showing r result
         (reach (but_for address.now (L.links link.old)) (K.takes out.old) (E.takes errors.old))
         (reach (but_for address.now (L.links link.new)) (K.takes out.new) (E.takes errors.new)) }
 {
@@ -161,7 +161,7 @@ pub(crate) fn show_fed<W: Wait, L: Link, N: Source, K: Sink, E: Sink>(
     errors: &mut E,
 ) -> Result<(), Fault>
     ensures { (r : Request) → IfOk request (λ v. v.items ≡ request_bytes r)
-        → ShowFedSays showing r result
+        → ShowFedDoes showing r result
         (N.gives input.old) (N.gives input.new)
         (reach (but_for address.now (L.links link.old)) (K.takes out.old) (E.takes errors.old))
         (reach (but_for address.now (L.links link.new)) (K.takes out.new) (E.takes errors.new)) }

@@ -1,21 +1,20 @@
--- A call of one request: what its exchange says, of the request that is meant and of how its body is shown.
-use Rattle.std.proofs.Common.{◌≡◌, ℕ, List, [], refl, sym, ap, ◌∙◌, subst, Option, Result, Ok, Err, Bool, true, false}
-use Rattle.std.specs.Prelude.{◌&&◌}
+-- A call of one request: what its exchange says, of how its body is shown, and of the request that is meant.
+use Rattle.std.proofs.Common.{◌≡◌, inl, inr, ℕ, List, [], ◌++◌, refl, sym, ap, ◌∙◌, subst, Result, Ok, Err, Bool, true, false}
+use Rattle.std.specs.Prelude.{◌&&◌, Vec}
+use Rattle.std.specs.declared.alloc.Global.{Global}
 use Rattle.engine_ports.specs.Source.{SourceView}
 use Rattle.http_edge.specs.Message.{Request}
 use Rattle.client_model.specs.Requests.{request_bytes}
-use Rattle.client_model.specs.Plans.{Plan, fails}
 use Rattle.client_model.specs.declared.fault.Fault.{Fault}
-use Rattle.client_model.specs.declared.fault.Fault.TheVariants as F
 use Rattle.client_streams.specs.Taking.{Taken, taken, ends_by}
 use Rattle.client_streams.specs.declared.taker.Showing.{Showing}
 use Rattle.client_streams.specs.declared.taker.Showing.TheVariants.{Kept, Copied, Demuxed}
 use Rattle.client_exchange.specs.declared.got.Got.{Got}
-use Rattle.client_exchange.specs.Exchanges.{Reach, ExchangeSays}
-use Rattle.client_exchange.specs.Walks.{IsAsking, Walks, Does}
-use Rattle.client_exchange.specs.Asking.{asks_body, numbered, shown_by, ShowSays}
-use Rattle.client_exchange.specs.Feeding.{FedSays, Feeds, FedDoes, ShowFedSays}
-use Rattle.client_exchange.proofs.AskLemmas.{ask_goes, ask_cut, ask_fails, numbered_goes, numbered_fails, show_goes, show_cut, show_fails}
+use Rattle.client_exchange.specs.Exchanges.{Reach, HasGone, FailsSo, ExchangeSays, HasShown, AskSays, NumberedSays, ShowSays}
+use Rattle.client_exchange.specs.Walks.{Does}
+use Rattle.client_exchange.specs.Asking.{asks_body, shown_by, AskDoes, NumberedDoes, ShowDoes}
+use Rattle.client_exchange.specs.Feeding.{FedSays, HasFed, FedDoes, ShowFedSays, ShowFedDoes}
+use Rattle.client_exchange.proofs.AskLemmas.{ends_as, ask_goes, ask_cut, ask_fails, numbered_goes, numbered_fails, show_goes, show_cut, show_fails}
 use Rattle.client_exchange.proofs.FeedLemmas.{fed_goes, fed_cut, fed_fails}
 
 -- ---- a taker that was made
@@ -34,73 +33,98 @@ pub made_fresh : (t : Taken) (showing : Showing) → t ≡ taken showing [] → 
 made_fresh t showing is = is ∙ ap (λ s. taken s []) (sym (made_so t showing is))
 
 -- what is said of a taker that shows so
-pub show_as : (k showing : Showing) (r : Request) (result : Result (Unit {0}) Fault) (o o' : Reach) → k ≡ showing → ShowSays k r result o o' → ShowSays showing r result o o'
-show_as k showing r result o o' is says = subst (λ s. ShowSays s r result o o') is says
+pub show_as : (bytes : List ℕ) (k showing : Showing) (result : Result (Unit {0}) Fault) (o o' : Reach) → k ≡ showing → ShowSays bytes k result o o' → ShowSays bytes showing result o o'
+show_as bytes k showing result o o' is says = subst (λ s. ShowSays bytes s result o o') is says
 
-pub show_fed_as : (k showing : Showing) (r : Request) (result : Result (Unit {0}) Fault) (v v' : SourceView) (o o' : Reach) → k ≡ showing
-    → ShowFedSays k r result v v' o o' → ShowFedSays showing r result v v' o o'
-show_fed_as k showing r result v v' o o' is says = subst (λ s. ShowFedSays s r result v v' o o') is says
+pub show_fed_as : (bytes : List ℕ) (k showing : Showing) (result : Result (Unit {0}) Fault) (v v' : SourceView) (o o' : Reach) → k ≡ showing
+    → ShowFedSays bytes k result v v' o o' → ShowFedSays bytes showing result v v' o o'
+show_fed_as bytes k showing result v v' o o' is says = subst (λ s. ShowFedSays bytes s result v v' o o') is says
 
--- ---- an exchange
+-- ---- what an exchange says of what is handed on
 
-meant : (bytes bytes' : List ℕ) (result : Result Got Fault) (showing showing' : Showing) (t : Taken) (o o' : Reach) → bytes ≡ bytes' → showing ≡ showing'
-    → ExchangeSays bytes result showing t o o' → ExchangeSays bytes' result showing' t o o'
-meant bytes bytes' result showing showing' t o o' same as_was says =
-    subst (λ b. ExchangeSays b result showing' t o o') same (subst (λ k. ExchangeSays bytes result k t o o') as_was says)
+-- what was shown, by where its body ends
+pub shown_so : (bytes : List ℕ) (showing : Showing) (t : Taken) (o o' : Reach) (all : Bool) (got : Got) → HasGone bytes got showing t o o' → (got.whole && ends_by t) ≡ all → HasShown bytes all showing o o'
+shown_so bytes showing t o o' all got g is = record {
+  got = got;
+  t = t;
+  gone = g;
+  is = ap (λ e. got.whole && e) (sym (ends_as showing t g.body g.kept)) ∙ is;
+}
 
-module _ (bytes : List ℕ) (showing : Showing) (t : Taken) (o o' : Reach) (request : Request) (same : bytes ≡ request_bytes request) where
-  pub asked_goes : (got : Got) (body : List ℕ) → showing ≡ Kept → ExchangeSays bytes (Ok got) showing t o o' → got.whole ≡ true → body ≡ t.kept
-      → (next : List ℕ → Plan) → IsAsking (next body) → Walks (asks_body request next) o (next body) o'
-  asked_goes got body kept says whole is next =
-      subst (λ b. IsAsking (next b) → Walks (asks_body request next) o (next b) o') (sym is)
-      (ask_goes request got t o o' next whole (meant bytes (request_bytes request) (Ok got) showing Kept t o o' same kept says))
+module _ (bytes : List ℕ) (showing : Showing) (t : Taken) (o o' : Reach) (kept : showing ≡ Kept) where
+  pub kept_body : (got : Got) (body : List ℕ) → ExchangeSays bytes (Ok got) showing t o o' → body ≡ t.kept → HasGone bytes got Kept (taken Kept body) o o'
+  kept_body got body says is = by (subst (λ k. HasGone bytes got k t o o') kept says)
+    where
+      by : HasGone bytes got Kept t o o' → HasGone bytes got Kept (taken Kept body) o o'
+      by g = record {
+        head = g.head;
+        body = g.body;
+        status = g.status;
+        first = g.first;
+        kept = ap (taken Kept) (is ∙ ap (λ (k : Taken). k.kept) g.kept);
+        answered = g.answered;
+        took = g.took;
+      }
 
-  pub asked_cut : (got : Got) → showing ≡ Kept → ExchangeSays bytes (Ok got) showing t o o' → got.whole ≡ false
-      → (next : List ℕ → Plan) → Does (asks_body request next) (Err F.Answer) o o'
-  asked_cut got kept says cut next = ask_cut request got t o o' next cut (meant bytes (request_bytes request) (Ok got) showing Kept t o o' same kept says)
+  pub kept_short : (got : Got) → ExchangeSays bytes (Ok got) showing t o o' → got.whole ≡ false → HasShown bytes false Kept o o'
+  kept_short got says cut = shown_so bytes Kept t o o' false got (subst (λ k. HasGone bytes got k t o o') kept says) (ap (λ w. w && ends_by t) cut)
 
-  pub asked_fails : (fault : Fault) → showing ≡ Kept → ExchangeSays bytes (Err fault) showing t o o'
-      → (next : List ℕ → Plan) → Does (asks_body request next) (Err fault) o o'
-  asked_fails fault kept says = ask_fails request fault t o o' (meant bytes (request_bytes request) (Err fault) showing Kept t o o' same kept says)
+  pub kept_not : (fault : Fault) → ExchangeSays bytes (Err fault) showing t o o' → FailsSo bytes fault Kept o o'
+  kept_not fault says = subst (λ k. FailsSo bytes fault k o o') kept says
 
-  pub numbered_so : (got : Got) (body : List ℕ) → showing ≡ Kept → ExchangeSays bytes (Ok got) showing t o o' → body ≡ t.kept
-      → (next : Option ℕ → Bool → List ℕ → Plan) → IsAsking (next got.first got.whole body)
-      → Walks (numbered request next) o (next got.first got.whole body) o'
-  numbered_so got body kept says is next =
-      subst (λ b. IsAsking (next got.first got.whole b) → Walks (numbered request next) o (next got.first got.whole b) o') (sym is)
-      (numbered_goes request got t o o' next (meant bytes (request_bytes request) (Ok got) showing Kept t o o' same kept says))
+-- with input
+pub fed_so : (bytes : List ℕ) (showing : Showing) (t : Taken) (v v' : SourceView) (o o' : Reach) (all : Bool) (got : Got) → FedSays bytes (Ok got) showing t v v' o o' → (got.whole && ends_by t) ≡ all
+    → HasFed bytes all showing v v' o o'
+fed_so bytes showing t v v' o o' all got (inl (input, gave, (ended, g))) is = (input, gave, ended, shown_so (bytes ++ input) showing t o o' all got g is)
+fed_so bytes showing t v v' o o' all got (inr (fault, never, same, m)) is = absurd (not_err (Ok got) got fault refl never)
+  where
+    not_err : (r : Result Got Fault) (g : Got) (fault : Fault) → r ≡ Ok g → r ≡ Err fault → ⊥
+    not_err r g fault ok err = cc
 
-  pub numbered_not : (fault : Fault) → showing ≡ Kept → ExchangeSays bytes (Err fault) showing t o o'
-      → (next : Option ℕ → Bool → List ℕ → Plan) → ((first : Option ℕ) (body : List ℕ) → (f : Fault) × (next first false body ≡ fails f))
-      → Does (numbered request next) (Err fault) o o'
-  numbered_not fault kept says = numbered_fails request fault t o o' (meant bytes (request_bytes request) (Err fault) showing Kept t o o' same kept says)
+-- ---- the request that is meant
 
-  pub shown_goes : (shown : Showing) (got : Got) → showing ≡ shown → ExchangeSays bytes (Ok got) showing t o o' → (got.whole && ends_by t) ≡ true
-      → (next : Plan) → IsAsking next → Walks (shown_by shown request false next) o next o'
-  shown_goes shown got is says all next = show_goes request got shown t o o' next all (meant bytes (request_bytes request) (Ok got) showing shown t o o' same is says)
+-- as the taker tells it
+ends_again : (bytes : List ℕ) (all : Bool) (showing : Showing) (o o' : Reach) → (x : HasShown bytes all showing o o') → (x.got.whole && ends_by x.t) ≡ all
+ends_again bytes all showing o o' x = let g = x.gone in ap (λ e. x.got.whole && e) (ends_as showing x.t g.body g.kept) ∙ x.is
 
-  pub shown_cut : (shown : Showing) (got : Got) → showing ≡ shown → ExchangeSays bytes (Ok got) showing t o o' → (got.whole && ends_by t) ≡ false
-      → (next : Plan) → Does (shown_by shown request false next) (Err F.Answer) o o'
-  shown_cut shown got is says cut next = show_cut request got shown t o o' next cut (meant bytes (request_bytes request) (Ok got) showing shown t o o' same is says)
+-- a body that is kept may end anywhere
+cut_short : (w : Bool) → (w && true) ≡ false → w ≡ false
+cut_short true never = never
+cut_short false is = refl
 
-  pub shown_fails : (shown : Showing) (fault : Fault) → showing ≡ shown → ExchangeSays bytes (Err fault) showing t o o'
-      → (next : Plan) → Does (shown_by shown request false next) (Err fault) o o'
-  shown_fails shown fault is says = show_fails request fault shown t o o' (meant bytes (request_bytes request) (Err fault) showing shown t o o' same is says)
+module _ (bytes : List ℕ) (r : Request) (same : bytes ≡ request_bytes r) (o o' : Reach) where
+  gone_as : (got : Got) (showing : Showing) (t : Taken) → HasGone bytes got showing t o o' → HasGone (request_bytes r) got showing t o o'
+  gone_as got showing t g = subst (λ b. HasGone b got showing t o o') same g
 
--- ---- with input
+  fails_as : (fault : Fault) (showing : Showing) → FailsSo bytes fault showing o o' → FailsSo (request_bytes r) fault showing o o'
+  fails_as fault showing x = subst (λ b. FailsSo b fault showing o o') same x
 
-module _ (bytes : List ℕ) (showing shown : Showing) (t : Taken) (v v' : SourceView) (o o' : Reach) (request : Request) (same : bytes ≡ request_bytes request) (is : showing ≡ shown) where
-  meant_fed : (result : Result Got Fault) → FedSays bytes result showing t v v' o o' → FedSays (request_bytes request) result shown t v v' o o'
-  meant_fed result says =
-      subst (λ b. FedSays b result shown t v v' o o') same (subst (λ k. FedSays bytes result k t v v' o o') is says)
+  pub asked_so : (result : Result (Vec ℕ Global) Fault) → AskSays bytes result o o' → AskDoes r result o o'
+  asked_so (Ok body) (got, whole, gone) = λ next. ask_goes r got (taken Kept body.items) o o' next whole (gone_as got Kept (taken Kept body.items) gone)
+  asked_so (Err fault) (inl (is, x)) = λ next.
+      subst (λ f. Does (asks_body r next) (Err f) o o') (sym is)
+      (ask_cut r x.got x.t o o' next (cut_short x.got.whole x.is) (gone_as x.got Kept x.t x.gone))
+  asked_so (Err fault) (inr x) = λ next. ask_fails r fault (taken Kept []) o o' (fails_as fault Kept x) next
 
-  pub fed_shown : (got : Got) → FedSays bytes (Ok got) showing t v v' o o' → (got.whole && ends_by t) ≡ true
-      → (next : Plan) → IsAsking next → Feeds (shown_by shown request true next) v v' o next o'
-  fed_shown got says all next = fed_goes shown request next got t v v' o o' all (meant_fed (Ok got) says)
+  pub numbered_so : (result : Result (Got × Vec ℕ Global) Fault) → NumberedSays bytes result o o' → NumberedDoes r result o o'
+  numbered_so (Ok read) gone = λ next. numbered_goes r read.0 (taken Kept read.1.items) o o' next (gone_as read.0 Kept (taken Kept read.1.items) gone)
+  numbered_so (Err fault) x = numbered_fails r fault (taken Kept []) o o' (fails_as fault Kept x)
 
-  pub fed_unshown : (got : Got) → FedSays bytes (Ok got) showing t v v' o o' → (got.whole && ends_by t) ≡ false
-      → (next : Plan) → FedDoes (shown_by shown request true next) (Err F.Answer) v v' o o'
-  fed_unshown got says cut next = fed_cut shown request next got t v v' o o' cut (meant_fed (Ok got) says)
+  pub showed_so : (showing : Showing) (result : Result (Unit {0}) Fault) → ShowSays bytes showing result o o' → ShowDoes showing r result o o'
+  showed_so showing (Ok done) x = λ next.
+      show_goes r x.got showing x.t o o' next (ends_again bytes true showing o o' x) (gone_as x.got showing x.t x.gone)
+  showed_so showing (Err fault) (inl (is, x)) = λ next.
+      subst (λ f. Does (shown_by showing r false next) (Err f) o o') (sym is)
+      (show_cut r x.got showing x.t o o' next (ends_again bytes false showing o o' x) (gone_as x.got showing x.t x.gone))
+  showed_so showing (Err fault) (inr x) = λ next. show_fails r fault showing (taken Kept []) o o' (fails_as fault showing x) next
 
-  pub fed_failed : (fault : Fault) → FedSays bytes (Err fault) showing t v v' o o' → (next : Plan) → FedDoes (shown_by shown request true next) (Err fault) v v' o o'
-  fed_failed fault says next = fed_fails shown request next fault t v v' o o' (meant_fed (Err fault) says)
+  fed_as : (showing : Showing) (result : Result Got Fault) (t : Taken) (v v' : SourceView) → FedSays bytes result showing t v v' o o' → FedSays (request_bytes r) result showing t v v' o o'
+  fed_as showing result t v v' says = subst (λ b. FedSays b result showing t v v' o o') same says
+
+  pub fed_showed_so : (showing : Showing) (result : Result (Unit {0}) Fault) (v v' : SourceView) → ShowFedSays bytes showing result v v' o o' → ShowFedDoes showing r result v v' o o'
+  fed_showed_so showing (Ok done) v v' (input, gave, ended, x) = λ next.
+      fed_goes showing r next x.got x.t v v' o o' (ends_again (bytes ++ input) true showing o o' x) (fed_as showing (Ok x.got) x.t v v' (inl (input, gave, (ended, x.gone))))
+  fed_showed_so showing (Err fault) v v' (inl (is, (input, gave, ended, x))) = λ next.
+      subst (λ f. FedDoes (shown_by showing r true next) (Err f) v v' o o') (sym is)
+      (fed_cut showing r next x.got x.t v v' o o' (ends_again (bytes ++ input) false showing o o' x) (fed_as showing (Ok x.got) x.t v v' (inl (input, gave, (ended, x.gone)))))
+  fed_showed_so showing (Err fault) v v' (inr (t, x)) = λ next. fed_fails showing r next fault t v v' o o' (fed_as showing (Err fault) t v v' x)

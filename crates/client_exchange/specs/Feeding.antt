@@ -1,5 +1,5 @@
 -- A request that standard input follows to its end (own).
-use Rattle.std.specs.Prelude.{ℕ, ◌≡◌, ◌⊎◌, true, List, [], ◌++◌, Result, Ok, Err}
+use Rattle.std.specs.Prelude.{ℕ, ◌≡◌, ◌⊎◌, Bool, true, false, List, [], ◌++◌, Result, Ok, Err}
 use Rattle.std.specs.List.{list_any}
 use Rattle.engine_ports.specs.Rose.{Rose}
 use Rattle.engine_ports.specs.Source.{SourceView, SourceGave, SourceEnded}
@@ -7,12 +7,13 @@ use Rattle.engine_ports.specs.Sink.{SinkView, SinkTook, IsFront}
 use Rattle.http_edge.specs.Message.{Request}
 use Rattle.client_model.specs.Plans.{Plan}
 use Rattle.client_model.specs.declared.fault.Fault.{Fault}
+use Rattle.client_model.specs.declared.fault.Fault.TheVariants as F
 use Rattle.client_streams.specs.Outputs.{Outputs}
 use Rattle.client_streams.specs.Taking.{Taken}
 use Rattle.client_streams.specs.declared.taker.Showing.{Showing}
 use Rattle.client_exchange.specs.declared.got.Got.{Got}
 use Rattle.client_exchange.specs.Telling.{AnswerSays}
-use Rattle.client_exchange.specs.Exchanges.{Reach, SendFails, IsUnsent, HasGone, HasRefused, HasBroken, HasMissed}
+use Rattle.client_exchange.specs.Exchanges.{Reach, SendFails, IsUnsent, HasGone, HasRefused, HasBroken, HasMissed, HasShown}
 use Rattle.client_exchange.specs.Walks.{IsAsking, Walked, Walks, StopsIn, Comes, Does}
 use Rattle.client_exchange.specs.Asking.{shown_by}
 
@@ -68,6 +69,18 @@ abbrev pub FedSays : List ℕ → Result Got Fault → Showing → Taken → Sou
 FedSays request result showing t v v' o o' =
     ((input : List ℕ) × SourceGave v input v' × FedBy request input result showing t v v' o o') ⊎ MissedBy result v v' o o'
 
+-- the request and all of standard input were sent, and what came of a body was shown, all of it or not
+abbrev pub HasFed : List ℕ → Bool → Showing → SourceView → SourceView → Reach → Reach → Type 0
+HasFed request all showing v v' o o' =
+    (input : List ℕ) × SourceGave v input v' × SourceEnded v v' × HasShown (request ++ input) all showing o o'
+
+-- all of a body was shown; or it was short, or the exchange failed
+abbrev pub ShowFedSays : List ℕ → Showing → Result (Unit {0}) Fault → SourceView → SourceView → Reach → Reach → Type 0
+ShowFedSays request showing (Ok x) v v' o o' = HasFed request true showing v v' o o'
+ShowFedSays request showing (Err fault) v v' o o' =
+    ((fault ≡ F.Answer) × HasFed request false showing v v' o o')
+    ⊎ ((t : Taken) × FedSays request (Err fault) showing t v v' o o')
+
 -- ---- by the plan that asks it
 
 -- whole exchanges bring a plan to the next, and all of standard input follows one of their requests
@@ -104,6 +117,6 @@ FedDoes plan result v v' o o' =
     ⊎ (DoesBehind plan result v v' o o' ⊎ ((fault : Fault) × (result ≡ Err fault) × StopsFeeding plan fault v v' o o'))
 
 -- the body was shown, all of it, and the plan behind it is reached; or the plan ended or broke off
-abbrev pub ShowFedSays : Showing → Request → Result (Unit {0}) Fault → SourceView → SourceView → Reach → Reach → Type 0
-ShowFedSays showing request (Ok x) v v' o o' = (next : Plan) → IsAsking next → Feeds (shown_by showing request true next) v v' o next o'
-ShowFedSays showing request (Err fault) v v' o o' = (next : Plan) → FedDoes (shown_by showing request true next) (Err fault) v v' o o'
+abbrev pub ShowFedDoes : Showing → Request → Result (Unit {0}) Fault → SourceView → SourceView → Reach → Reach → Type 0
+ShowFedDoes showing request (Ok x) v v' o o' = (next : Plan) → IsAsking next → Feeds (shown_by showing request true next) v v' o next o'
+ShowFedDoes showing request (Err fault) v v' o o' = (next : Plan) → FedDoes (shown_by showing request true next) (Err fault) v v' o o'

@@ -1,11 +1,8 @@
-// One request of a command, by the plan that asks it.
+// One request, and what is handed on of its answer.
 ghost use Rattle.std.specs.Prelude.{◌≡◌, ◌&&◌, []};
 ghost use Rattle.engine_ports.specs.Link.{but_for};
-ghost use Rattle.http_edge.specs.Message.{Request};
-ghost use Rattle.client_model.specs.Requests.{request_bytes};
-ghost use Rattle.client_exchange.specs.Asking.{AskSays, NumberedSays, ShowSays};
 ghost use Rattle.client_streams.specs.Taking.{ends_by, taken};
-ghost use Rattle.client_exchange.specs.Exchanges.{reach};
+ghost use Rattle.client_exchange.specs.Exchanges.{AskSays, NumberedSays, ShowSays, reach};
 ghost use Rattle.client_exchange.specs.Feeding.{ShowFedSays};
 
 use crate::connection::exchange;
@@ -28,7 +25,7 @@ pub fn ask<W: Wait, L: Link, K: Sink, E: Sink>(
     out: &mut K,
     errors: &mut E,
 ) -> Result<Vec<u8>, Fault>
-    ensures { (r : Request) → request.now ≡ request_bytes r → AskSays r result
+    ensures { AskSays request.now result
         (reach (but_for address.now (L.links link.old)) (K.takes out.old) (E.takes errors.old))
         (reach (but_for address.now (L.links link.new)) (K.takes out.new) (E.takes errors.new)) }
 {
@@ -56,7 +53,7 @@ pub fn ask_numbered<W: Wait, L: Link, K: Sink, E: Sink>(
     out: &mut K,
     errors: &mut E,
 ) -> Result<(Got, Vec<u8>), Fault>
-    ensures { (r : Request) → request.now ≡ request_bytes r → NumberedSays r result
+    ensures { NumberedSays request.now result
         (reach (but_for address.now (L.links link.old)) (K.takes out.old) (E.takes errors.old))
         (reach (but_for address.now (L.links link.new)) (K.takes out.new) (E.takes errors.new)) }
 {
@@ -86,7 +83,7 @@ fn show_through<W: Wait, L: Link, K: Sink, E: Sink>(
     errors: &mut E,
 ) -> Result<(), Fault>
     requires { taker.old ≡ taken taker.old.showing [] }
-    ensures { (r : Request) → request.now ≡ request_bytes r → ShowSays taker.old.showing r result
+    ensures { ShowSays request.now taker.old.showing result
         (reach (but_for address.now (L.links link.old)) (K.takes out.old) (E.takes errors.old))
         (reach (but_for address.now (L.links link.new)) (K.takes out.new) (E.takes errors.new)) }
 {
@@ -113,7 +110,7 @@ pub fn show<W: Wait, L: Link, K: Sink, E: Sink>(
     out: &mut K,
     errors: &mut E,
 ) -> Result<(), Fault>
-    ensures { (r : Request) → request.now ≡ request_bytes r → ShowSays showing r result
+    ensures { ShowSays request.now showing result
         (reach (but_for address.now (L.links link.old)) (K.takes out.old) (E.takes errors.old))
         (reach (but_for address.now (L.links link.new)) (K.takes out.new) (E.takes errors.new)) }
 {
@@ -134,7 +131,7 @@ fn show_input_through<W: Wait, L: Link, N: Source, K: Sink, E: Sink>(
     errors: &mut E,
 ) -> Result<(), Fault>
     requires { taker.old ≡ taken taker.old.showing [] }
-    ensures { (r : Request) → request.now ≡ request_bytes r → ShowFedSays taker.old.showing r result
+    ensures { ShowFedSays request.now taker.old.showing result
         (N.gives input.old) (N.gives input.new)
         (reach (but_for address.now (L.links link.old)) (K.takes out.old) (E.takes errors.old))
         (reach (but_for address.now (L.links link.new)) (K.takes out.new) (E.takes errors.new)) }
@@ -163,7 +160,7 @@ pub fn show_with_input<W: Wait, L: Link, N: Source, K: Sink, E: Sink>(
     out: &mut K,
     errors: &mut E,
 ) -> Result<(), Fault>
-    ensures { (r : Request) → request.now ≡ request_bytes r → ShowFedSays showing r result
+    ensures { ShowFedSays request.now showing result
         (N.gives input.old) (N.gives input.new)
         (reach (but_for address.now (L.links link.old)) (K.takes out.old) (E.takes errors.old))
         (reach (but_for address.now (L.links link.new)) (K.takes out.new) (E.takes errors.new)) }

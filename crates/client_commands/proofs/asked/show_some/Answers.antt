@@ -1,10 +1,11 @@
 use Rattle.client_commands.proofs.AskedLemmas.{request_is, stops_short}
 use Rattle.std.proofs.Common.{false}
+use Rattle.client_exchange.proofs.AskingLemmas.{showed_so}
 use Rattle.client_exchange.specs.Asking.{shown_by}
 use Rattle.client_commands.proofs.asked.show_some.Goals as goal
 
 pub returns-in-Ok : goal.returns-in-Ok
-returns-in-Ok g c = λ r is. c.show.ensures r (request_is r c.args.request c.in-Ok.request _ c.in-Ok.is c.deref.ensures.value is)
+returns-in-Ok g c = λ r is. showed_so _ r (request_is r c.args.request c.in-Ok.request _ c.in-Ok.is c.deref.ensures.value is) _ _ c.args.showing c.show.result c.show.ensures
 
 pub returns-in-Err : goal.returns-in-Err
 returns-in-Err g c = λ r is next. stops_short (shown_by c.args.showing r false next) _

@@ -1,11 +1,12 @@
-use Rattle.client_exchange.proofs.AskingLemmas.{asked_goes, asked_cut, asked_fails}
+use Rattle.std.proofs.Common.{inl, inr, refl}
+use Rattle.client_exchange.proofs.AskingLemmas.{kept_body, kept_short, kept_not}
 use Rattle.client_exchange.proofs.asking.ask.Goals as goal
 
 pub returns-then-got : goal.returns-then-got
-returns-then-got g c = λ r is. asked_goes _ _ _ _ _ r is c.in-Ok.got _ c.fresh_taker-taker.ensures.showing c.in-Ok.ensures c.if-got.true c.into_kept.ensures
+returns-then-got g c = (c.in-Ok.got, c.if-got.true, kept_body _ _ _ _ _ c.fresh_taker-taker.ensures.showing c.in-Ok.got _ c.in-Ok.ensures c.into_kept.ensures)
 
 pub returns-else-got : goal.returns-else-got
-returns-else-got g c = λ r is. asked_cut _ _ _ _ _ r is c.in-Ok.got c.fresh_taker-taker.ensures.showing c.in-Ok.ensures c.if-got.false
+returns-else-got g c = inl (refl, kept_short _ _ _ _ _ c.fresh_taker-taker.ensures.showing c.in-Ok.got c.in-Ok.ensures c.if-got.false)
 
 pub returns-in-Err : goal.returns-in-Err
-returns-in-Err g c = λ r is. asked_fails _ _ c.fresh_taker-taker.result _ _ r is c.in-Err.fault c.fresh_taker-taker.ensures.showing c.in-Err.ensures
+returns-in-Err g c = inr (kept_not _ _ c.fresh_taker-taker.result _ _ c.fresh_taker-taker.ensures.showing c.in-Err.fault c.in-Err.ensures)
