@@ -1,3 +1,4 @@
 pub mod OutputLemmas
 pub mod FrameLemmas
+pub mod WholeLemmas
 pub mod TakingLemmas

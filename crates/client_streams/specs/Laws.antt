@@ -1,6 +1,10 @@
 -- What pieces of a body come to (Docker Engine API v1.43, ContainerAttach, "Stream format").
-use Rattle.std.specs.Prelude.{ℕ, ◌≡◌, List, ◌++◌}
-use Rattle.client_model.specs.Plans.{joined}
+use Rattle.std.specs.Prelude.{ℕ, ◌≡◌, true, List, ◌++◌}
+use Rattle.engine_text.specs.declared.script.Stream.TheVariants.{Stdout, Stderr}
+use Rattle.stream_frame.specs.Frames.{Part, frames_of, AreParts, payload_of}
+use Rattle.stream_frame.specs.Demuxing.{AreBytes}
+use Rattle.client_model.specs.Plans.{Written, joined}
+use Rattle.client_model.specs.Streams.{payloads_of, ends_frames}
 use Rattle.client_streams.specs.Taking.{taken, shows, adds, after, may_end, ends_by}
 use Rattle.client_streams.specs.declared.taker.Showing.{Showing}
 
@@ -13,3 +17,12 @@ Pieces = (showing : Showing) (body piece : List ℕ)
 -- behind a body it is told whether that may end
 abbrev pub Ends : Type 0
 Ends = (showing : Showing) (body : List ℕ) → ends_by (taken showing body) ≡ may_end showing body
+
+-- what parts carry for standard output, and for standard error
+abbrev pub carried_by : List Part → Written
+carried_by parts = record { out = payload_of Stdout parts; err = payload_of Stderr parts }
+
+-- of a stream of frames, a frame for each part, what is shown is what the parts carry, in order, and it may end behind them
+abbrev pub Frames : Type 0
+Frames = (parts : List Part) → AreParts parts → AreBytes (frames_of parts)
+    → (payloads_of (frames_of parts) ≡ carried_by parts) × (ends_frames (frames_of parts) ≡ true)

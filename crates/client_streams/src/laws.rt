@@ -1,5 +1,5 @@
 // What pieces of a body come to.
-ghost use Rattle.client_streams.specs.Laws.{Ends, Pieces};
+ghost use Rattle.client_streams.specs.Laws.{Ends, Frames, Pieces};
 
 /// However a body is cut, its pieces show together what the body shows.
 pub fn law_pieces()
@@ -9,4 +9,9 @@ pub fn law_pieces()
 /// Whether a body may end is told by what stands behind its pieces.
 pub fn law_ends()
     ensures { Ends }
+{}
+
+/// A stream of whole frames shows the payloads of its frames, each by its stream, and may end behind them.
+pub fn law_frames()
+    ensures { Frames }
 {}

@@ -5,5 +5,5 @@ mod frames;
 mod laws;
 mod taker;
 
-pub use laws::{law_ends, law_pieces};
+pub use laws::{law_ends, law_frames, law_pieces};
 pub use taker::{Showing, Taker};
