@@ -34,7 +34,7 @@ pub fn law_runs_ask_calls(words: &[Text])
 
 /// What each connection of a run was sent is one spelling of a request that is, for the daemon, the
 /// call that the table names, by the line's words and by the answers before it.
-pub fn law_both_ends(words: &[Text])
+pub fn law_runs_send_calls(words: &[Text])
     ensures ended { SendsCalls words.now }
     ensures broken_off { SendsCallsSoFar words.now }
 {

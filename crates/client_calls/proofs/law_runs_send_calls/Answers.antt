@@ -1,5 +1,5 @@
 use Rattle.client_calls.proofs.SentLemmas.{sends-calls, sends-calls-so-far}
-use Rattle.client_calls.proofs.law_both_ends.Goals as goal
+use Rattle.client_calls.proofs.law_runs_send_calls.Goals as goal
 
 pub returns-clause-ended : goal.returns-clause-ended
 returns-clause-ended c = sends-calls c.args.words.now c.words_are_texts.ensures c.law_sent.ensures.ended
