@@ -234,7 +234,7 @@ stopped base k reply chunked old new p q q2 u u' v v0 v1 v2 place f turn stood r
       part = a.now.sent;
       tells = told_broken reply p.charter base q2.seen a.now.body place
           (said_short reply p.charter q2.seen P.UpToDate old new a.now.stands.moves.handed place tt a.said) a.now.told;
-      ends = ends_stopped reply p.charter a.now.body base q2.seen;
+      ends = ends_stopped reply p.charter base q2.seen a.now.body old new a.now.stands.moves.handed place (extends_on base p.seen q2.seen a.now.from a.now.stands.moves.extends) a.now.told a.said;
       pieces = a.now.pieces;
       taken = refl;
       sink = a.now.sink;

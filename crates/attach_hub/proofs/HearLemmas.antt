@@ -31,10 +31,11 @@ use Rattle.session_model.specs.Progress.{Moves}
 use Rattle.session_model.specs.Turning.{HasTicket, Turn, Turns, found}
 use Rattle.session_model.proofs.HistoryLemmas.{dues_none, extends_on, extends_same, made_behind, none_append, quiet_same, run_append, some_none, uncalled}
 use Rattle.session_model.proofs.DueLemmas.{dues_clock, some_clock}
+use Rattle.session_model.proofs.AddsLemmas.{turn_adds}
 use Rattle.session_model.proofs.TurnLemmas.{clock_alone, makes_call, moves_on, moves_same, seen_made, state_made, state_seen}
 use Rattle.daemon_core.proofs.CallLemmas.{call_at}
 use Rattle.attach_hub.specs.Following.{IsStill}
-use Rattle.attach_hub.specs.Pumping.{AddsCalls, Hears, IsFed}
+use Rattle.attach_hub.specs.Pumping.{Hears, IsFed}
 use Rattle.attach_hub.proofs.StandLemmas.{Stands, stands_on, stands_pause, stands_same, turn_extends, turn_stands}
 use Rattle.attach_hub.proofs.StillLemmas.{none_of_both, none_parts, quiet_both, still_between, still_rest, untimed_calls}
 
@@ -72,76 +73,40 @@ fed_reply (call.Feed owner run bytes) is s n t = fed_by (run_state owner run (at
 fed_reply (call.FeedEnd owner run) is s n t = ended_by (run_state owner run (at_moment t s)) owner (at_moment t s)
 fed_reply c is s n t = absurd (false≢true is)
 
--- ---- the calls that a pass gains
-
-once_more : (b : Bool) (n : ℕ) (x : Step) (xs : List Step) → bears n x ≡ b → calls_of n xs ≡ xs → calls_of n (cond b (x ∷ xs) xs) ≡ cond b (x ∷ xs) xs
-once_more true n x xs is same = rw is (ap (λ l. x ∷ l) same)
-once_more false n x xs is same = same
-
-pub calls_twice : (n : ℕ) (xs : List Step) → calls_of n (calls_of n xs) ≡ calls_of n xs
-calls_twice n [] = refl
-calls_twice n (x ∷ xs) = once_more (bears n x) n x (calls_of n xs) refl (calls_twice n xs)
-
-pub adds_none : (n : ℕ) (p : PassView) → AddsCalls n p p
-adds_none n p = ([], refl, sym (append-nil p.own_calls))
-
-pub adds_on : (n : ℕ) (p q r : PassView) → AddsCalls n p q → AddsCalls n q r → AddsCalls n p r
-adds_on n p q r (xs, only, is) (ys, only', is') = (
-  xs ++ ys,
-  filter-append (bears n) xs ys ∙ ap (λ x. x ++ calls_of n ys) only ∙ ap (λ y. xs ++ y) only',
-  is' ∙ ap (λ x. x ++ ys) is ∙ append_assoc p.own_calls xs ys,
-)
-
-turn_adds : (n : ℕ) (p q : PassView) → Turns n p q → AddsCalls n p q
-turn_adds n p q t = (calls_of n t.own, calls_twice n t.own, t.own_calls)
-
 -- ---- it waits
 
--- the input makes no call, and the pass gains none of others
-pub record Asking (k : ℕ) (p q : PassView) (v v' : ClockView) : Type 0 where
-  pub stands : Stands (input_of k) p q v v'
-  pub adds : AddsCalls (input_of k) p q
+-- the input makes no call
+abbrev pub Asking : ℕ → PassView → PassView → ClockView → ClockView → Type 0
+Asking k p q v v' = Stands (input_of k) p q v v'
 
 pub asks_first : (k : ℕ) (p : PassView) (v : ClockView) → Asking k p p v v
-asks_first k p v = record { stands = stands_same (input_of k) p v; adds = adds_none (input_of k) p }
+asks_first k p v = stands_same (input_of k) p v
 
 asks_on : (k : ℕ) (p q r : PassView) (u v w : ClockView) → Asking k p q u v → Asking k q r v w → Asking k p r u w
-asks_on k p q r u v w f g = record {
-  stands = stands_on (input_of k) p q r u v w f.stands g.stands;
-  adds = adds_on (input_of k) p q r f.adds g.adds;
-}
+asks_on k p q r u v w f g = stands_on (input_of k) p q r u v w f g
 
 pub asks_pause : (k : ℕ) (p q : PassView) (u v w : ClockView) → Asking k p q u v → ClockStood v w → Asking k p q u w
-asks_pause k p q u v w f stood = record { stands = stands_pause (input_of k) p q u v w f.stands stood; adds = f.adds }
+asks_pause k p q u v w f stood = stands_pause (input_of k) p q u v w f stood
 
 -- a turn in which it wasn't ready
 pub asks_again : (k handed : ℕ) (c : Call) (p q q2 : PassView) (u v w : ClockView) → Asking k p q u v → ClockHanded v (handed ∷ []) w
     → Turn (input_of k) handed (Some c) T.NotYet q q2 → Asking k p q2 u w
 asks_again k handed c p q q2 u v w f clock t =
-    asks_on k p q q2 u v w f (record {
-      stands = turn_stands (input_of k) handed q q2 t.turns v w (dues_none (input_of k) _ _ t.turns.own t.says.1.0) (dues_clock _ _ t.turns.own t.says.1.0) clock;
-      adds = turn_adds (input_of k) q q2 t.turns;
-    })
+    asks_on k p q q2 u v w f (turn_stands (input_of k) handed q q2 t.turns v w (dues_none (input_of k) _ _ t.turns.own t.says.1.0) (dues_clock _ _ t.turns.own t.says.1.0) clock)
 
 asks_full : (k handed : ℕ) (c : Call) (p q q2 : PassView) (u v w : ClockView) → Asking k p q u v → ClockHanded v (handed ∷ []) w
     → Turn (input_of k) handed (Some c) T.JournalFull q q2 → Asking k p q2 u w
 asks_full k handed c p q q2 u v w f clock t =
-    asks_on k p q q2 u v w f (record {
-      stands = turn_stands (input_of k) handed q q2 t.turns v w (dues_none (input_of k) _ _ t.turns.own t.says.1.0) (dues_clock _ _ t.turns.own t.says.1.0) clock;
-      adds = turn_adds (input_of k) q q2 t.turns;
-    })
+    asks_on k p q q2 u v w f (turn_stands (input_of k) handed q q2 t.turns v w (dues_none (input_of k) _ _ t.turns.own t.says.1.0) (dues_clock _ _ t.turns.own t.says.1.0) clock)
 
 asks_short : (k handed : ℕ) (c : Call) (p q q2 : PassView) (u v w : ClockView) → Asking k p q u v → ClockHanded v (handed ∷ []) w
     → Turn (input_of k) handed (Some c) T.NoMemory q q2 → Asking k p q2 u w
 asks_short k handed c p q q2 u v w f clock t =
-    asks_on k p q q2 u v w f (record {
-      stands = turn_stands (input_of k) handed q q2 t.turns v w (some_none (input_of k) _ _ t.turns.own t.says.1) (some_clock _ _ t.turns.own t.says.1) clock;
-      adds = turn_adds (input_of k) q q2 t.turns;
-    })
+    asks_on k p q q2 u v w f (turn_stands (input_of k) handed q q2 t.turns v w (some_none (input_of k) _ _ t.turns.own t.says.1) (some_clock _ _ t.turns.own t.says.1) clock)
 
 -- the connection is quiet where it makes no call itself
 asks_quiet : (k : ℕ) (p q : PassView) (u v : ClockView) → Asking k p q u v → IsStill k p.seen q.seen → IsQuiet k p.seen q.seen
-asks_quiet k p q u v f still = quiet_both k p.seen q.seen f.stands.moves.extends still f.stands.still
+asks_quiet k p q u v f still = quiet_both k p.seen q.seen f.moves.extends still f.still
 
 -- ---- how it ends
 
@@ -155,6 +120,7 @@ takes n handed c p q turns dues v w none is comes clock =
     record {
       extends = turn_extends n p q turns;
       stays = turns.stays;
+      adds = turn_adds n p q turns;
       handed = handed ∷ [];
       clock = clock;
       moments = inr (
@@ -211,13 +177,12 @@ heard k handed c taken p q q2 u v w is f clock t =
     let m = makes_call q.charter _ n handed c t.turns.own (reply.Fed taken) (no_drop c is) t.says.1 in
     let moves = takes n handed c q q2 t.turns m.0 v w (dues_none n _ _ m.0 m.1) m.2.1 (comes_so c (handed ∷ []) is) clock in
     record {
-      moves = moves_on n true p q q2 u v w f.stands.moves moves;
+      moves = moves_on n true p q q2 u v w f.moves moves;
       says = λ still.
-          let parts = still_between k p.seen q.seen q2.seen f.stands.moves.extends moves.extends still in
+          let parts = still_between k p.seen q.seen q2.seen f.moves.extends moves.extends still in
           made_behind p.charter k n c p.seen q.seen q2.seen (reply.Fed taken) (asks_quiet k p q u v f parts.0)
-          (subst (λ ch. IsMade ch k n c q.seen q2.seen (reply.Fed taken)) f.stands.moves.stays.charter
+          (subst (λ ch. IsMade ch k n c q.seen q2.seen (reply.Fed taken)) f.moves.stays.charter
           (made_by k _ c (reply.Fed taken) q q2 t.turns m.0 parts.1 (dues_none k _ _ m.0 m.1) m.2.1 m.2.0 m.2.2));
-      adds = adds_on n p q q2 f.adds (turn_adds n q q2 t.turns);
       cause = tt;
     }
 
@@ -228,12 +193,11 @@ heard_full k handed c p q q2 u v w f clock t =
     let no_room : HasRoom q.charter (state_after q.charter q2.seen) c → ⊥ =
     subst (λ s. HasRoom q.charter s c → ⊥) (state_seen (input_of k) q q2 t.turns) t.says.1.1 in
     record {
-      moves = g.stands.moves;
+      moves = g.moves;
       says = λ still. (
         asks_quiet k p q2 u w g still,
-        (q2.seen, g.stands.moves.extends, extends_same q2.seen, subst (λ ch. HasRoom ch (state_after ch q2.seen) c → ⊥) f.stands.moves.stays.charter no_room),
+        (q2.seen, g.moves.extends, extends_same q2.seen, subst (λ ch. HasRoom ch (state_after ch q2.seen) c → ⊥) f.moves.stays.charter no_room),
       );
-      adds = g.adds;
       cause = tt;
     }
 
@@ -244,22 +208,21 @@ heard_stopped k handed c p q q2 u v w x f clock t stood rose =
     let g = asks_again k handed c p q q2 u v w f clock t in
     let h = asks_pause k p q2 u w x g stood in
     record {
-      moves = h.stands.moves;
+      moves = h.moves;
       says = λ still. asks_quiet k p q2 u x h still;
-      adds = h.adds;
-      cause = rose_since u.stops w.stops x.stops g.stands.moves.clock.stops rose;
+      cause = rose_since u.stops w.stops x.stops g.moves.clock.stops rose;
     }
 
 pub heard_short : (k handed : ℕ) (c : Call) (p q q2 : PassView) (u v w : ClockView) → Asking k p q u v
     → ClockHanded v (handed ∷ []) w → Turn (input_of k) handed (Some c) T.NoMemory q q2 → Hears k c (Err P.NoMemory) p q2 u w
 heard_short k handed c p q q2 u v w f clock t =
     let g = asks_short k handed c p q q2 u v w f clock t in
-    record { moves = g.stands.moves; says = λ still. asks_quiet k p q2 u w g still; adds = g.adds; cause = tt }
+    record { moves = g.moves; says = λ still. asks_quiet k p q2 u w g still; cause = tt }
 
 -- no memory for the call itself
 pub heard_none : (k : ℕ) (c : Call) (p : PassView) (v : ClockView) → Hears k c (Err P.NoMemory) p p v v
 heard_none k c p v =
-    record { moves = moves_same (input_of k) true p v; says = λ still. quiet_same k p.seen; adds = adds_none (input_of k) p; cause = tt }
+    record { moves = moves_same (input_of k) true p v; says = λ still. quiet_same k p.seen; cause = tt }
 
 -- it gives no ticket, and a turn with a call answers it
 pub feed_never : (n handed : ℕ) (c : Call) (x : Turned) (p q : PassView) → IsTrue (is_feed c) → Turn n handed (Some c) x p q

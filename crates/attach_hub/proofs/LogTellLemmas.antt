@@ -13,9 +13,9 @@ use Rattle.machine_model.specs.History.{Charter, Extends, IsLegal, state_after}
 use Rattle.machine_model.proofs.Laws.{log_grows_law}
 use Rattle.session_model.specs.declared.followed.Followed.TheVariants as F
 use Rattle.session_model.specs.declared.turned.Part.TheVariants as P
-use Rattle.session_model.specs.Exchange.{EndsSo, IsBody}
+use Rattle.session_model.specs.Exchange.{EndsBehind, EndsSo, IsBody, IsShort}
 use Rattle.session_model.proofs.HistoryLemmas.{extends_same, extends_on}
-use Rattle.daemon_core.specs.LogTurns.{LogSays, ends_by}
+use Rattle.daemon_core.specs.LogTurns.{LogSays, ends_by, is_whole_at}
 use Rattle.attach_hub.specs.Following.{MayFollow}
 use Rattle.attach_hub.proofs.LogLemmas.{bytes_join, bytes_none, bytes_on, reach_on, reach_known, known_before}
 use Rattle.attach_hub.proofs.RunLemmas.{earlier_runs, legal_runs}
@@ -113,11 +113,23 @@ log_broken ch spec a b body place t =
       ),
     )
 
+goes_behind : (s : State) (spec : LogSpec) (place : ℕ) → is_whole_at s spec place ≡ false → EndsBehind s spec place
+goes_behind s spec place unended end is =
+    let h : ends_by (Some end) place ≡ false = sym (ap (λ x. ends_by x place) is) ∙ unended in grind (arith, nat_tests, h)
+
+-- it wasn't whole at that place
+pub log_short : (ch : Charter) (spec : LogSpec) (a b : List Step) (body : List ℕ) (place : ℕ) → Extends a b
+    → TellsLog ch spec a b body place → is_whole_at (state_after ch b) spec place ≡ false → IsShort ch spec body a b
+log_short ch spec a b body place extends t unended =
+    (place, (b, extends, extends_same b, (goes_behind (state_after ch b) spec place unended, (t.at, t.from, t.to, (t.kept, t.begins, t.logged, t.tells)))))
+
 -- the log is no longer kept
 pub log_gone : (ch : Charter) (spec : LogSpec) (a b : List Step) (body old new : List ℕ) (place next first : ℕ) → Extends a b
-    → LogSays (state_after ch b) spec place (P.Gone next first) old new → EndsSo ch (LogStream spec) (F.Lagged next first) body a b
-log_gone ch spec a b body old new place next first extends says =
-    let behind = says.0 in (behind.4, (b, extends, extends_same b, (behind.2, behind.3)))
+    → TellsLog ch spec a b body place → LogSays (state_after ch b) spec place (P.Gone next first) old new
+    → EndsSo ch (LogStream spec) (F.Lagged next first) body a b
+log_gone ch spec a b body old new place next first extends t says =
+    let behind = says.0 in
+    (behind.4, log_short ch spec a b body place extends t behind.0, (b, extends, extends_same b, (behind.2, behind.3)))
 
 -- ---- a stream that is whole
 

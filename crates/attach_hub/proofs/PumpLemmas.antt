@@ -27,8 +27,7 @@ use Rattle.session_model.specs.Session.{PumpCause}
 use Rattle.session_model.proofs.HistoryLemmas.{quiet_same}
 use Rattle.session_model.proofs.TurnLemmas.{moves_on, moves_same}
 use Rattle.attach_hub.specs.Following.{IsStill}
-use Rattle.attach_hub.specs.Pumping.{AddsCalls, EndsInput, FeedsPiece, HeardCause, HeardSays, Hears, PumpsInput, end_by}
-use Rattle.attach_hub.proofs.HearLemmas.{adds_none, adds_on}
+use Rattle.attach_hub.specs.Pumping.{EndsInput, FeedsPiece, HeardCause, HeardSays, Hears, PumpsInput, end_by}
 use Rattle.attach_hub.proofs.StillLemmas.{still_between}
 
 -- ---- what may be asked
@@ -82,7 +81,6 @@ pub record Pumping (k : ℕ) (spec : LogSpec) (run : ℕ) (p q : PassView) (ahea
   pub pieces : List (List ℕ)
   pub bytes : ahead ++ read ≡ concat pieces ++ ahead'
   pub says : IsStill k p.seen q.seen → Feeds p.charter k spec.owner run pieces p.seen q.seen
-  pub adds : AddsCalls (input_of k) p q
 
 pub pumps_first : (k : ℕ) (spec : LogSpec) (run : ℕ) (p : PassView) (ahead : List ℕ) (s : SourceView) (v : ClockView) → Pumping k spec run p p ahead ahead s s v v
 pumps_first k spec run p ahead s v = record {
@@ -92,7 +90,6 @@ pumps_first k spec run p ahead s v = record {
   pieces = [];
   bytes = append-nil ahead;
   says = λ still. refl;
-  adds = adds_none (input_of k) p;
 }
 
 -- one piece more
@@ -110,7 +107,6 @@ pumps_more k spec run p q r a b c s s1 s2 v v1 v2 f g = record {
       let parts = still_between k p.seen q.seen r.seen f.moves.extends g.heard.moves.extends still in
       feeds_on p.charter k spec.owner run f.pieces (g.piece ∷ []) p.seen q.seen r.seen (f.says parts.0)
       (r.seen, subst (λ ch. IsMade ch k (input_of k) (Feed spec.owner run g.piece) q.seen r.seen (Fed true)) f.moves.stays.charter (g.heard.says parts.1), refl);
-  adds = adds_on (input_of k) p q r f.adds g.heard.adds;
 }
 
 -- ---- how it ends
@@ -146,7 +142,6 @@ pumps_end k spec run end p q r a b s s1 s2 v v1 v2 feed f g = record {
       subst (λ x. Pumps p.charter k spec x (Some end) p.seen r.seen) (append_assoc a f.read g.read)
       (pumps_by p.charter k spec run end f.pieces (a ++ f.read) b g.read p.seen q.seen r.seen feed f.bytes (f.says parts.0)
       (subst (λ ch. Pumps ch k spec (b ++ g.read) (Some end) q.seen r.seen) f.moves.stays.charter (g.says parts.1)));
-  adds = adds_on (input_of k) p q r f.adds g.adds;
   cause = λ u u'. cause_since end s s1 s2 u u' v v1 v2 f.source.faults f.source.ends f.moves.clock.stops (g.cause u u');
 }
 
@@ -163,7 +158,6 @@ piece_gone k spec run p q piece a b s s' v v' feed reached h = record {
   read = reached.read;
   source = reached.gave;
   says = λ still. at_once p.charter k spec run P.Gone (a ++ reached.read) p.seen q.seen feed (piece, (b, sym reached.holds), h.says still);
-  adds = h.adds;
   cause = λ u u'. tt;
 }
 
@@ -204,7 +198,6 @@ piece_unfed k spec run end p q piece a b s s' v v' feed reached h = record {
   source = reached.gave;
   says = λ still. at_once p.charter k spec run end (a ++ reached.read) p.seen q.seen feed
       (unmade_out p.charter k spec.owner run piece (a ++ reached.read) end p.seen q.seen v v' h.cause (h.says still));
-  adds = h.adds;
   cause = λ u u'. unmade_cause end s s' u u' v v' h.cause;
 }
 
@@ -222,7 +215,6 @@ told_by k spec run (Ok taken) p q s s' v v' feed gave ended h = record {
   read = [];
   source = gave;
   says = λ still. at_once p.charter k spec run P.Ended [] p.seen q.seen feed (refl, (taken, h.says still));
-  adds = h.adds;
   cause = λ u u'. ended;
 }
 told_by k spec run (Err end) p q s s' v v' feed gave ended h = record {
@@ -231,7 +223,6 @@ told_by k spec run (Err end) p q s s' v v' feed gave ended h = record {
   source = gave;
   says = λ still. at_once p.charter k spec run end [] p.seen q.seen feed
       (unmade_end p.charter k spec.owner run [] end p.seen q.seen v v' h.cause (h.says still));
-  adds = h.adds;
   cause = λ u u'. unmade_cause end s s' u u' v v' h.cause;
 }
 
@@ -249,7 +240,6 @@ read_failed k spec run p a s s' v feed gave rose = record {
   read = [];
   source = gave;
   says = λ still. at_once p.charter k spec run P.ReadFault (a ++ []) p.seen p.seen feed (quiet_same k p.seen);
-  adds = adds_none (input_of k) p;
   cause = λ u u'. rose;
 }
 
@@ -261,6 +251,5 @@ no_place k spec run p a s v feed = record {
   read = [];
   source = source_none s;
   says = λ still. at_once p.charter k spec run P.NoMemory (a ++ []) p.seen p.seen feed (quiet_same k p.seen);
-  adds = adds_none (input_of k) p;
   cause = λ u u'. tt;
 }

@@ -19,6 +19,7 @@ use Rattle.session_model.specs.declared.followed.PumpEnd.TheVariants as P
 use Rattle.session_model.specs.Pass.{Every, HasItsCalls, KeepsInput, Only, PassView, Stays}
 use Rattle.session_model.specs.Exchange.{AtSome, EndsSo, Feeds, IsBody, IsQuiet, Pumps, PumpsOut}
 use Rattle.session_model.specs.Session.{PumpCause}
+use Rattle.session_model.proofs.AddsLemmas.{input_owns, owns, owns_on}
 use Rattle.session_model.proofs.HistoryLemmas.{extends_on, extends_same, made_before, made_behind, quiet_on, quiet_same}
 use Rattle.daemon_core.specs.Pairing.{IsOther, IsUndivided, Parted, Rejoined}
 use Rattle.attach_hub.specs.Following.{CanFollow, FollowsFrom, FollowsSince, HasCause, IsStill, IsTaken, MayFollow}
@@ -38,8 +39,8 @@ body_before ch spec whole a b c body behind says = at_some a b c _ behind says
 ends_before : (ch : Charter) (spec : LogSpec) (followed : Followed) (a b c : List Step) (body : List ℕ) → Extends b c
     → EndsSo ch (LogStream spec) followed body a b → EndsSo ch (LogStream spec) followed body a c
 ends_before ch spec F.Whole a b c body behind says = tt
-ends_before ch spec F.Stopped a b c body behind says = tt
-ends_before ch spec (F.Lagged next first) a b c body behind says = (says.0, at_some a b c _ behind says.1)
+ends_before ch spec F.Stopped a b c body behind says = (says.0, at_some a b c _ behind says.1)
+ends_before ch spec (F.Lagged next first) a b c body behind says = (says.0, (says.1.0, at_some a b c _ behind says.1.1), at_some a b c _ behind says.2)
 ends_before ch spec F.WriteFault a b c body behind says = tt
 ends_before ch spec F.NoMemory a b c body behind says = tt
 
@@ -100,6 +101,9 @@ follow_cause F.NoMemory u u' v mine twin cause = tt
 
 -- ---- of who takes all turns, the pump and then the follower
 
+only_some : (k : ℕ) → Only k ≡ Every → ⊥
+only_some k h = cc
+
 not_input : (k : ℕ) → k ≡ input_of k → ⊥
 not_input k is = omega (arith, is)
 
@@ -112,7 +116,7 @@ one_by_one k spec end f p0 p q r ahead s s' u u' v t mine twin w pair may alone 
     let pair' : IsTrue p.pair = subst (λ (x : PassView). IsTrue x.pair) (sym alone.same) pair in
     let every : p.number ≡ Every = ap (λ (x : PassView). x.number) alone.same ∙ alone.every in
     let stays = pumped.moves.stays in
-    let still = still_alone k (input_of k) p q (not_input k) every (stays.number ∙ every) its its' pumped.adds in
+    let still = still_alone k (input_of k) p q (not_input k) every (stays.number ∙ every) its its' pumped.moves.adds in
     let may' : CanFollow p.charter p.seen (LogStream spec) = subst (λ (x : PassView). CanFollow x.charter x.seen (LogStream spec)) (sym alone.same) may in
     let followed = since.since p.seen pumped.moves.extends (subst (λ ch. CanFollow ch p.seen (LogStream spec)) (sym stays.charter) may') in
     let quiet = followed.quiet (stays.pair ∙ pair') in
@@ -145,6 +149,7 @@ one_by_one k spec end f p0 p q r ahead s s' u u' v t mine twin w pair may alone 
         alone = followed.moves.stays.alone ∙ stays.alone;
         home = followed.moves.stays.home ∙ stays.home;
       };
+      adds = λ h. owns_on k p q r (input_owns k p q pumped.moves.adds) (owns k q r followed.moves.adds);
       input = λ others. inl (followed.moves.stays.pair ∙ stays.pair ∙ pair');
     }
     )
@@ -216,6 +221,7 @@ side_by_side k spec end f p q o q2 o2 r ahead s s' u u' v t mine twin w may part
         alone = joined.same.alone ∙ followed.moves.stays.alone ∙ parted.same.alone;
         home = joined.same.home ∙ followed.moves.stays.home ∙ parted.same.home;
       };
+      adds = λ every. absurd (only_some k (sym parted.number ∙ every));
       input = λ others. joined.keeps;
     }
 

@@ -11,6 +11,7 @@ use Rattle.session_model.specs.Pass.{PassView}
 use Rattle.session_model.specs.Progress.{Moves}
 use Rattle.session_model.specs.Turning.{Turns, found}
 use Rattle.session_model.proofs.HistoryLemmas.{quiet_on, quiet_same, run_append, uncalled}
+use Rattle.session_model.proofs.AddsLemmas.{turn_adds}
 use Rattle.session_model.proofs.TurnLemmas.{clock_alone, moves_on, moves_same, turn_quiet}
 use Rattle.attach_hub.specs.Following.{IsStill}
 use Rattle.attach_hub.proofs.StillLemmas.{moments_still, no_calls, rest_still}
@@ -36,6 +37,7 @@ stands_pause k p q u v w f stood = record {
   moves = record {
     extends = f.moves.extends;
     stays = f.moves.stays;
+    adds = f.moves.adds;
     handed = f.moves.handed;
     clock = subst (λ ms. ClockHanded u ms w) (append-nil f.moves.handed) (clock_on u v w f.moves.handed [] f.moves.clock (clock_stood v w stood));
     moments = f.moves.moments;
@@ -66,6 +68,7 @@ turn_stands k handed p q turns v w none late clock =
       moves = record {
         extends = extends;
         stays = turns.stays;
+        adds = turn_adds k p q turns;
         handed = handed ∷ [];
         clock = clock;
         moments = moments_still p.charter k true p.seen q.seen (handed ∷ []) extends still;
@@ -88,6 +91,7 @@ look_stands k p q turns v w unmoved same =
       moves = record {
         extends = extends;
         stays = turns.stays;
+        adds = turn_adds k p q turns;
         handed = [];
         clock = subst (ClockHanded v []) (sym same) (clock_none v);
         moments = moments_still p.charter k true p.seen q.seen [] extends still;

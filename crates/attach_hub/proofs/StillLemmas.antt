@@ -10,8 +10,8 @@ use Rattle.machine_model.specs.History.{Charter, Extends, HasNoCall, HasNone, be
 use Rattle.session_model.specs.Pass.{PassView, Every, HasItsCalls, calls_by, is_call}
 use Rattle.session_model.specs.Exchange.{IsQuiet}
 use Rattle.session_model.specs.Moments.{TakesMoments, HasNoTimed, is_timed}
+use Rattle.session_model.specs.Progress.{AddsCalls}
 use Rattle.attach_hub.specs.Following.{IsStill}
-use Rattle.attach_hub.specs.Pumping.{AddsCalls}
 
 -- ---- one number
 

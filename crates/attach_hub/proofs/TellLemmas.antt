@@ -12,7 +12,7 @@ use Rattle.session_model.specs.Exchange.{EndsSo, IsBody}
 use Rattle.session_model.specs.Moments.{greatest_of}
 use Rattle.attach_hub.specs.Following.{CanFollow, HasReached, IsTimed}
 use Rattle.attach_hub.specs.Streams.{PartSays, StandsIn, first_of}
-use Rattle.attach_hub.proofs.LogTellLemmas.{TellsLog, log_first, log_later, log_more, log_broken, log_gone, log_whole}
+use Rattle.attach_hub.proofs.LogTellLemmas.{TellsLog, log_first, log_later, log_more, log_broken, log_short, log_gone, log_whole}
 use Rattle.attach_hub.proofs.EventTellLemmas.{TellsEvents, events_first, events_later, events_more, events_broken, events_gone, events_whole, events_reached}
 use Rattle.attach_hub.proofs.JournalTellLemmas.{JournalSaid, TellsJournal, journal_broken, journal_either, journal_first, journal_later, journal_more, journal_whole}
 
@@ -105,7 +105,7 @@ told_broken r ch a b body place lacks t = absurd t
 pub told_gone : (r : Reply) (ch : Charter) (a b : List Step) (body old new ms : List ℕ) (place next oldest : ℕ) → Extends a b
     → Told r ch a b body place → Said r place (P.Gone next oldest) old new ms ch b → EndsSo ch r (F.Lagged next oldest) body a b
 told_gone (reply.LogStream spec) ch a b body old new ms place next oldest on t said =
-    log_gone ch spec a b body old new place next oldest on said.says
+    log_gone ch spec a b body old new place next oldest on t said.says
 told_gone (reply.EventStream first until filters) ch a b body old new ms place next oldest on t said =
     events_gone ch first until filters a b said.handed body old new place next oldest on t said.says
 told_gone (reply.JournalStream count) ch a b body old new ms place next oldest on t said = absurd said.1
@@ -157,9 +157,11 @@ pub ends_whole : (r : Reply) (ch : Charter) (body : List ℕ) (a b : List Step) 
 ends_whole (reply.LogStream spec) ch body a b = tt
 ends_whole r ch body a b = tt
 
-pub ends_stopped : (r : Reply) (ch : Charter) (body : List ℕ) (a b : List Step) → EndsSo ch r F.Stopped body a b
-ends_stopped (reply.LogStream spec) ch body a b = tt
-ends_stopped r ch body a b = tt
+-- who was up to date when it was stopped wasn't at the end
+pub ends_stopped : (r : Reply) (ch : Charter) (a b : List Step) (body old new ms : List ℕ) (place : ℕ) → Extends a b
+    → Told r ch a b body place → Said r place P.UpToDate old new ms ch b → EndsSo ch r F.Stopped body a b
+ends_stopped (reply.LogStream spec) ch a b body old new ms place on t said = log_short ch spec a b body place on t said.says.0.0
+ends_stopped r ch a b body old new ms place on t said = tt
 
 pub ends_failed : (r : Reply) (ch : Charter) (body : List ℕ) (a b : List Step) → EndsSo ch r F.WriteFault body a b
 ends_failed (reply.LogStream spec) ch body a b = tt

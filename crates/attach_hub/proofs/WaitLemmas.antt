@@ -26,6 +26,7 @@ use Rattle.session_model.specs.Moments.{HasNoTimed}
 use Rattle.session_model.specs.Progress.{Moves}
 use Rattle.session_model.proofs.HistoryLemmas.{run_append, quiet_same, quiet_on, made_behind, dues_none, some_none, untimed, untimed_append}
 use Rattle.session_model.proofs.DueLemmas.{dues_clock, some_clock}
+use Rattle.session_model.proofs.AddsLemmas.{turn_adds}
 use Rattle.session_model.proofs.TurnLemmas.{moves_same, moves_on, makes_call, seen_made, turn_made, turn_opens, turn_quiet, turn_rests, state_made, clock_alone}
 use Rattle.daemon_core.specs.Whole.{IsAnswer}
 use Rattle.daemon_core.proofs.CallLemmas.{call_at, have_replies, take_answers}
@@ -83,6 +84,7 @@ rests_pause k p q u v w f stood = record {
   moves = record {
     extends = f.moves.extends;
     stays = f.moves.stays;
+    adds = f.moves.adds;
     handed = f.moves.handed;
     clock = subst (λ ms. ClockHanded u ms w) (append-nil f.moves.handed) (clock_on u v w f.moves.handed [] f.moves.clock (clock_stood v w stood));
     moments = f.moves.moments;
@@ -183,6 +185,7 @@ drop_says k n handed r p q pair t =
       moves = λ v. record {
         extends = (t.turns.others ++ last, at ∙ append_assoc p.seen t.turns.others last);
         stays = t.turns.stays;
+        adds = turn_adds k p q t.turns;
         handed = [];
         clock = clock_none v;
         moments = (

@@ -12,7 +12,7 @@ use Rattle.engine_text.specs.declared.reply.Reply.{Reply}
 use Rattle.engine_text.specs.declared.reply.Reply.TheVariants.{Fed}
 use Rattle.engine_text.specs.declared.reply.LogSpec.{LogSpec}
 use Rattle.engine_text.specs.declared.step.Step.{Step}
-use Rattle.machine_model.specs.History.{Charter, calls_of, input_of, state_after}
+use Rattle.machine_model.specs.History.{Charter, input_of, state_after}
 use Rattle.machine_model.specs.Room.{HasRoom}
 use Rattle.session_model.specs.declared.followed.PumpEnd.{PumpEnd}
 use Rattle.session_model.specs.declared.followed.PumpEnd.TheVariants as P
@@ -21,10 +21,6 @@ use Rattle.session_model.specs.Exchange.{AtSome, IsMade, IsQuiet, Pumps}
 use Rattle.session_model.specs.Progress.{Moves}
 use Rattle.session_model.specs.Session.{PumpCause}
 use Rattle.attach_hub.specs.Following.{IsStill}
-
--- the calls that the pass has gained are of this number
-abbrev pub AddsCalls : ℕ → PassView → PassView → Type 0
-AddsCalls n p q = (own : List Step) × (calls_of n own ≡ own) × (q.own_calls ≡ p.own_calls ++ own)
 
 -- ---- one call of the input
 
@@ -56,7 +52,6 @@ HeardCause (Err end) v v' = ⊥
 pub record Hears (k : ℕ) (c : Call) (heard : Result Bool PumpEnd) (p q : PassView) (v v' : ClockView) : Type 0 where
   pub moves : Moves (input_of k) true p q v v'
   pub says : IsStill k p.seen q.seen → HeardSays p.charter k c heard p.seen q.seen
-  pub adds : AddsCalls (input_of k) p q
   pub cause : HeardCause heard v v'
 
 -- the end of the input was told, or that call wasn't made
@@ -77,7 +72,6 @@ pub record PumpsInput (k : ℕ) (spec : LogSpec) (end : PumpEnd) (p q : PassView
   pub read : List ℕ
   pub source : SourceGave s read s'
   pub says : IsStill k p.seen q.seen → Pumps p.charter k spec (ahead ++ read) (Some end) p.seen q.seen
-  pub adds : AddsCalls (input_of k) p q
   pub cause : (u u' : SinkView) → PumpCause (Some end) (outside s u v) (outside s' u' v')
 
 -- one piece of it was read and fed, and taken

@@ -9,9 +9,10 @@ use Rattle.engine_text.specs.declared.reply.Reply.TheVariants.{LogStream}
 use Rattle.machine_model.specs.History.{Extends, IsLegal}
 use Rattle.session_model.specs.declared.followed.Followed.{Followed}
 use Rattle.session_model.specs.declared.followed.PumpEnd.{PumpEnd}
-use Rattle.session_model.specs.Pass.{PassView, Stays, KeepsInput}
+use Rattle.session_model.specs.Pass.{PassView, Every, Stays, KeepsInput}
 use Rattle.session_model.specs.Exchange.{EndsSo, IsBody, Pumps}
 use Rattle.session_model.specs.Moments.{TakesMoments}
+use Rattle.session_model.specs.Progress.{AddsOwn}
 use Rattle.session_model.specs.Session.{PumpCause}
 use Rattle.attach_hub.specs.Following.{HasCause, IsStill, IsTaken, IsWholeBy}
 
@@ -40,4 +41,5 @@ pub record Paired (k : ℕ) (spec : LogSpec) (end : PumpEnd) (followed : Followe
   pub extends : Extends p.seen q.seen
   pub legal : IsLegal q.charter q.seen
   pub same : Stays (record p { joined_calls = q.joined_calls; pair = q.pair }) q
+  pub adds : p.number ≡ Every → AddsOwn k p q
   pub input : IsFalse q.alone → KeepsInput k q

@@ -7,7 +7,7 @@ ghost use Rattle.attach_hub.specs.Waiting.{Awaits, Drops};
 
 use daemon_core::Turns;
 use engine_ports::{Clock, Pause};
-use engine_text::{Call, Reply};
+use engine_text::Call;
 use session_model::{Awaited, Turned};
 use std::alloc::Global;
 use std::sync::Wait;
@@ -38,14 +38,14 @@ fn give_up<T: Turns>(turns: &mut T, alloc: Global, conn: u32, ticket: u64) -> Tu
 }
 
 /// Gives the ticket up. It takes no memory, and asks no clock.
-pub fn drop_ticket<T: Turns>(turns: &mut T, alloc: Global, conn: u32, ticket: u64) -> Reply
+pub fn drop_ticket<T: Turns>(turns: &mut T, alloc: Global, conn: u32, ticket: u64)
     requires number { IsNumber (T.pass turns.old).number conn }
     requires pair { IsTrue (T.pass turns.old).pair }
     requires begun { HasBegun (T.pass turns.old).charter conn ticket (T.pass turns.old).seen }
     ensures { Drops conn ticket (T.pass turns.old) (T.pass turns.new) }
 {
     match give_up(turns, alloc, conn, ticket) {
-        Turned::Replied(reply) => reply,
+        Turned::Replied(_) => {}
         Turned::Begun { .. }
         | Turned::NotYet
         | Turned::Nothing
@@ -77,12 +77,12 @@ pub fn await_ticket<W: Wait, T: Turns, C: Clock>(
             Turned::NotYet => match clock.pause(POLL) {
                 Pause::Go => {}
                 Pause::Stop => {
-                    let _ = drop_ticket(turns, alloc, conn, ticket);
+                    drop_ticket(turns, alloc, conn, ticket);
                     return Awaited::Stopped;
                 }
             },
             Turned::NoMemory => {
-                let _ = drop_ticket(turns, alloc, conn, ticket);
+                drop_ticket(turns, alloc, conn, ticket);
                 return Awaited::NoMemory;
             }
             Turned::Begun { .. } | Turned::Nothing | Turned::JournalFull => unreachable!(),

@@ -12,3 +12,4 @@ pub mod StampLemmas
 pub mod PartLemmas
 pub mod LineLemmas
 pub mod EventLemmas
+pub mod OwnFacts

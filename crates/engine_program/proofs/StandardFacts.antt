@@ -9,13 +9,18 @@ use Rattle.engine_text.specs.declared.memory.NoMemory.{NoMemory}
 use Rattle.engine_line.specs.Lines.{line_of}
 use Rattle.engine_line.specs.declared.line.Line.{Line}
 use Rattle.engine_line.specs.declared.line.Stepping.{Stepping}
-use Rattle.machine_model.specs.History.{Charter}
+use Rattle.machine_model.specs.History.{Charter, HasNoCall, input_of}
 use Rattle.session_model.specs.declared.ending.Ending.{Ending}
 use Rattle.session_model.specs.declared.ending.Ending.TheVariants as E
 use Rattle.session_model.specs.Session.{EndingCause}
 use Rattle.session_model.specs.Guarantee.{Serves}
+use Rattle.session_model.specs.Pass.{PassView, Every}
+use Rattle.session_model.specs.Progress.{AddsOwn}
 use Rattle.session_model.proofs.CauseLemmas.{causes}
+use Rattle.daemon_core.specs.declared.daemon.Daemon.{Daemon}
+use Rattle.daemon_core.specs.Passing.{whole_pass}
 use Rattle.daemon_core.specs.Storing.{pass_of}
+use Rattle.daemon_core.proofs.OwnFacts.{no_other}
 use Rattle.engine_serve.specs.OwnClock.{unstopped}
 use Rattle.daemon_shared.specs.Running.{ServesBy}
 use Rattle.engine_drill.specs.declared.drilling.Drilled.{Drilled}
@@ -149,3 +154,19 @@ no_line words status o o' d d' none (inl wants) = inl wants.0
 no_line words status o o' d d' none (inr runs) =
     let told : RunsLine None status o o' d d' = subst (λ (l : Option Line). RunsLine l status o o' d d') none runs in
     inr told.0.0.status_is
+
+-- ---- nobody else calls
+
+adds_by : (steps : Option (ℕ × ℕ)) (k : ℕ) (e : Ending) (p q : PassView) (o o' : Outside) → ServesBy steps k e p q o o' → p.number ≡ Every
+    → AddsOwn k p q
+adds_by None k e p q o o' serves every = serves.adds every
+adds_by (Some stepping) k e p q o o' serves every = serves.1.adds every
+
+-- all calls of a session's daemon are of connection 0 and its standard input
+pub all_own : (line : Line) (status : ℕ) (o o' : Outside) (ran : RunsSession line status o o') (d : Daemon) (n : ℕ) → ran.pass ≡ whole_pass d
+    → (n ≡ 0 → ⊥) → (n ≡ input_of 0 → ⊥) → HasNoCall n ran.pass.seen
+all_own line status o o' ran d n is other no_input =
+    let ch = charter_by line ran.opening in
+    let adds = adds_by (steps_of line.clock) 0 ran.ending (pass_of ch []) ran.pass (outside o.source o.sink ran.opened) o' ran.serves refl in
+    subst (λ (q : PassView). HasNoCall n q.seen) (sym is)
+    (no_other 0 n other no_input ch (whole_pass d).seen (subst (AddsOwn 0 (pass_of ch [])) is adds))

@@ -17,8 +17,8 @@ use Rattle.engine_program.specs.Drilling.{DrillSays}
 abbrev pub usage_line : List ℕ
 usage_line = codes "usage: engined --stdio | --listen ADDR | --drill N [--seed HEX] [--clock START:STEP] [--connections N] [--journal N]\n"
 
--- the text is written, or its write failed
-pub record Tells (text : List ℕ) (status : ℕ) (u u' : SinkView) : Type 0 where
+-- a text on its use is written, or its write failed; the status is 2
+pub record TellsUsage (text : List ℕ) (status : ℕ) (u u' : SinkView) : Type 0 where
   pub status_is : status ≡ 2
   pub written : Result (Unit {0}) Failed
   pub sink : WriteSays written text u u'
@@ -26,7 +26,7 @@ pub record Tells (text : List ℕ) (status : ℕ) (u u' : SinkView) : Type 0 whe
 -- and nothing is read, and the clock isn't asked
 abbrev pub OnlyTells : List ℕ → ℕ → Outside → Outside → Type 0
 OnlyTells text status o o' =
-    Tells text status o.sink o'.sink × (o'.source ≡ o.source) × (o'.clock ≡ o.clock)
+    TellsUsage text status o.sink o'.sink × (o'.source ≡ o.source) × (o'.clock ≡ o.clock)
 
 -- a line that listens takes connections in at its ADDR; for every other, and for no line, the door is as before
 abbrev pub RunsWork : Work → Line → ℕ → Outside → Outside → DoorView → DoorView → Type 0

@@ -1,5 +1,5 @@
 // What is written where nothing runs.
-ghost use Rattle.engine_program.specs.Program.{Tells};
+ghost use Rattle.engine_program.specs.Program.{TellsUsage};
 
 use engine_ports::Sink;
 
@@ -10,7 +10,7 @@ pub const USAGE: &str =
 /// Writes a text, and answers the status of a line that can't be run. A write that fails isn't
 /// told.
 pub fn tell<K: Sink>(sink: &mut K, text: &str) -> u8
-    ensures { Tells text.now result (K.takes sink.old) (K.takes sink.new) }
+    ensures { TellsUsage text.now result (K.takes sink.old) (K.takes sink.new) }
 {
     let _ = sink.write(text.as_bytes());
     2

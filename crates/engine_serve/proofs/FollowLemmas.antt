@@ -22,6 +22,7 @@ use Rattle.session_model.specs.Progress.{Moves}
 use Rattle.session_model.specs.Session.{FollowCause}
 use Rattle.session_model.proofs.HistoryLemmas.{extends_same}
 use Rattle.session_model.proofs.MomentLemmas.{moments_weak}
+use Rattle.session_model.proofs.AddsLemmas.{owns}
 use Rattle.session_model.proofs.TurnLemmas.{same_pass}
 use Rattle.attach_hub.specs.Following.{FollowsSince, HasCause, IsTaken, IsWholeBy, MayFollow}
 use Rattle.attach_hub.specs.Sides.{Paired}
@@ -68,6 +69,7 @@ goes_alone k pumped p q v v' pair moves = record {
   extends = moves.extends;
   moments = moments_weak p.charter k p.seen q.seen moves.handed moves.moments;
   same = same_pass p q moves.stays;
+  adds = λ every. owns k p q moves.adds;
   stays = λ b. moves.stays;
   input = λ b. inl (moves.stays.pair ∙ pair);
   within = λ h b. moves.within h;
@@ -111,6 +113,7 @@ runs_both k spec end f p q ahead s s' u u' v v' both = record {
     extends = both.extends;
     moments = moments_still p.charter k false p.seen q.seen both.handed both.extends both.still;
     same = both.same;
+    adds = both.adds;
     stays = λ b. absurd (false≢true (sym b));
     input = both.input;
     within = λ h b. absurd (false≢true (sym b));

@@ -41,6 +41,7 @@ use Rattle.session_model.proofs.HistoryLemmas.{extends_same, extends_on}
 use Rattle.session_model.proofs.MomentLemmas.{moments_on, moments_quiet, moments_weak, within_on}
 use Rattle.session_model.proofs.HistoryLemmas.{quiet_same}
 use Rattle.session_model.proofs.SessionLemmas.{begins_more}
+use Rattle.session_model.proofs.AddsLemmas.{adds_none, adds_on, owns, owns_on}
 use Rattle.session_model.proofs.TurnLemmas.{stays_on, stays_same, same_pass}
 use Rattle.attach_hub.specs.Following.{IsTaken}
 use Rattle.engine_serve.specs.Overtaking.{GoesOver, IsTakenSo, OpensOver, Overtakes, RunsOver}
@@ -120,6 +121,7 @@ ended_over k r upgrade spec e p q m n s s1 s2 s3 u u1 u3 t t1 t2 t3 held ahead s
         alone = over.goes.same.alone ∙ stays.alone;
         home = over.goes.same.home ∙ stays.home;
       };
+      adds = λ every. owns_on k p m n (owns k p m (adds_on k p q m all.adds opens.moves.adds)) (over.goes.adds (stays.number ∙ every));
       pumps = is_pumped over.flow;
       stays = λ b. stays_on p m n stays (over.goes.stays b);
       input = over.goes.input;
@@ -179,6 +181,7 @@ goes_same k pumped p v pair = record {
   extends = extends_same p.seen;
   moments = moments_quiet p.charter k false p.seen p.seen [] (quiet_same k p.seen);
   same = same_pass p p (stays_same p);
+  adds = λ every. owns k p p (adds_none k p);
   stays = λ b. stays_same p;
   input = λ b. inl pair;
   within = λ h b. omega arith;

@@ -38,6 +38,7 @@ use Rattle.session_model.specs.Turning.{Turn, Turns, found}
 use Rattle.session_model.proofs.CauseLemmas.{IsLater, cause_since}
 use Rattle.session_model.proofs.HistoryLemmas.{quiet_same, dues_none, extends_on, untimed, uncalled}
 use Rattle.session_model.proofs.MomentLemmas.{moments_weak, within_on}
+use Rattle.session_model.proofs.AddsLemmas.{adds_on}
 use Rattle.session_model.proofs.TurnLemmas.{moves_same, makes_call, turn_made, turn_opens, seen_made, stays_on}
 use Rattle.daemon_core.proofs.CallLemmas.{call_at}
 use Rattle.attach_hub.specs.Following.{Follows, HasReached}
@@ -233,6 +234,7 @@ opens_on whole k handed c p q s turns dues v w y pair none is punctual clock mor
     let first : Moves k false p q v w = turn_opens false k handed c p q turns dues v w pair none is punctual tt clock in record {
       extends = extends_on p.seen q.seen s.seen first.extends more.extends;
       stays = stays_on p q s turns.stays more.stays;
+      adds = adds_on k p q s first.adds more.adds;
       handed = handed ∷ more.handed;
       clock = clock_on v w y (handed ∷ []) more.handed clock more.clock;
       moments = inr (

@@ -22,8 +22,8 @@ use Rattle.session_model.specs.declared.followed.Followed.TheVariants as F
 use Rattle.session_model.specs.declared.followed.PumpEnd.{PumpEnd}
 use Rattle.session_model.specs.Exchange.{Flow, Leaves, IsBody, IsMade, EndsSo, Pumps, is_whole}
 use Rattle.session_model.specs.Moments.{TakesMoments, StaysWithin}
-use Rattle.session_model.specs.Pass.{PassView, Stays, KeepsInput}
-use Rattle.session_model.specs.Progress.{Moves}
+use Rattle.session_model.specs.Pass.{PassView, Every, Stays, KeepsInput}
+use Rattle.session_model.specs.Progress.{AddsOwn, Moves}
 use Rattle.session_model.specs.Responses.{takeover_head}
 use Rattle.session_model.specs.Session.{Cause, IsWritten, is_pumped}
 use Rattle.attach_hub.specs.Following.{IsTaken, MayFollow}
@@ -66,6 +66,7 @@ pub record GoesOver (k : ℕ) (pumped : Bool) (p q : PassView) (v v' : ClockView
   pub extends : Extends p.seen q.seen
   pub moments : TakesMoments p.charter k false p.seen q.seen handed
   pub same : Stays (record p { joined_calls = q.joined_calls; pair = q.pair }) q
+  pub adds : p.number ≡ Every → AddsOwn k p q
   pub stays : IsFalse pumped → Stays p q
   pub input : IsFalse q.alone → KeepsInput k q
   pub within : IsTrue p.alone → IsFalse pumped → StaysWithin p.charter p.seen q.seen handed

@@ -106,7 +106,7 @@ pub(crate) fn wait_early<W: Wait, T: Turns, K: Sink, C: Clock>(
             send_late(sink, terms, &awaited)
         }
         Err(Failed) => {
-            let _ = drop_ticket(turns, alloc, conn, ticket);
+            drop_ticket(turns, alloc, conn, ticket);
             Went::Ends(Ending::WriteFault)
         }
     }

@@ -11,7 +11,7 @@ use Rattle.machine_model.specs.History.{Charter, state_after}
 use Rattle.machine_model.specs.Room.{HasRoom}
 use Rattle.http_edge.specs.Message.{Request}
 use Rattle.session_model.specs.declared.followed.Followed.TheVariants as F
-use Rattle.session_model.specs.Exchange.{AtSome, EndsSo, Kind, JournalIsFull}
+use Rattle.session_model.specs.Exchange.{AtSome, EndsSo, IsShort, JournalIsFull, Kind}
 
 -- ---- the full journal's row
 
@@ -42,4 +42,9 @@ lapsed_event_is_gone ch from next first until filter body a b h =
 pub lapsed_log_is_gone : (ch : Charter) (spec : LogSpec) (next first : ℕ) (body : List ℕ) (a b : List Step)
     → EndsSo ch (LogStream spec) (F.Lagged next first) body a b → AtSome a b (λ at. next < first_kept_removal (state_after ch at))
 lapsed_log_is_gone ch spec next first body a b h =
-    (h.1.0, h.1.1, h.1.2, omega (arith, h.0, h.1.3.1))
+    (h.2.0, h.2.1, h.2.2, omega (arith, h.0, h.2.3.1))
+
+-- and its end wasn't told
+pub lapsed_log_lacks : (ch : Charter) (spec : LogSpec) (next first : ℕ) (body : List ℕ) (a b : List Step)
+    → EndsSo ch (LogStream spec) (F.Lagged next first) body a b → IsShort ch spec body a b
+lapsed_log_lacks ch spec next first body a b h = h.1
