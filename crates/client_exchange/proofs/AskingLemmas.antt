@@ -13,7 +13,7 @@ use Rattle.client_exchange.specs.declared.got.Got.{Got}
 use Rattle.client_exchange.specs.Exchanges.{Reach, HasGone, FailsSo, ExchangeSays, HasShown, AskSays, NumberedSays, ShowSays}
 use Rattle.client_exchange.specs.Walks.{Does}
 use Rattle.client_exchange.specs.Asking.{asks_body, shown_by, AskDoes, NumberedDoes, ShowDoes}
-use Rattle.client_exchange.specs.Feeding.{FedSays, HasFed, FedDoes, ShowFedSays, ShowFedDoes}
+use Rattle.client_exchange.specs.Feeding.{FedFails, FedSays, HasFed, FedDoes, ShowFedSays, ShowFedDoes}
 use Rattle.client_exchange.proofs.AskLemmas.{ends_as, ask_goes, ask_cut, ask_fails, numbered_goes, numbered_fails, show_goes, show_cut, show_fails}
 use Rattle.client_exchange.proofs.FeedLemmas.{fed_goes, fed_cut, fed_fails}
 
@@ -75,11 +75,7 @@ module _ (bytes : List ℕ) (showing : Showing) (t : Taken) (o o' : Reach) (kept
 -- with input
 pub fed_so : (bytes : List ℕ) (showing : Showing) (t : Taken) (v v' : SourceView) (o o' : Reach) (all : Bool) (got : Got) → FedSays bytes (Ok got) showing t v v' o o' → (got.whole && ends_by t) ≡ all
     → HasFed bytes all showing v v' o o'
-fed_so bytes showing t v v' o o' all got (inl (input, gave, (ended, g))) is = (input, gave, ended, shown_so (bytes ++ input) showing t o o' all got g is)
-fed_so bytes showing t v v' o o' all got (inr (fault, never, same, m)) is = absurd (not_err (Ok got) got fault refl never)
-  where
-    not_err : (r : Result Got Fault) (g : Got) (fault : Fault) → r ≡ Ok g → r ≡ Err fault → ⊥
-    not_err r g fault ok err = cc
+fed_so bytes showing t v v' o o' all got (input, gave, ended, g) is = (input, gave, ended, shown_so (bytes ++ input) showing t o o' all got g is)
 
 -- ---- the request that is meant
 
@@ -118,13 +114,13 @@ module _ (bytes : List ℕ) (r : Request) (same : bytes ≡ request_bytes r) (o 
       (show_cut r x.got showing x.t o o' next (ends_again bytes false showing o o' x) (gone_as x.got showing x.t x.gone))
   showed_so showing (Err fault) (inr x) = λ next. show_fails r fault showing (taken Kept []) o o' (fails_as fault showing x) next
 
-  fed_as : (showing : Showing) (result : Result Got Fault) (t : Taken) (v v' : SourceView) → FedSays bytes result showing t v v' o o' → FedSays (request_bytes r) result showing t v v' o o'
-  fed_as showing result t v v' says = subst (λ b. FedSays b result showing t v v' o o') same says
+  fed_as : (got : Got) (showing : Showing) (t : Taken) (v v' : SourceView) → FedSays bytes (Ok got) showing t v v' o o' → FedSays (request_bytes r) (Ok got) showing t v v' o o'
+  fed_as got showing t v v' says = subst (λ b. FedSays b (Ok got) showing t v v' o o') same says
 
   pub fed_showed_so : (showing : Showing) (result : Result (Unit {0}) Fault) (v v' : SourceView) → ShowFedSays bytes showing result v v' o o' → ShowFedDoes showing r result v v' o o'
   fed_showed_so showing (Ok done) v v' (input, gave, ended, x) = λ next.
-      fed_goes showing r next x.got x.t v v' o o' (ends_again (bytes ++ input) true showing o o' x) (fed_as showing (Ok x.got) x.t v v' (inl (input, gave, (ended, x.gone))))
+      fed_goes showing r next x.got x.t v v' o o' (ends_again (bytes ++ input) true showing o o' x) (fed_as x.got showing x.t v v' (input, gave, ended, x.gone))
   fed_showed_so showing (Err fault) v v' (inl (is, (input, gave, ended, x))) = λ next.
       subst (λ f. FedDoes (shown_by showing r true next) (Err f) v v' o o') (sym is)
-      (fed_cut showing r next x.got x.t v v' o o' (ends_again (bytes ++ input) false showing o o' x) (fed_as showing (Ok x.got) x.t v v' (inl (input, gave, (ended, x.gone)))))
-  fed_showed_so showing (Err fault) v v' (inr (t, x)) = λ next. fed_fails showing r next fault t v v' o o' (fed_as showing (Err fault) t v v' x)
+      (fed_cut showing r next x.got x.t v v' o o' (ends_again (bytes ++ input) false showing o o' x) (fed_as x.got showing x.t v v' (input, gave, ended, x.gone)))
+  fed_showed_so showing (Err fault) v v' (inr x) = λ next. fed_fails showing r next fault v v' o o' (subst (λ b. FedFails b fault showing v v' o o') same x)

@@ -235,7 +235,7 @@ module _ (address : List ℕ) (v v1 v2 : LinkView) (s s' : SourceView) (u u' : S
       → FedSays request result showing t i i' (record { link = but_for address v; shown = o }) (record { link = but_for address v2; shown = o' })
   unfolding Gets
   talked request (Ok got) showing t i i' o o' (input, gave, inl (ended, (took, says))) =
-      inl (input, gave, (ended, gets (request ++ input) (InputFails i i') (Ok got) showing t o o' (inl (took, says))))
+      (input, gave, ended, gets (request ++ input) (InputFails i i') (Ok got) showing t o o' (inl (took, says)))
   talked request (Err fault) showing t i i' o o' (input, gave, inl (ended, (took, says))) =
       by_answer (gets (request ++ input) (InputFails i i') (Err fault) showing t o o' (inl (took, says)))
     where

@@ -1,5 +1,5 @@
 -- A request that standard input follows, by the plan that asks it.
-use Rattle.std.proofs.Common.{◌≡◌, inl, inr, ℕ, List, [], ◌∷◌, ◌++◌, map, refl, sym, ap, ◌∙◌, subst, Result, Ok, Err, Bool, true, false}
+use Rattle.std.proofs.Common.{◌≡◌, inl, inr, ℕ, List, [], ◌∷◌, ◌++◌, map, refl, sym, ap, ◌∙◌, Result, Ok, Err, Bool, true, false}
 use Rattle.std.specs.Prelude.{if◌then◌else◌, ◌&&◌, ◌||◌}
 use Rattle.std.specs.List.{list_any}
 use Rattle.std.proofs.lemmas.List.Folds.{list_any-append}
@@ -18,7 +18,7 @@ use Rattle.client_exchange.specs.declared.got.Got.{Got}
 use Rattle.client_exchange.specs.Exchanges.{Reach, HasGone}
 use Rattle.client_exchange.specs.Walks.{IsAsking, AreQuiet, Walked, Walks, Does}
 use Rattle.client_exchange.specs.Asking.{shown_by}
-use Rattle.client_exchange.specs.Feeding.{InputFails, FedSays, Feeds, FedDoes}
+use Rattle.client_exchange.specs.Feeding.{InputFails, FedFails, FedSays, Feeds, FedDoes}
 use Rattle.client_exchange.proofs.WalkLemmas.{way_one, way_on, walk_none, walk_on}
 use Rattle.client_exchange.proofs.AskLemmas.{by_below, by_shown, ends_as, refused_way, broken_stops, missed_does}
 
@@ -144,35 +144,27 @@ module _ (showing : Showing) (request : Request) (next : Plan) where
     comes = inl (record { written = nothing; is = refl; took = both_none o'.shown; link = refl });
   }))
 
-  same_err : (r : Result Got Fault) (a b : Fault) → r ≡ Err a → r ≡ Err b → a ≡ b
-  same_err r a b p q = cc
-
-  not_ok : (r : Result Got Fault) (a : Got) (b : Fault) → r ≡ Ok a → r ≡ Err b → ⊥
-  not_ok r a b p q = cc
-
   pub fed_goes : (got : Got) (t : Taken) (v v' : SourceView) (o o' : Reach) → (got.whole && ends_by t) ≡ true
       → FedSays (request_bytes request) (Ok got) showing t v v' o o' → IsAsking next → Feeds plan v v' o next o'
-  fed_goes got t v v' o o' all (inl (input, gave, (ended, g))) asking =
+  fed_goes got t v v' o o' all (input, gave, ended, g) asking =
       reaches got t input next v v' o o' gave ended g (ap (λ e. if e then next else fails F.Answer) all) asking
-  fed_goes got t v v' o o' all (inr (fault, is, same, m)) asking = absurd (not_ok (Ok got) got fault refl is)
 
   pub fed_cut : (got : Got) (t : Taken) (v v' : SourceView) (o o' : Reach) → (got.whole && ends_by t) ≡ false
       → FedSays (request_bytes request) (Ok got) showing t v v' o o' → FedDoes plan (Err F.Answer) v v' o o'
-  fed_cut got t v v' o o' cut (inl (input, gave, (ended, g))) =
+  fed_cut got t v v' o o' cut (input, gave, ended, g) =
       fails_fed F.Answer v v' o o' (reaches got t input (fails F.Answer) v v' o o' gave ended g (ap (λ e. if e then next else fails F.Answer) cut) tt)
-  fed_cut got t v v' o o' cut (inr (fault, is, same, m)) = absurd (not_ok (Ok got) got fault refl is)
 
-  pub fed_fails : (fault : Fault) (t : Taken) (v v' : SourceView) (o o' : Reach)
-      → FedSays (request_bytes request) (Err fault) showing t v v' o o' → FedDoes plan (Err fault) v v' o o'
+  pub fed_fails : (fault : Fault) (v v' : SourceView) (o o' : Reach)
+      → FedFails (request_bytes request) fault showing v v' o o' → FedDoes plan (Err fault) v v' o o'
   unfolding by_shown refused_way way_one broken_stops
-  fed_fails fault t v v' o o' (inl (input, gave, inl (ended, r))) = fails_fed fault v v' o o' (record {
+  fed_fails fault v v' o o' (inl (input, gave, inl (ended, r))) = fails_fed fault v v' o o' (record {
     input = input;
     way = refused_way asked input (by_shown showing next) fault o o' r;
     loud = refl;
     gave = gave;
     ended = ended;
   })
-  fed_fails fault t v v' o o' (inl (input, gave, inr (b, fed))) = inr (inr (
+  fed_fails fault v v' o o' (inl (input, gave, inr (b, fed))) = inr (inr (
     fault,
     refl,
     record {
@@ -186,5 +178,4 @@ module _ (showing : Showing) (request : Request) (next : Plan) where
       fed = fed;
     },
   ))
-  fed_fails fault t v v' o o' (inr (other, is, same, m)) =
-      inl (subst (λ e. Does plan (Err e) o o') (same_err (Err fault) other fault is refl) (missed_does asked (by_shown showing next) other o o' m), same)
+  fed_fails fault v v' o o' (inr (same, m)) = inl (missed_does asked (by_shown showing next) fault o o' m, same)

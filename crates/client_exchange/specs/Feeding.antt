@@ -52,22 +52,25 @@ TalkSays request result showing t v v' s s' u u' o o' =
 
 -- ---- over the link
 
--- so much input came for an exchange of these bytes and that; its end, where the exchange gave anything
-abbrev pub FedBy : List ℕ → List ℕ → Result Got Fault → Showing → Taken → SourceView → SourceView → Reach → Reach → Type 0
-FedBy request input (Ok got) showing t v v' o o' = SourceEnded v v' × HasGone (request ++ input) got showing t o o'
-FedBy request input (Err fault) showing t v v' o o' =
+-- the answer to these bytes and this input refused, or the exchange broke off; the input came to its end, where the
+-- exchange gave anything
+abbrev pub FedFailsBy : List ℕ → List ℕ → Fault → Showing → SourceView → SourceView → Reach → Reach → Type 0
+FedFailsBy request input fault showing v v' o o' =
     (SourceEnded v v' × HasRefused (request ++ input) fault o o')
     ⊎ ((b : HasBroken (request ++ input) (InputFails v v') fault showing o o')
     × (SourceEnded v v' ⊎ (b.exchange.given ≡ [])))
 
--- no connection was made, and no input read
-abbrev pub MissedBy : Result Got Fault → SourceView → SourceView → Reach → Reach → Type 0
-MissedBy result v v' o o' = (fault : Fault) × (result ≡ Err fault) × (v' ≡ v) × HasMissed fault o o'
+-- so much input came for an exchange that failed; or no connection was made, and no input read
+abbrev pub FedFails : List ℕ → Fault → Showing → SourceView → SourceView → Reach → Reach → Type 0
+FedFails request fault showing v v' o o' =
+    ((input : List ℕ) × SourceGave v input v' × FedFailsBy request input fault showing v v' o o')
+    ⊎ ((v' ≡ v) × HasMissed fault o o')
 
 -- what an exchange with input says
 abbrev pub FedSays : List ℕ → Result Got Fault → Showing → Taken → SourceView → SourceView → Reach → Reach → Type 0
-FedSays request result showing t v v' o o' =
-    ((input : List ℕ) × SourceGave v input v' × FedBy request input result showing t v v' o o') ⊎ MissedBy result v v' o o'
+FedSays request (Ok got) showing t v v' o o' =
+    (input : List ℕ) × SourceGave v input v' × SourceEnded v v' × HasGone (request ++ input) got showing t o o'
+FedSays request (Err fault) showing t v v' o o' = FedFails request fault showing v v' o o'
 
 -- the request and all of standard input were sent, and what came of a body was shown, all of it or not
 abbrev pub HasFed : List ℕ → Bool → Showing → SourceView → SourceView → Reach → Reach → Type 0
@@ -78,8 +81,7 @@ HasFed request all showing v v' o o' =
 abbrev pub ShowFedSays : List ℕ → Showing → Result (Unit {0}) Fault → SourceView → SourceView → Reach → Reach → Type 0
 ShowFedSays request showing (Ok x) v v' o o' = HasFed request true showing v v' o o'
 ShowFedSays request showing (Err fault) v v' o o' =
-    ((fault ≡ F.Answer) × HasFed request false showing v v' o o')
-    ⊎ ((t : Taken) × FedSays request (Err fault) showing t v v' o o')
+    ((fault ≡ F.Answer) × HasFed request false showing v v' o o') ⊎ FedFails request fault showing v v' o o'
 
 -- ---- by the plan that asks it
 

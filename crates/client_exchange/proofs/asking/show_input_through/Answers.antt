@@ -9,4 +9,4 @@ pub returns-else-is_whole : goal.returns-else-is_whole
 returns-else-is_whole g c = inl (refl, fed_so _ c.args.taker.now.showing _ _ _ _ _ false c.in-Ok.got c.in-Ok.ensures (sym c.is_whole.ensures ∙ c.if-is_whole.false))
 
 pub returns-in-Err : goal.returns-in-Err
-returns-in-Err g c = inr (c.args.taker.now, c.in-Err.ensures)
+returns-in-Err g c = inr c.in-Err.ensures

@@ -1,10 +1,9 @@
 use Rattle.std.proofs.Common.{inr, refl}
-use Rattle.client_model.specs.declared.fault.Fault.TheVariants as F
 use Rattle.client_exchange.proofs.ExchangeLemmas.{talked, missed}
 use Rattle.client_exchange.proofs.feeding.exchange_with_input.Goals as goal
 
 pub returns-in_default-connect : goal.returns-in_default-connect
-returns-in_default-connect g c = inr (F.Link, refl, refl, missed c.args.address.now _ _ _ c.in_default-connect.ensures)
+returns-in_default-connect g c = inr (refl, missed c.args.address.now _ _ _ c.in_default-connect.ensures)
 
 pub returns : goal.returns
 returns g c =
