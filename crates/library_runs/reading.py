@@ -61,7 +61,7 @@ read([
 heading("a failed read ends the reading: the first, and the one behind a whole request")
 ask(f"read|failing|1|{CREATE}", came(0, 0, "Some(ReadFault)"))
 ask(f"read|failing|2|{CREATE}", came(1, 31, "Some(ReadFault)"))
-heading("a head has 16,383 bytes at most, and 64 fields")
+heading("16,384 bytes without a head are too many, and 64 fields the most")
 
 
 def filled(size, count, piece, before, after, answer):
