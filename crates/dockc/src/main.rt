@@ -3,7 +3,7 @@
 #![tactic(auto)]
 
 use client_program::run_client;
-use engine_ports::{ReadSource, TcpLink, WriteSink};
+use engine_ports::{HeldStreams, ReadSource, TcpLink, WriteSink};
 use engine_text::Text;
 use std::env;
 use std::io::{self, ErrorKind};
@@ -29,6 +29,7 @@ fn words(rt: &HostRuntime) -> Option<Vec<Text>> {
 }
 
 fn main(rt: HostRuntime) -> ExitCode {
+    let held = HeldStreams::new(&rt);
     let Some(words) = words(&rt) else {
         return ExitCode::from(NO_MEMORY);
     };
@@ -45,5 +46,6 @@ fn main(rt: HostRuntime) -> ExitCode {
         &mut out,
         &mut errors,
     );
+    drop(held);
     ExitCode::from(status)
 }

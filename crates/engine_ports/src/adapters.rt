@@ -4,6 +4,7 @@ mod input;
 mod listener;
 mod output;
 mod stream;
+mod streams;
 mod time;
 
 pub use connection::TcpLink;
@@ -11,4 +12,5 @@ pub use input::ReadSource;
 pub use listener::TcpDoor;
 pub use output::WriteSink;
 pub use stream::{Half, StreamPast, StreamSink};
+pub use streams::HeldStreams;
 pub use time::SystemClock;

@@ -10,7 +10,7 @@ mod memory;
 mod ports;
 
 pub use adapters::{
-    Half, ReadSource, StreamPast, StreamSink, SystemClock, TcpDoor, TcpLink, WriteSink,
+    Half, HeldStreams, ReadSource, StreamPast, StreamSink, SystemClock, TcpDoor, TcpLink, WriteSink,
 };
 pub use clock::StepClock;
 pub use door::{Arrival, Door, NoDoor, Parting, Parts};

@@ -2,7 +2,7 @@
 //! handed to the one top call.
 #![tactic(auto)]
 
-use engine_ports::{ReadSource, SystemClock, TcpDoor, WriteSink};
+use engine_ports::{HeldStreams, ReadSource, SystemClock, TcpDoor, WriteSink};
 use engine_program::run_engined;
 use engine_text::Text;
 use std::env;
@@ -29,6 +29,7 @@ fn words(rt: &HostRuntime) -> Option<Vec<Text>> {
 }
 
 fn main(rt: HostRuntime) -> ExitCode {
+    let held = HeldStreams::new(&rt);
     let Some(words) = words(&rt) else {
         return ExitCode::from(NO_MEMORY);
     };
@@ -45,5 +46,6 @@ fn main(rt: HostRuntime) -> ExitCode {
         &mut clock,
         &mut door,
     );
+    drop(held);
     ExitCode::from(status)
 }

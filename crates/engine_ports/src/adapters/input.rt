@@ -8,7 +8,7 @@ use std::io::Read;
 /// A source over a reader. It tells no bytes.
 #[derive(Drop)]
 pub struct ReadSource<R> {
-    reader: R,
+    pub(super) reader: R,
     pub(super) faults: u64,
     pub(super) ends: u64,
 }

@@ -7,15 +7,15 @@ use crate::bound::Bound;
 use crate::{Arrival, Door, Failed};
 use std::alloc::Global;
 use std::net::{Net, SocketAddr, TcpListener, TcpStream};
-use std::thread;
+use std::os::fd::AsRawFd;
 use std::time::{self, Duration};
-
-/// How often an accept is tried before it counts as a fault. A peer that is gone again, or want of
-/// descriptors, fails one try.
-const TRIES: u32 = 1_000;
+use std::{io, thread};
 
 /// How long to wait behind a failed try, in milliseconds.
 const BREATH: u64 = 10;
+
+/// How many connections may wait to be accepted: as many as the system lets.
+const BACKLOG: i32 = i32::MAX;
 
 /// A door over TCP, on the loopback address alone. It tells no connections.
 #[derive(Drop)]
@@ -56,7 +56,18 @@ fn listener_at<R: Net<Listener = TcpListener, Stream = TcpStream>>(
     rt: &R,
     addr: &str,
 ) -> Option<TcpListener> {
-    TcpListener::bind(rt, loopback(addr)?).ok()
+    let listener = TcpListener::bind(rt, loopback(addr)?).ok()?;
+    let _ = libc::net::listen(listener.as_raw_fd(), BACKLOG);
+    Some(listener)
+}
+
+/// Whether an accept failed since the listener is gone (POSIX, accept). A peer that is gone again, or want of
+/// descriptors or memory, fails one try.
+fn is_gone(error: &io::Error) -> bool {
+    matches!(
+        error.raw_os_error(),
+        Some(libc::EBADF | libc::EINVAL | libc::ENOTSOCK)
+    )
 }
 
 impl<R: Net<Listener = TcpListener, Stream = TcpStream> + time::Clock + Copy + Send> Door
@@ -88,11 +99,15 @@ impl<R: Net<Listener = TcpListener, Stream = TcpStream> + time::Clock + Copy + S
         let Some(listener) = &self.listener else {
             return Arrival::Shut;
         };
-        for _ in 0..TRIES {
-            if let Ok((stream, _)) = listener.accept() {
-                if let Some((from, into)) = halves(self.alloc, stream) {
-                    return Arrival::Conn(from, into, SystemClock::new(self.rt));
+        for _ in 0..u64::MAX {
+            match listener.accept() {
+                Ok((stream, _)) => {
+                    if let Some((from, into)) = halves(self.alloc, stream) {
+                        return Arrival::Conn(from, into, SystemClock::new(self.rt));
+                    }
                 }
+                Err(error) if is_gone(&error) => break,
+                Err(_) => {}
             }
             thread::sleep(&self.rt, Duration::from_millis(BREATH));
         }

@@ -9,7 +9,13 @@ use std::alloc::Global;
 use std::io::{self, Read, Write};
 use std::net::{Shutdown, SocketAddr, SocketAddrV4, TcpStream};
 use std::sync::Arc;
-use std::time;
+use std::time::{self, Duration, Instant};
+
+/// The most that is read of a connection that has ended, in bytes.
+const MOST_DROPPED: usize = 16_777_216;
+
+/// How long what a peer still sends is read, in milliseconds.
+const PATIENCE: u64 = 1_000;
 
 /// One half of a connection, which is closed once both are gone.
 #[derive(Drop)]
@@ -20,6 +26,34 @@ pub struct Half {
 impl Half {
     fn shut(&self) -> io::Result<()> {
         self.stream.shutdown(Shutdown::Write)
+    }
+
+    /// Ends the connection in stages (RFC 9112, section 9.6): nothing more is written, and what the
+    /// peer still sends is read and dropped up to its end, so that closing doesn't take back what the
+    /// peer hasn't read yet. It waits a second at most for each piece, and for none once a second has
+    /// gone by or 16 MiB were dropped.
+    fn drain<C: time::Clock>(&self, clock: &C) {
+        let patience = Duration::from_millis(PATIENCE);
+        let (Ok(()), Ok(()), Ok(begun)) = (
+            self.shut(),
+            self.stream.set_read_timeout(Some(patience)),
+            Instant::now(clock),
+        ) else {
+            return;
+        };
+        let mut stream = &*self.stream;
+        let mut place = [0; 16_384];
+        let mut dropped: usize = 0;
+        for _ in 0..MOST_DROPPED {
+            match stream.read(&mut place) {
+                Ok(count) if count > 0 => dropped = dropped.saturating_add(count),
+                _ => return,
+            }
+            match begun.elapsed(clock) {
+                Ok(gone) if gone < patience && dropped < MOST_DROPPED => {}
+                _ => return,
+            }
+        }
     }
 }
 
@@ -83,6 +117,9 @@ impl<C: time::Clock + Copy + Send> Parting<ReadSource<Half>, StreamSink, SystemC
     ghost tells = { counts_of };
 
     fn part(from: ReadSource<Half>, into: StreamSink, time: SystemClock<C>) -> Self {
+        if from.ends == 0 && from.faults == 0 {
+            from.reader.drain(&time.clock);
+        }
         StreamPast {
             read_faults: from.faults,
             ends: from.ends,

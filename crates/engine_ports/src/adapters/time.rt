@@ -10,7 +10,7 @@ use std::{io, thread};
 /// The system's clock, in milliseconds since 1970. It tells no moments and never stops.
 #[derive(Drop)]
 pub struct SystemClock<C> {
-    clock: C,
+    pub(super) clock: C,
     last: u64,
     pub(super) stops: u64,
 }
