@@ -12,6 +12,8 @@ use httparse::spans::HeaderSpan;
 pub enum Want {
     /// As a whole.
     Value,
+    /// By what it begins with.
+    Front,
     /// As a list of tokens between commas.
     Token,
 }
@@ -35,14 +37,25 @@ pub(crate) fn has_field(
     false
 }
 
-/// Whether the value is this one, or holds it as a token.
+/// Whether the value is this one, begins with it, or holds it as a token.
 fn fits(kind: Want, want: &[u8], value: &[u8]) -> bool
     ensures { result ≡ fits kind want.now value.now }
 {
     match kind {
         Want::Value => is_same_text(value, want),
+        Want::Front => begins_with(value, want),
         Want::Token => has_token(want, value),
     }
+}
+
+/// Whether the value begins with this text, in any case of its ASCII letters.
+fn begins_with(value: &[u8], front: &[u8]) -> bool
+    ensures { result ≡ is_same_text (take (length front.now) value.now) front.now }
+{
+    if value.len() < front.len() {
+        return is_same_text(value, front);
+    }
+    is_same_text(&value[..front.len()], front)
 }
 
 /// Whether the texts are the same, in any case of their ASCII letters.

@@ -58,7 +58,7 @@ pub struct RequestView<'r> {
 
 impl<'r> RequestView<'r> {
     ghost use Rattle.std.specs.Prelude.{◌≡◌, map};
-    ghost use Rattle.http_edge.specs.Asks.{is_head, closes, asks_upgrade, asks_early};
+    ghost use Rattle.http_edge.specs.Asks.{is_head, closes, asks_upgrade, starts_on_head, asks_early};
     ghost use Rattle.http_edge.specs.Reader.{request_of};
 
     /// The method, as GET.
@@ -122,13 +122,20 @@ impl<'r> RequestView<'r> {
     pub fn asks_early(&self) -> bool
         ensures { result ≡ asks_early (request_of self.now) }
     {
-        has_field(
-            self.head(),
-            self.spans(),
-            b"x-engine-early",
-            Want::Value,
-            b"wait",
-        )
+        let (head, spans) = (self.head(), self.spans());
+        if has_field(head, spans, b"x-engine-early", Want::Value, b"no") {
+            return false;
+        }
+        has_field(head, spans, b"x-engine-early", Want::Value, b"wait") || self.starts_on_head()
+    }
+
+    /// Whether its client starts a container only once it has the head of its wait.
+    fn starts_on_head(&self) -> bool
+        ensures { result ≡ starts_on_head (request_of self.now) }
+    {
+        let (head, spans) = (self.head(), self.spans());
+        has_field(head, spans, b"user-agent", Want::Front, b"Docker-Client/")
+            || has_field(head, spans, b"user-agent", Want::Front, b"Go-http-client/")
     }
 
     fn head(&self) -> &'r [u8]
