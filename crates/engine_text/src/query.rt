@@ -13,19 +13,27 @@ fn is_blank(c: u8) -> bool
 fn without_first_blanks(text: &[u8]) -> &[u8]
     ensures { result.now ≡ without_first_blanks text.now }
 {
-    match text {
-        [first, rest @ ..] if is_blank(*first) => without_first_blanks(rest),
-        _ => text,
+    let mut left = text;
+    while let [first, rest @ ..] = left {
+        if !is_blank(*first) {
+            break;
+        }
+        left = rest;
     }
+    left
 }
 
 fn without_last_blanks(text: &[u8]) -> &[u8]
     ensures { result.now ≡ without_last_blanks text.now }
 {
-    match text {
-        [rest @ .., last] if is_blank(*last) => without_last_blanks(rest),
-        _ => text,
+    let mut left = text;
+    while let [rest @ .., last] = left {
+        if !is_blank(*last) {
+            break;
+        }
+        left = rest;
     }
+    left
 }
 
 /// Whether both are the same in any ASCII case.
