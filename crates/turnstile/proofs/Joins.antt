@@ -2,17 +2,19 @@
 use Rattle.std.proofs.Common.{◌≡◌, ◌≢◌, ℕ, ◌+◌, ◌<◌, ◌≤◌, List, [], ◌∷◌, ◌++◌, append-nil, length, set, Bool, true, false, true≢false, Option, refl, sym, ap, ◌∙◌, ⊎_elim, arith}
 use Rattle.std.specs.Prelude.{if◌then◌else◌, nat_lt}
 use Rattle.std.proofs.lemmas.Bool.Decides.{nat_tests}
-use mathlib.Core.Option.{some}
+use mathlib.Core.Option.{some, some-injective}
+use mathlib.Core.Logic.{dite}
+use native.Mathlib.Decide.{ℕ_discrete}
 use lib.ListN.{get_elem?}
 use Rattle.atomic_table.specs.Table.{State, Joins}
-use Rattle.atomic_table.proofs.Lists.{at_set}
+use Rattle.atomic_table.proofs.Lists.{at_set, set_here, set_else}
 use Rattle.turnstile.specs.declared.view.View.{View}
 use Rattle.turnstile.specs.Claims.{Claim, pair_claim, times, longer, Each, EachFront, Stands}
 use Rattle.turnstile.specs.Views.{claims, weight, turns, total, joined_at, joined, spent}
-use Rattle.turnstile.specs.Rule.{Fits, IsKept}
+use Rattle.turnstile.specs.Rule.{LongestSeen, Fits, IsKept}
 use Rattle.turnstile.proofs.Lists.{same_end, later_none}
 use Rattle.turnstile.proofs.Totals.{total_set, times-append, each_to, each_append, each_first, each_last}
-use Rattle.turnstile.proofs.Keeps.{each_set, weight_live}
+use Rattle.turnstile.proofs.Keeps.{each_set, in_range, nothing_behind, weight_live}
 
 module _ {S C V : Type 0} (author : S → Option ℕ) (legal : C → List S → Type 0) (history : V → List S) (charter : V → C) where
   abbrev W : Type 0
@@ -60,6 +62,27 @@ module _ {S C V : Type 0} (author : S → Option ℕ) (legal : C → List S → 
       let t = same_end author w.seen v.seen g.one_history.more f.one_history.more (sym g.one_history.goes_on ∙ f.one_history.goes_on) le in
       both_fits now all next v w f v.seen f.one_history.more (([], sym (append-nil v.seen)), ((t.0, t.1), tt)) off f.one_history.seen_legal f.one_history.goes_on f.numbers.stand (stand_later now g.one_history.more t.0 f.one_history.more t.2 (claims w) g.numbers.stand)
 
+  longer_by : (t : Bool) (a b : List S) → nat_lt (length a) (length b) ≡ t → (length a ≤ length (if t then b else a)) × (length b ≤ length (if t then b else a))
+  longer_by true a b is = (grind (arith, nat_tests), omega arith)
+  longer_by false a b is = (omega arith, grind (arith, nat_tests))
+
+  -- what is as long as the whole is the whole
+  is_all : (now seen more part : List S) → now ≡ seen ++ more → part ≡ now → length part ≤ length seen → seen ≡ now
+  is_all now seen more part is whole le = sym (is ∙ (ap (λ l. seen ++ l) (nothing_behind seen now more is (let e = ap length whole in omega arith)) ∙ append-nil seen))
+
+  -- the one that both make has seen all where one of them had
+  longest_joined : (now : List S) (views : List W) (id : ℕ) (v : W) (other : ℕ) (w b sp : W) (more : List S) → get_elem? views id ≡ some v → get_elem? views other ≡ some w → ¬ (other ≡ id) → b.spent ≡ false
+      → now ≡ b.seen ++ more → length v.seen ≤ length b.seen → length w.seen ≤ length b.seen → LongestSeen now views → LongestSeen now (set (set views id b) other sp)
+  longest_joined now views id v other w b sp more at on apart live is le le' l =
+      let here : get_elem? (set (set views id b) other sp) id ≡ some b = set_else (set views id b) other id sp (λ e. apart (sym e)) ∙ set_here views id b (in_range views id v at) in
+      let both : (u : W) → u.seen ≡ now → length u.seen ≤ length b.seen → LongestSeen now (set (set views id b) other sp) =
+      λ u e k. record { id = id; view = b; at = here; live = live; all = is_all now b.seen more u.seen is e k } in
+      dite (ℕ_discrete l.id id)
+      (λ same. both v (ap (λ (u : W). u.seen) (some-injective v l.view (sym at ∙ (ap (λ j. get_elem? views j) (sym same) ∙ l.at))) ∙ l.all) le)
+      (λ not_id. dite (ℕ_discrete l.id other)
+      (λ same. both w (ap (λ (u : W). u.seen) (some-injective w l.view (sym on ∙ (ap (λ j. get_elem? views j) (sym same) ∙ l.at))) ∙ l.all) le')
+      (λ neither. record { id = l.id; view = l.view; at = set_else (set views id b) other l.id sp neither ∙ (set_else views id l.id b not_id ∙ l.at); live = l.live; all = l.all }))
+
   pub joins : (id : ℕ) (v : W) (other : ℕ) (w : W) → v.spent ≡ false → w.spent ≡ false → v.holds_turn ≡ false → w.holds_turn ≡ false → Joins K id v other w (joined v w) spent
   joins id v other w live live_w off off_w s k at apart there =
       let on : get_elem? s.views other ≡ some w = ⊎_elim (λ (t : (other ≡ id) × (joined v w ≡ w)). absurd (apart t.0)) (λ (t : (other ≢ id) × (get_elem? s.views other ≡ some w)). t.1) (at_set s.views id other (joined v w) w there) in
@@ -87,6 +110,9 @@ module _ {S C V : Type 0} (author : S → Option ℕ) (legal : C → List S → 
           counted = sum turns off_turns ∙ k.one_holder.counted;
         };
         now_legal = k.now_legal;
+        longest = (let lens = longer_by (nat_lt (length v.seen) (length w.seen)) v.seen w.seen refl in
+            let fits = fits_joined k.now k.all k.next v w off f g (nat_lt (length v.seen) (length w.seen)) refl in
+            longest_joined k.now s.views id v other w b sp fits.one_history.more at on apart live fits.one_history.goes_on lens.0 lens.1 k.longest);
         each = each_set author legal history charter k.now k.all k.next (set s.views id b) other sp (λ t. absurd (true≢false t))
             (λ j u _ q on_u. each_set author legal history charter k.now k.all k.next s.views id b (λ _. fits_joined k.now k.all k.next v w off f g (nat_lt (length v.seen) (length w.seen)) refl) (λ i x _ r on_x. k.each i x r on_x) j u q on_u);
         numbers_differ = record {

@@ -3,21 +3,36 @@ use Rattle.std.proofs.Common.{◌≡◌, ◌≢◌, ◌⊎◌, ℕ, zero, suc, �
 use Rattle.std.specs.Prelude.{◌==◌, if◌then◌else◌, slice_index}
 use mathlib.Core.Option.{some, none, some-ne-none, some-injective}
 use mathlib.Core.Option as maybe
+use mathlib.Core.Logic.{dite}
+use native.Mathlib.Decide.{ℕ_discrete}
 use lib.ListN.{get_elem?}
 use prog.Atomic.{either}
 use Rattle.atomic_table.specs.Table.{State, Me, Act, Valid, keeps, takes, gives, stepped, carried_after, Allows}
-use Rattle.atomic_table.proofs.Lists.{at_set}
+use Rattle.atomic_table.proofs.Lists.{at_set, set_here, set_else}
 use Rattle.turnstile.specs.declared.view.View.{View}
 use Rattle.turnstile.specs.Steps.{steps_by, only_by, ByOne}
 use Rattle.turnstile.specs.Claims.{bit, Claim, pair_claim, times, Each, Fresh, Stands}
-use Rattle.turnstile.specs.Views.{claims, weight, turns, total, entered, refused, raised, left}
+use Rattle.turnstile.specs.Views.{claims, ClaimsAll, weight, turns, total, entered, refused, raised, left}
 use Rattle.turnstile.specs.Plays.{Meets, Enters, RaisesTo, Leaves, Learns}
-use Rattle.turnstile.specs.Rule.{Fits, IsKept}
+use Rattle.turnstile.specs.Rule.{LongestSeen, Fits, IsKept}
 use Rattle.turnstile.proofs.Lists.{steps_by-append, none_of_others}
 use Rattle.turnstile.proofs.Totals.{total_set, total_one, total_two, none_claim, each_to, each_both}
 
 some_same : {A : Type 0} {a b : A} → Some a ≡ Some b → a ≡ b
 some_same e = cc
+
+pub in_range : {A : Type 0} (l : List A) (i : ℕ) (a : A) → get_elem? l i ≡ some a → i < length l
+in_range [] i a at = absurd (some-ne-none a (sym at))
+in_range (x ∷ l) zero a at = omega arith
+in_range (x ∷ l) (suc i) a at = let e = in_range l i a at in omega arith
+
+none_left : {A : Type 0} (l : List A) → length l ≡ 0 → l ≡ []
+none_left [] e = refl
+none_left (x ∷ l) e = absurd (omega (arith, e))
+
+-- nothing is behind a whole list
+pub nothing_behind : {A : Type 0} (seen now more : List A) → now ≡ seen ++ more → length now ≤ length seen → more ≡ []
+nothing_behind seen now more is le = none_left more (let e = ap length is ∙ length-append seen more in omega (arith, e, le))
 
 module _ {S C V : Type 0} (author : S → Option ℕ) (legal : C → List S → Type 0) (history : V → List S) (charter : V → C) where
   abbrev W : Type 0
@@ -41,6 +56,16 @@ module _ {S C V : Type 0} (author : S → Option ℕ) (legal : C → List S → 
   each_set now all next views id w mine others j u e live = ⊎_elim (λ (t : (j ≡ id) × (w ≡ u)). subst (λ (x : W). x.spent ≡ false → F now all next x) t.1 mine live)
       (λ (t : (j ≢ id) × (get_elem? views j ≡ some u)). others j u t.0 t.1 live) (at_set views id j w u e)
 
+  -- one that has seen all is still there, where the view that changes has then if it had
+  pub longest_set : (now : List S) (views : List W) (id : ℕ) (v w : W) → get_elem? views id ≡ some v → w.spent ≡ false → (v.seen ≡ now → w.seen ≡ now) → LongestSeen now views → LongestSeen now (set views id w)
+  longest_set now views id v w at live go l = dite (ℕ_discrete l.id id)
+      (λ same. record { id = id; view = w; at = set_here views id w (in_range views id v at); live = live; all = go (ap (λ (u : W). u.seen) (some-injective v l.view (sym at ∙ (ap (λ j. get_elem? views j) (sym same) ∙ l.at))) ∙ l.all) })
+      (λ other. record { id = l.id; view = l.view; at = set_else views id l.id w other ∙ l.at; live = l.live; all = l.all })
+
+  -- the one whose view changes has seen all
+  longest_here : (now : List S) (views : List W) (id : ℕ) (v w : W) → get_elem? views id ≡ some v → w.spent ≡ false → w.seen ≡ now → LongestSeen now (set views id w)
+  longest_here now views id v w at live is = record { id = id; view = w; at = set_here views id w (in_range views id v at); live = live; all = is }
+
   -- a view that claims the same numbers
   once_same : (views : List W) (id : ℕ) (v w : W) → get_elem? views id ≡ some v → ((n : ℕ) → weight n w ≡ weight n v) → (n : ℕ) → total (weight n) (set views id w) ≡ total (weight n) views
   once_same views id v w at same n = let e = total_set (weight n) views id v w at in let d = same n in omega arith
@@ -54,6 +79,27 @@ module _ {S C V : Type 0} (author : S → Option ℕ) (legal : C → List S → 
   turn_off : (v : W) → v.holds_turn ≡ false → turns v ≡ 0
   turn_off v off = ap bit off
 
+  pub weight_live : (n : ℕ) (v : W) → v.spent ≡ false → weight n v ≡ times n (claims v)
+  weight_live n v live = ap (λ x. if x then 0 else times n (claims v)) live
+
+  own_once : (v : W) (cs : List (Claim S)) → times v.number ((v.number, v.own_calls) ∷ cs) ≡ 1 + times v.number cs
+  own_once v cs = let e : (v.number == v.number) ≡ true = Rattle.std.proofs.Common.eq-eqb v.number v.number refl in ap (λ (x : Bool). bit x + times v.number cs) e
+
+  own_weight : (v : W) → v.spent ≡ false → 1 ≤ weight v.number v
+  own_weight v live = let a = weight_live v.number v live in let c = own_once v (pair_claim v.pair v.number ++ v.joined_calls) in omega arith
+
+  -- no other pass is left beside one that claims all numbers
+  alone : (s : St) (k : K s) (id j : ℕ) (v u : W) → j ≢ id → get_elem? s.views id ≡ some v → get_elem? s.views j ≡ some u → v.spent ≡ false → u.spent ≡ false → v.number ≡ 4294967295 → ClaimsAll v → ⊥
+  alone s k id j v u other at on live live_u top all = dite (ℕ_discrete u.number v.number)
+      (λ same. let t = total_two (weight v.number) s.views id j v u other at on in let o = k.numbers_differ.once v.number in let a = own_weight v live in
+      let b : 1 ≤ weight v.number u = subst (λ (n : ℕ). 1 ≤ weight n u) same (own_weight u live_u) in absurd (omega arith))
+      (λ differ. ⊎_elim
+      (λ (fresh : Fresh v.next u.number). let t = total_one (weight u.number) s.views j u on in let a = own_weight u live_u in
+      let o = (k.numbers_differ.fresh u.number (subst (λ (z : ℕ). Fresh z u.number) ((k.each id v at live).numbers.root_next top) fresh)).0 in absurd (omega arith))
+      (λ (mine : 1 ≤ times u.number (claims v)). let t = total_two (weight u.number) s.views id j v u other at on in let o = k.numbers_differ.once u.number in
+      let a = own_weight u live_u in let b = weight_live u.number v live in absurd (omega arith))
+      (all u.number differ))
+
   -- the view of one that met the value
   meets : (s : St) (k : K s) (id : ℕ) (v : W) (y : V) → get_elem? s.views id ≡ some v → v.spent ≡ false → history y ≡ k.now → charter y ≡ k.all → Meets author legal history charter v y
   meets s k id v y at live hist one =
@@ -64,6 +110,10 @@ module _ {S C V : Type 0} (author : S → Option ℕ) (legal : C → List S → 
         one_charter = f.one_history.one_charter ∙ ap Some (sym one);
         stand = subst (λ (h : List S). Each (Stands author h f.one_history.more) (claims v)) (sym hist) f.numbers.stand;
         no_fresh = λ r n fresh. ap (steps_by author n) hist ∙ (k.numbers_differ.fresh n (subst (λ (z : ℕ). Fresh z n) (f.numbers.root_next r) fresh)).1;
+        whole = λ top all. let l = k.longest in dite (ℕ_discrete l.id id)
+            (λ same. let e : v.seen ≡ k.now = ap (λ (u : W). u.seen) (some-injective v l.view (sym at ∙ (ap (λ j. get_elem? s.views j) (sym same) ∙ l.at))) ∙ l.all in
+            nothing_behind v.seen k.now f.one_history.more f.one_history.goes_on (let n = ap length e in omega arith))
+            (λ other. absurd (alone s k id l.id v l.view other at l.at live l.live top all));
       }
 
   enters_at : (s : St) (k : K s) (id : ℕ) (v : W) (cs : List (ℕ × Option V)) → get_elem? s.views id ≡ some v → v.spent ≡ false → v.holds_turn ≡ false → (d : ℕ) → k.door ≡ d → d ≤ 1
@@ -86,6 +136,7 @@ module _ {S C V : Type 0} (author : S → Option ℕ) (legal : C → List S → 
           counted = turns_to s.views id v w k.door 1 at k.one_holder.counted (let o = turn_off v off in omega arith);
         };
         now_legal = k.now_legal;
+        longest = longest_here k.now s.views id v w at live hist;
         each = each_set k.now k.all k.next s.views id w
             (λ _. record {
               one_history = record {
@@ -128,6 +179,7 @@ module _ {S C V : Type 0} (author : S → Option ℕ) (legal : C → List S → 
           counted = turns_to s.views id v w k.door 1 at k.one_holder.counted (omega arith);
         };
         now_legal = k.now_legal;
+        longest = longest_set k.now s.views id v w at live (λ e. e) k.longest;
         each = each_set k.now k.all k.next s.views id w
             (λ _. let f = k.each id v at live in record { one_history = record { seen_legal = f.one_history.seen_legal; more = f.one_history.more; goes_on = f.one_history.goes_on; one_charter = f.one_history.one_charter }; numbers = record { stand = f.numbers.stand; pair_low = f.numbers.pair_low; root_next = f.numbers.root_next }; holder_has_seen = f.holder_has_seen; fronts = f.fronts })
             (λ j u _ q on. k.each j u q on);
@@ -153,12 +205,6 @@ module _ {S C V : Type 0} (author : S → Option ℕ) (legal : C → List S → 
 
   other_off : (s : St) (k : K s) (id j : ℕ) (v u : W) → j ≢ id → get_elem? s.views id ≡ some v → get_elem? s.views j ≡ some u → v.holds_turn ≡ true → ¬ (u.holds_turn ≡ true)
   other_off s k id j v u other at on_j on on_u = absurd (let a = total_two turns s.views id j v u other at on_j in let b = turn_on v on in let b' = turn_on u on_u in let c = k.one_holder.counted in let d = k.one_holder.at_most_one in omega arith)
-
-  pub weight_live : (n : ℕ) (v : W) → v.spent ≡ false → weight n v ≡ times n (claims v)
-  weight_live n v live = ap (λ x. if x then 0 else times n (claims v)) live
-
-  own_once : (v : W) (cs : List (Claim S)) → times v.number ((v.number, v.own_calls) ∷ cs) ≡ 1 + times v.number cs
-  own_once v cs = let e : (v.number == v.number) ≡ true = Rattle.std.proofs.Common.eq-eqb v.number v.number refl in ap (λ (x : Bool). bit x + times v.number cs) e
 
   -- the numbers of the others' claims differ from one's own
   pub others_differ : (s : St) (k : K s) (id j : ℕ) (v u : W) → j ≢ id → get_elem? s.views id ≡ some v → get_elem? s.views j ≡ some u → v.spent ≡ false → u.spent ≡ false → Each (λ c. c.0 ≢ v.number) (claims u)
@@ -204,6 +250,7 @@ module _ {S C V : Type 0} (author : S → Option ℕ) (legal : C → List S → 
             counted = turns_to s.views id v w k.door 1 at k.one_holder.counted (let d = door_held s k id v at on in omega arith);
           };
           now_legal = ok';
+          longest = longest_here h s.views id v w at live refl;
           each = each_set h k.all k.next s.views id w
               (λ _. record {
                 one_history = record {
@@ -273,6 +320,7 @@ module _ {S C V : Type 0} (author : S → Option ℕ) (legal : C → List S → 
             counted = turns_to s.views id v w k.door 0 at k.one_holder.counted (let o = turn_on v on in omega arith);
           };
           now_legal = k.now_legal;
+          longest = longest_set k.now s.views id v w at live (λ e. e) k.longest;
           each = each_set k.now k.all k.next s.views id w
               (λ _. record { one_history = record { seen_legal = f.one_history.seen_legal; more = f.one_history.more; goes_on = f.one_history.goes_on; one_charter = f.one_history.one_charter }; numbers = record { stand = f.numbers.stand; pair_low = f.numbers.pair_low; root_next = f.numbers.root_next }; holder_has_seen = λ t. absurd (true≢false (sym t)); fronts = f.fronts })
               (λ j u _ q on_u. k.each j u q on_u);
@@ -320,6 +368,7 @@ module _ {S C V : Type 0} (author : S → Option ℕ) (legal : C → List S → 
           counted = turns_to s.views id v v k.door k.door at k.one_holder.counted (omega arith);
         };
         now_legal = k.now_legal;
+        longest = longest_set k.now s.views id v v at live (λ e. e) k.longest;
         each = each_set k.now k.all k.next s.views id v (λ _. f) (λ j u _ q on. k.each j u q on);
         numbers_differ = record {
           once = λ n. let t = once_same s.views id v v at (λ m. refl) n in let o = k.numbers_differ.once n in omega arith;

@@ -29,6 +29,7 @@ module _ {S C V : Type 0} (author : S → Option ℕ) (legal : C → List S → 
     door = 0;
     one_holder = record { words = ap (λ k. 0 ∷ k ∷ []) count; at_most_one = omega arith; counted = refl };
     now_legal = ok;
+    longest = record { id = 0; view = r; at = refl; live = refl; all = refl };
     each = λ j v q _. subst (Fits author legal (history y) (charter y) 0) (only r j v q)
         record {
           one_history = record { seen_legal = ok; more = []; goes_on = sym (append-nil (history y)); one_charter = refl };

@@ -5,15 +5,15 @@ use mathlib.Core.Option.{some}
 use mathlib.Core.Logic.{dite}
 use lib.ListN.{get_elem?}
 use Rattle.atomic_table.specs.Table.{State, Splits}
-use Rattle.atomic_table.proofs.Lists.{at_snoc}
+use Rattle.atomic_table.proofs.Lists.{at_snoc, at_longer}
 use Rattle.turnstile.specs.declared.view.View.{View}
 use Rattle.turnstile.specs.Steps.{steps_by}
 use Rattle.turnstile.specs.Claims.{Claim, pair_claim, times, passed, Each, Fresh, Stands}
 use Rattle.turnstile.specs.Views.{claims, weight, turns, total, newcomer, admitted, parted, admits, admittee, MayAdmit}
-use Rattle.turnstile.specs.Rule.{Fits, IsKept}
+use Rattle.turnstile.specs.Rule.{LongestSeen, Fits, IsKept}
 use Rattle.turnstile.proofs.Lists.{later_none}
 use Rattle.turnstile.proofs.Totals.{total_set, total_snoc, times-append, each_to, each_append, each_first, each_last, each_passed, row, row_fresh}
-use Rattle.turnstile.proofs.Keeps.{each_set, others_differ, weight_live}
+use Rattle.turnstile.proofs.Keeps.{each_set, longest_set, others_differ, weight_live}
 
 module _ {S C V : Type 0} (author : S → Option ℕ) (legal : C → List S → Type 0) (history : V → List S) (charter : V → C) where
   abbrev W : Type 0
@@ -31,6 +31,11 @@ module _ {S C V : Type 0} (author : S → Option ℕ) (legal : C → List S → 
   each_snoc : (now : List S) (all : C) (next : ℕ) (views : List W) (w : W) → F now all next w → ((j : ℕ) (u : W) → get_elem? views j ≡ some u → u.spent ≡ false → F now all next u)
       → (j : ℕ) (u : W) → get_elem? (views ++ w ∷ []) j ≡ some u → u.spent ≡ false → F now all next u
   each_snoc now all next views w mine others j u e on = ⊎_elim (λ t. others j u t on) (λ (t : w ≡ u). subst (F now all next) t mine) (at_snoc views w u j e)
+
+  -- one that has seen all is still there, with one pass more
+  longest_split : (now : List S) (views : List W) (id : ℕ) (v a b : W) → get_elem? views id ≡ some v → a.spent ≡ false → a.seen ≡ v.seen → LongestSeen now views → LongestSeen now (set views id a ++ b ∷ [])
+  longest_split now views id v a b at live same l = let m = longest_set author legal history charter now views id v a at live (λ e. same ∙ e) l in
+      record { id = m.id; view = m.view; at = at_longer (set views id a) (b ∷ []) m.id m.view m.at; live = m.live; all = m.all }
 
   -- the total after a split
   total_split : (f : W → ℕ) (views : List W) (id : ℕ) (v a b : W) (extra : ℕ) → get_elem? views id ≡ some v → f a + f b ≡ f v + extra → total f (set views id a ++ b ∷ []) ≡ total f views + extra
@@ -61,6 +66,7 @@ module _ {S C V : Type 0} (author : S → Option ℕ) (legal : C → List S → 
           counted = total_split turns s.views id v a b 0 at (omega arith) ∙ (let t = k.one_holder.counted in omega arith);
         };
         now_legal = k.now_legal;
+        longest = longest_split k.now s.views id v a b at live refl k.longest;
         each = each_snoc k.now k.all k.next (set s.views id a) b
             record {
               one_history = record {
@@ -123,6 +129,7 @@ module _ {S C V : Type 0} (author : S → Option ℕ) (legal : C → List S → 
           counted = total_split turns s.views id v a b 0 at (omega arith) ∙ (let t = k.one_holder.counted in omega arith);
         };
         now_legal = k.now_legal;
+        longest = longest_split k.now s.views id v a b at live refl k.longest;
         each = each_snoc k.now k.all (n + 1) (set s.views id a) b
             record {
               one_history = record {

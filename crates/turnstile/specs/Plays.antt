@@ -3,7 +3,7 @@ use Rattle.std.specs.Prelude.{◌≡◌, ◌≢◌, ℕ, List, [], ◌∷◌, �
 use Rattle.atomic_table.specs.Table.{Me, rest}
 use Rattle.turnstile.specs.Steps.{steps_by}
 use Rattle.turnstile.specs.Claims.{Each, EachFront, Fresh, Stands}
-use Rattle.turnstile.specs.Views.{claims, entered, refused, raised, left}
+use Rattle.turnstile.specs.Views.{claims, ClaimsAll, entered, refused, raised, left}
 use Rattle.turnstile.specs.declared.view.View.{View}
 
 module _ {S C : Type 0} (author : S → Option ℕ) (legal : C → List S → Type 0) where
@@ -27,6 +27,9 @@ module _ {S C : Type 0} (author : S → Option ℕ) (legal : C → List S → Ty
       -- the root: each call bears its number, or one that it admitted or that one's input
       pub no_fresh : v.number ≡ 4294967295
           → (n : ℕ) → Fresh v.next n → steps_by author n (history value) ≡ []
+      -- the root that claims all numbers, since those that it admitted were joined in: nobody else
+      -- made a step behind what it has seen
+      pub whole : v.number ≡ 4294967295 → ClaimsAll v → more ≡ []
 
     -- the door was open: the pass has the turn and the value
     pub record Entered (m n : Me (Option V) (View S C)) : Type 0 where

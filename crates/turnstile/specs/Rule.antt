@@ -30,6 +30,15 @@ module _ {V S C : Type 0} where
         → (y : V) × (s.homes ≡ some (Some y) ∷ []) × (history y ≡ now) × (charter y ≡ all)
     pub out : door ≡ 1 → s.homes ≡ none ∷ []
 
+module _ {S C : Type 0} where
+  -- The history is the longest that a pass has seen: one that isn't spent has seen all of it.
+  pub record LongestSeen (now : List S) (views : List (View S C)) : Type 0 where
+    pub id : ℕ
+    pub view : View S C
+    pub at : get_elem? views id ≡ some view
+    pub live : view.spent ≡ false
+    pub all : view.seen ≡ now
+
 module _ {S C : Type 0} (author : S → Option ℕ) (legal : C → List S → Type 0) where
   -- One history: what a pass has seen is legal and begins the one history, and all have one charter.
   pub record OneHistory (now : List S) (all : C) (v : View S C) : Type 0 where
@@ -65,6 +74,7 @@ module _ {S C : Type 0} (author : S → Option ℕ) (legal : C → List S → Ty
       pub door : ℕ
       pub one_holder : OneHolder door (length now) s
       pub now_legal : legal all now
+      pub longest : LongestSeen now s.views
       pub each : (j : ℕ) (v : View S C) → get_elem? s.views j ≡ some v → v.spent ≡ false
           → Fits now all next v
       pub numbers_differ : NumbersDiffer author now next s

@@ -1,6 +1,6 @@
 -- What a pass knows, and how each step changes it (own: passes of one history).
-use Rattle.std.specs.Prelude.{◌≡◌, ◌⊎◌, ℕ, ◌+◌, ◌-◌, ◌<◌, ◌≤◌, ◌==◌, List, [], ◌∷◌, ◌++◌, Bool, true, false, Option, Some, None, if◌then◌else◌}
-use Rattle.turnstile.specs.Claims.{Claim, bit, pair_claim, times, passed, longer}
+use Rattle.std.specs.Prelude.{◌≡◌, ◌≢◌, ◌⊎◌, ℕ, ◌+◌, ◌-◌, ◌<◌, ◌≤◌, ◌==◌, List, [], ◌∷◌, ◌++◌, Bool, true, false, Option, Some, None, if◌then◌else◌}
+use Rattle.turnstile.specs.Claims.{Claim, Fresh, bit, pair_claim, times, passed, longer}
 use Rattle.turnstile.specs.Steps.{steps_by}
 use Rattle.turnstile.specs.declared.view.View.{View}
 
@@ -12,6 +12,10 @@ module _ {S C : Type 0} where
   -- how often a pass claims the number
   abbrev pub weight : ℕ → View S C → ℕ
   weight n v = if v.spent then 0 else times n (claims v)
+
+  -- each other number is fresh, or the pass claims it
+  abbrev pub ClaimsAll : View S C → Type 0
+  ClaimsAll v = (n : ℕ) → n ≢ v.number → Fresh v.next n ⊎ (1 ≤ times n (claims v))
 
   -- 1 where the pass holds the turn
   abbrev pub turns : View S C → ℕ
