@@ -11,7 +11,8 @@ use Rattle.engine_text.specs.declared.step.Step.{Step}
 use Rattle.json_laws.specs.Sound.{line_text}
 use Rattle.serde_json.specs.Written.{compact_text}
 use Rattle.machine_model.specs.History.{Charter, Extends}
-use Rattle.machine_model.specs.JournalLines.{entries_of, entry_value, journal_line, journal_lines}
+use Rattle.history_replay.specs.Entries.{entries_of}
+use Rattle.history_replay.specs.JournalLines.{entry_value, journal_line, journal_lines}
 use Rattle.session_model.specs.declared.turned.Part.{Part}
 use Rattle.session_model.specs.declared.turned.Part.TheVariants as P
 use Rattle.session_model.specs.Exchange.{IsBody}

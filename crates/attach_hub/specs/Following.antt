@@ -10,7 +10,7 @@ use Rattle.engine_text.specs.declared.step.Step.{Step}
 use Rattle.machine_model.specs.State.{State}
 use Rattle.machine_model.specs.LogStream.{is_kept, log_of, log_reach}
 use Rattle.machine_model.specs.History.{Charter, Extends, calls_of, events_of, state_after}
-use Rattle.machine_model.specs.JournalLines.{entries_of}
+use Rattle.history_replay.specs.Entries.{entries_of}
 use Rattle.http_edge.specs.Chunks.{IsChunked, chunk_text}
 use Rattle.session_model.specs.declared.followed.Followed.{Followed}
 use Rattle.session_model.specs.declared.followed.Followed.TheVariants as F

@@ -3,7 +3,7 @@ ghost use Rattle.std.specs.Prelude.{ℕ, ◌≡◌, ◌≤◌, length};
 ghost use Rattle.engine_text.specs.declared.reply.Reply.TheVariants.{EventStream, JournalStream, LogStream};
 ghost use Rattle.engine_ports.specs.Sink.{WriteSays};
 ghost use Rattle.machine_model.specs.History.{events_of, state_after};
-ghost use Rattle.machine_model.specs.JournalLines.{entries_of};
+ghost use Rattle.history_replay.specs.Entries.{entries_of};
 ghost use Rattle.session_model.specs.Pass.{IsNumber};
 ghost use Rattle.attach_hub.specs.Following.{Follows, FollowsSince, MayFollow, written_of};
 ghost use Rattle.attach_hub.specs.Streams.{JournalPart, PartOf, StandsIn, first_of, reply_of};

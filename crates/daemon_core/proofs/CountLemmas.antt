@@ -10,7 +10,7 @@ use Rattle.machine_model.specs.State.{State}
 use Rattle.machine_model.specs.Chain.{Effect, still}
 use Rattle.machine_model.specs.Due.{least_due}
 use Rattle.machine_model.specs.History.{Charter, AreLawful, IsLegal, after_step, latest, opening_state, state_after, state_from}
-use Rattle.machine_model.specs.JournalLines.{entries_from, entries_of}
+use Rattle.history_replay.specs.Entries.{entries_from, entries_of}
 use Rattle.machine_model.specs.Step.{at_moment, step_of}
 use Rattle.machine_model.proofs.ClosureLemmas.{IsClosed, runs_call, runs_due}
 use Rattle.machine_model.proofs.Laws.{consistency_law}

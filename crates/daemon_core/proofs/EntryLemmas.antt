@@ -9,7 +9,8 @@ use Rattle.engine_text.specs.declared.step.Step.{Step}
 use Rattle.history_replay.specs.Kept.{Kept}
 use Rattle.history_replay.specs.Texts.{EntryHasTexts}
 use Rattle.machine_model.specs.History.{Charter, IsLegal}
-use Rattle.machine_model.specs.JournalLines.{entries_of, journal_line}
+use Rattle.history_replay.specs.Entries.{entries_of}
+use Rattle.history_replay.specs.JournalLines.{journal_line}
 use Rattle.session_model.specs.declared.turned.Part.{Part}
 use Rattle.session_model.specs.declared.turned.Part.TheVariants as P
 use Rattle.daemon_core.specs.JournalTurns.{JournalSays, JournalTurn, entry_lines}

@@ -9,7 +9,7 @@ use Rattle.history_replay.specs.Kept.{Kept, steps_in}
 use Rattle.history_replay.specs.Stored.{due_steps, steps_of, stored_history}
 use Rattle.machine_model.specs.State.{State}
 use Rattle.machine_model.specs.History.{Charter, after_step, opening_state, reply_of, state_after, state_from}
-use Rattle.machine_model.specs.JournalLines.{entries_from, entries_of}
+use Rattle.history_replay.specs.Entries.{entries_from, entries_of}
 use Rattle.daemon_core.specs.Keeping.{history_of, told_entries}
 use Rattle.daemon_core.specs.Telling.{IsLike}
 

@@ -3,7 +3,8 @@ use Rattle.std.specs.Prelude.{◌≡◌, ℕ, ◌+◌, ◌≤◌, List, [], ◌+
 use Rattle.std.specs.List.{flat_map}
 use Rattle.engine_text.specs.declared.step.Step.{Step}
 use Rattle.machine_model.specs.History.{Charter}
-use Rattle.machine_model.specs.JournalLines.{entries_of, journal_line}
+use Rattle.history_replay.specs.Entries.{entries_of}
+use Rattle.history_replay.specs.JournalLines.{journal_line}
 use Rattle.session_model.specs.Pass.{PassView}
 use Rattle.session_model.specs.Turning.{Turns}
 use Rattle.session_model.specs.declared.turned.Part.{Part}

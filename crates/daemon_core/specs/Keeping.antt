@@ -5,7 +5,7 @@ use Rattle.engine_text.specs.declared.step.Step.{Step}
 use Rattle.history_replay.specs.Kept.{Kept}
 use Rattle.history_replay.specs.Stored.{stored_history}
 use Rattle.machine_model.specs.History.{Charter}
-use Rattle.machine_model.specs.JournalLines.{entries_of}
+use Rattle.history_replay.specs.Entries.{entries_of}
 
 -- the steps that a journal stores: of each entry the due steps before it and its call, and the due steps since
 unfoldable pub history_of : Kept → List Step

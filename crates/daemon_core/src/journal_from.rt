@@ -1,6 +1,6 @@
 // A part of the journal.
 ghost use Rattle.std.specs.Prelude.{◌≡◌, ℕ, ◌++◌, OnErr, OnOk};
-ghost use Rattle.machine_model.specs.JournalLines.{journal_line};
+ghost use Rattle.history_replay.specs.JournalLines.{journal_line};
 ghost use Rattle.daemon_core.specs.JournalTurns.{JournalTurn};
 ghost use Rattle.daemon_core.specs.Passing.{whole_pass};
 

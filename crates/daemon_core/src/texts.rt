@@ -1,7 +1,7 @@
 // What a daemon's entries hold.
 ghost use Rattle.std.specs.Prelude.{All};
 ghost use Rattle.history_replay.specs.Texts.{EntryHasTexts};
-ghost use Rattle.machine_model.specs.JournalLines.{entries_of};
+ghost use Rattle.history_replay.specs.Entries.{entries_of};
 ghost use Rattle.daemon_core.specs.Keeping.{history_of};
 ghost use Rattle.daemon_core.specs.Passing.{charter};
 

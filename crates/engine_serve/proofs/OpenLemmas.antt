@@ -16,7 +16,7 @@ use Rattle.machine_model.specs.State.{State}
 use Rattle.machine_model.specs.Calls.Events.{first_event}
 use Rattle.machine_model.specs.Step.{at_moment}
 use Rattle.machine_model.specs.History.{Charter, events_of, opening_state, reply_of, state_after}
-use Rattle.machine_model.specs.JournalLines.{entries_of}
+use Rattle.history_replay.specs.Entries.{entries_of}
 use Rattle.machine_model.specs.Statuses.{is_reply_of}
 use Rattle.machine_model.proofs.Histories.{events_append}
 use Rattle.machine_model.proofs.Kept.PastLemmas.{events_counted}

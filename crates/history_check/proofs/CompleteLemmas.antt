@@ -9,7 +9,8 @@ use Rattle.serde_json.specs.Written.{compact_text}
 use Rattle.machine_model.specs.State.{State}
 use Rattle.machine_model.specs.Consistency.{IsConsistent}
 use Rattle.machine_model.specs.History.{after_step, opening_state, reply_of, IsLawfulCall, AreLawful}
-use Rattle.machine_model.specs.JournalLines.{entries_from, entries_of, journal_line}
+use Rattle.history_replay.specs.Entries.{entries_from, entries_of}
+use Rattle.history_replay.specs.JournalLines.{journal_line}
 use Rattle.machine_model.specs.Ready.{is_ready}
 use Rattle.machine_model.specs.Statuses.{ends_ticket, is_reply_of}
 use Rattle.machine_model.specs.Step.{at_moment}

@@ -7,7 +7,7 @@ use Rattle.engine_text.specs.declared.entry.Entry.{Entry}
 use Rattle.engine_text.specs.declared.step.Step.{Step}
 use Rattle.machine_model.specs.State.{State}
 use Rattle.machine_model.specs.History.{IsLawful, IsLawfulCall, after_step, has_ticket, reply_of}
-use Rattle.machine_model.specs.JournalLines.{reply_value}
+use Rattle.history_replay.specs.JournalLines.{reply_value}
 use Rattle.machine_model.specs.Ready.{is_ready}
 use Rattle.machine_model.proofs.Histories.{state_append}
 use Rattle.history_replay.specs.Stored.{due_steps}

@@ -16,7 +16,8 @@ use Rattle.machine_model.specs.Chain.{Effect}
 use Rattle.machine_model.specs.Call.{outcome_of}
 use Rattle.machine_model.specs.Consistency.{IsConsistent}
 use Rattle.machine_model.specs.History.{after_step, state_from, opening_state, reply_of, IsLawful, AreLawful}
-use Rattle.machine_model.specs.JournalLines.{call_value, reply_value, entries_from, journal_line}
+use Rattle.history_replay.specs.Entries.{entries_from}
+use Rattle.history_replay.specs.JournalLines.{call_value, reply_value, journal_line}
 use Rattle.machine_model.specs.Ready.{is_ready}
 use Rattle.machine_model.specs.Step.{at_moment}
 use Rattle.machine_model.proofs.Consistent.BackLemmas.{form_of}

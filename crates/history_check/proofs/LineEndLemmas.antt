@@ -13,7 +13,7 @@ use Rattle.serde_json.specs.Written.{number_text, comma_if, compact_text, items_
 use Rattle.json_laws.specs.Plain.{IsWhole, IsPlain, ArePlain, AreRising}
 use Rattle.json_laws.specs.Sound.{line_text}
 use Rattle.engine_text.specs.declared.entry.Entry.{Entry}
-use Rattle.machine_model.specs.JournalLines.{entry_value, journal_line}
+use Rattle.history_replay.specs.JournalLines.{entry_value, journal_line}
 use Rattle.history_replay.specs.Line.{HasLine, IsLine, BeginsWithLine}
 use Rattle.history_check.specs.Cutting.{HasNoLineEnd, IsFirstLine}
 

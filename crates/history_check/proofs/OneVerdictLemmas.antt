@@ -4,7 +4,7 @@ use Rattle.std.specs.Prelude.{decimal}
 use Rattle.std.proofs.lemmas.Bool.{false≢true, cases_lt}
 use Rattle.std.proofs.lemmas.List.{append_cancel_left}
 use Rattle.machine_model.specs.State.{State}
-use Rattle.machine_model.specs.JournalLines.{journal_line}
+use Rattle.history_replay.specs.JournalLines.{journal_line}
 use Rattle.history_replay.specs.Due.{TellsDueCount, IsLeastDueCount}
 use Rattle.history_replay.specs.Entry.{IsWrong, NoTicket, OtherDues, NotReady, OtherReply, IsRight, behind_entry}
 use Rattle.history_replay.specs.Line.{HasLine}

@@ -5,7 +5,7 @@ use Rattle.std.proofs.lemmas.Bool.Decides.{nat_tests}
 use Rattle.engine_text.specs.declared.entry.Entry.{Entry}
 use Rattle.engine_text.specs.declared.memory.NoMemory.{NoMemory}
 use Rattle.machine_model.specs.State.{State}
-use Rattle.machine_model.specs.JournalLines.{journal_line}
+use Rattle.history_replay.specs.JournalLines.{journal_line}
 use Rattle.history_replay.specs.Entry.{IsWrong}
 use Rattle.history_replay.specs.Line.{HasLine, IsLine, IsLineFault}
 use Rattle.history_replay.specs.Verdict.{IsVerdictFrom, AtEnd, AtNoLine, AtWrongLine, AfterRightLine}

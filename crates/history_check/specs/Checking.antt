@@ -2,7 +2,7 @@
 use Rattle.std.specs.Prelude.{◌≡◌, ℕ, List, ◌++◌, Option, Some, None}
 use Rattle.machine_model.specs.State.{State}
 use Rattle.machine_model.specs.History.{Charter}
-use Rattle.machine_model.specs.JournalLines.{journal_line}
+use Rattle.history_replay.specs.JournalLines.{journal_line}
 use Rattle.history_replay.specs.Line.{HasLine}
 use Rattle.history_replay.specs.Due.{IsDueCount, TellsDueCount, behind_dues}
 use Rattle.history_replay.specs.Entry.{IsWrong, IsRight, behind_entry}

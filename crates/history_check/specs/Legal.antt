@@ -2,7 +2,8 @@
 use Rattle.std.specs.Prelude.{◌≡◌, ℕ, List, length, All}
 use Rattle.std.specs.List.{flat_map}
 use Rattle.machine_model.specs.History.{Charter, IsCharter, IsLegal}
-use Rattle.machine_model.specs.JournalLines.{entries_of, journal_line}
+use Rattle.history_replay.specs.Entries.{entries_of}
+use Rattle.history_replay.specs.JournalLines.{journal_line}
 use Rattle.history_replay.specs.Stored.{steps_of}
 use Rattle.history_replay.specs.Texts.{EntryHasTexts}
 use Rattle.history_replay.specs.Verdict.{IsVerdict}

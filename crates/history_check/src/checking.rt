@@ -1,7 +1,7 @@
 // What is said of a journal (own: its lines are read from the first on, and its calls are made again).
 ghost use Rattle.std.specs.Prelude.{◌≤◌, IfOk};
 ghost use Rattle.machine_model.specs.History.{greatest_moment};
-ghost use Rattle.machine_model.specs.JournalLines.{journal_line};
+ghost use Rattle.history_replay.specs.JournalLines.{journal_line};
 ghost use Rattle.history_replay.specs.Line.{HasLine};
 ghost use Rattle.history_replay.specs.Verdict.{IsVerdict, IsVerdictFrom};
 ghost use Rattle.history_check.specs.Cutting.{IsFirstLine};

@@ -3,7 +3,7 @@ ghost use Rattle.std.specs.Prelude.{◌≡◌, IfOk, OnOk};
 ghost use Rattle.serde_json.specs.Written.{compact_text};
 ghost use Rattle.engine_text.specs.declared.step.Step as steps;
 ghost use Rattle.machine_model.specs.History.{IsLawful, after_step, reply_of};
-ghost use Rattle.machine_model.specs.JournalLines.{reply_value};
+ghost use Rattle.history_replay.specs.JournalLines.{reply_value};
 ghost use Rattle.machine_model.specs.Ready.{is_ready};
 ghost use Rattle.history_replay.specs.Entry.{kept_reply, lacks_ticket};
 ghost use Rattle.history_replay.specs.Line.{HasLine};

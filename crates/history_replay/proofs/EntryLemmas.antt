@@ -8,7 +8,7 @@ use Rattle.json_laws.proofs.Lines.{line_text-injective}
 use Rattle.json_laws.proofs.Sound.{object-sound, unsigned-sound}
 use Rattle.call_bounds.specs.Soundness.{IsSound}
 use Rattle.machine_model.specs.History.{is_drop}
-use Rattle.machine_model.specs.JournalLines.{entry_value, reply_value, journal_line}
+use Rattle.history_replay.specs.JournalLines.{entry_value, reply_value, journal_line}
 use Rattle.engine_text.specs.declared.call.Call.{Call}
 use Rattle.engine_text.specs.declared.entry.Entry.{Entry}
 use Rattle.engine_text.specs.declared.reply.Reply.{Reply}

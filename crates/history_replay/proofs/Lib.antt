@@ -1,3 +1,5 @@
+pub mod JournalFacts
+pub mod RoomFacts
 pub mod VerdictFacts
 mod TestLemmas
 mod MemberLemmas

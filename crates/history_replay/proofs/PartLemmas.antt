@@ -19,7 +19,7 @@ use Rattle.api_json.specs.Lists.{pairs_from, pairs_in}
 use Rattle.api_json.specs.Filters.{filter_word, key_among}
 use Rattle.api_json.specs.Container.{policy_word, most_retries}
 use Rattle.call_bounds.specs.Soundness.{if_given, is_signal, is_policy, is_seconds, are_rising, are_labels}
-use Rattle.machine_model.specs.JournalLines.{signal_value, filter_value}
+use Rattle.history_replay.specs.JournalLines.{signal_value, filter_value}
 use Rattle.engine_text.specs.Pairs.{ArePairsUtf8}
 use Rattle.engine_text.specs.Filter.{AreRowsUtf8}
 use Rattle.engine_text.specs.Policy.{read_policy}

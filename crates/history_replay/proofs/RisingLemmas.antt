@@ -12,7 +12,7 @@ use Rattle.api_json.specs.Values.{text, list_of, pairs_of}
 use Rattle.api_json.specs.Filters.{filter_word}
 use Rattle.call_bounds.specs.Soundness.{are_rising, are_labels}
 use Rattle.call_bounds.proofs.RiseLemmas.{names}
-use Rattle.machine_model.specs.JournalLines.{put_rows}
+use Rattle.history_replay.specs.JournalLines.{put_rows}
 use Rattle.engine_text.specs.declared.filter.FilterRow.{FilterRow}
 use Rattle.engine_text.specs.declared.pairs.Pair.{Pair}
 use Rattle.history_replay.specs.Rising.{rises_first}

@@ -13,7 +13,7 @@ use Rattle.json_laws.specs.Sound.{IsSound, HasSound, line_text}
 use Rattle.serde_json.specs.Data.{Data, object, Members, no_members}
 use Rattle.json_laws.proofs.Sound.{object-sound, ascii-sound, unsigned-sound}
 use Rattle.machine_model.specs.History.{opening_state}
-use Rattle.machine_model.specs.JournalLines.{journal_line, entry_value, call_value, reply_value}
+use Rattle.history_replay.specs.JournalLines.{journal_line, entry_value, call_value, reply_value}
 use Rattle.machine_model.proofs.Scenes.{t, web, charter, create, final_state}
 use Rattle.history_replay.specs.Line.{HasLine}
 use Rattle.history_replay.specs.Due.{IsDueCount}

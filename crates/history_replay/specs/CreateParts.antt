@@ -4,7 +4,7 @@ use Rattle.std.specs.Option.{option_map_or}
 use Rattle.serde_json.specs.Data.{boolean, Members, no_members, member, put, null}
 use Rattle.api_json.specs.Values.{text, natural, integer, list_of, pairs_object}
 use Rattle.api_json.specs.Container.{policy_word, most_retries}
-use Rattle.machine_model.specs.JournalLines.{mount_entry, signal_value}
+use Rattle.history_replay.specs.JournalLines.{mount_entry, signal_value}
 use Rattle.engine_text.specs.declared.call.CreateSpec.{CreateSpec}
 
 -- Up to the mounts.

@@ -4,7 +4,7 @@ use Rattle.serde_json.specs.Written.{compact_text}
 use Rattle.machine_model.specs.State.{State}
 use Rattle.machine_model.specs.History.{state_from, has_ticket, reply_of}
 use Rattle.machine_model.specs.Ready.{is_ready}
-use Rattle.machine_model.specs.JournalLines.{reply_value}
+use Rattle.history_replay.specs.JournalLines.{reply_value}
 use Rattle.history_replay.specs.Due.{behind_dues, IsDueCount, TellsDueCount}
 use Rattle.history_replay.specs.Stored.{steps_of}
 use Rattle.engine_text.specs.declared.call.Call.{Call}

@@ -1,6 +1,6 @@
 -- A journal that is kept: its entries, and places for them (own: each entry has a place, and so has the end of each ticket).
 use Rattle.std.specs.Prelude.{ℕ, ◌+◌, ◌-◌, ◌^◌, nat_le, nat_lt, Bool, true, false, ◌&&◌, List, [], ◌∷◌, length}
-use Rattle.machine_model.specs.Room.{places_of}
+use Rattle.history_replay.specs.Room.{places_of}
 use Rattle.history_replay.specs.Stored.{stored_history}
 use Rattle.engine_text.specs.declared.call.Call.{Call}
 use Rattle.engine_text.specs.declared.entry.Entry.{Entry}

@@ -1,3 +1,6 @@
+pub mod Entries
+pub mod JournalLines
+pub mod Room
 pub mod Object
 pub mod CreateParts
 pub mod Line

@@ -3,7 +3,7 @@ use Rattle.std.specs.Prelude.{◌≡◌, ℕ, ◌<◌, ◌^◌, ◌++◌, List, 
 use Rattle.hex.specs.Hex.{IsBytes}
 use Rattle.json_laws.specs.Sound.{IsCarried}
 use Rattle.machine_model.specs.History.{is_drop}
-use Rattle.machine_model.specs.JournalLines.{entry_value, journal_line}
+use Rattle.history_replay.specs.JournalLines.{entry_value, journal_line}
 use Rattle.machine_model.specs.Soundness.{IsSound}
 use Rattle.engine_text.specs.declared.call.Call.{Call}
 use Rattle.engine_text.specs.declared.entry.Entry.{Entry}

@@ -1,6 +1,6 @@
 -- What the types of a call and a reply give: texts of UTF-8, numbers of 64 bits, bytes (own).
 use Rattle.std.specs.Prelude.{ℕ, ◌<◌, ◌^◌, IfSome, IsUtf8, ⊤}
-use Rattle.machine_model.specs.JournalLines.{ended_ticket}
+use Rattle.history_replay.specs.JournalLines.{ended_ticket}
 use Rattle.machine_model.specs.State.{owner_number}
 use Rattle.engine_text.specs.Words.{AreUtf8}
 use Rattle.engine_text.specs.Pairs.{ArePairsUtf8}

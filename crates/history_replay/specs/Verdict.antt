@@ -2,7 +2,7 @@
 use Rattle.std.specs.Prelude.{ℕ, ◌+◌, List, [], ◌++◌, ◌≢◌}
 use Rattle.machine_model.specs.State.{State}
 use Rattle.machine_model.specs.History.{Charter, opening_state}
-use Rattle.machine_model.specs.JournalLines.{journal_line}
+use Rattle.history_replay.specs.JournalLines.{journal_line}
 use Rattle.history_replay.specs.Line.{HasLine, BeginsWithLine}
 use Rattle.history_replay.specs.Entry.{IsWrong, IsRight, behind_entry}
 use Rattle.history_replay.specs.declared.verdict.Verdict.{Verdict}

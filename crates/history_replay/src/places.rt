@@ -1,6 +1,6 @@
 // The places that calls take in a journal (own).
 ghost use Rattle.std.specs.Prelude.{◌≡◌, ◌+◌, ◌^◌, ◌<◌};
-ghost use Rattle.machine_model.specs.Room as room;
+ghost use Rattle.history_replay.specs.Room as room;
 ghost use Rattle.history_replay.specs.Kept as spec;
 
 use engine_text::{Call, Entry, Reply};

@@ -14,7 +14,6 @@ pub mod VolumeLemmas
 pub mod IdLemmas
 pub mod SettleLemmas
 pub mod SoundFacts
-pub mod JournalFacts
 pub mod StreamFacts
 pub mod NameLemmas
 pub mod ChangeLemmas

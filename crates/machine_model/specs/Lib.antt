@@ -20,8 +20,6 @@ pub mod Summary
 pub mod Frames
 pub mod LogStream
 pub mod EventLines
-pub mod JournalLines
-pub mod Room
 pub mod Ranges
 pub mod Consistency
 pub mod Statuses

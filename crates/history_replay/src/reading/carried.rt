@@ -1,7 +1,7 @@
 // What the types of a call and a reply give: texts of UTF-8, numbers of 64 bits, bytes.
 ghost use Rattle.std.specs.Prelude.{◌≡◌, All, IfSome, IsUtf8};
 ghost use Rattle.hex.specs.Hex.{IsBytes};
-ghost use Rattle.machine_model.specs.JournalLines.{ended_ticket};
+ghost use Rattle.history_replay.specs.JournalLines.{ended_ticket};
 ghost use Rattle.machine_model.specs.State.{owner_number};
 ghost use Rattle.history_replay.specs.Line.{FeedsBytes};
 ghost use Rattle.history_replay.specs.Texts as spec;

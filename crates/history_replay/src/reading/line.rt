@@ -1,7 +1,7 @@
 // The entry of a line (own: one entry a line, so that a history can be replayed).
 ghost use Rattle.std.specs.Prelude.{◌≡◌, IfOk, IfErr};
 ghost use Rattle.serde_json.specs.View.{view};
-ghost use Rattle.machine_model.specs.JournalLines.{journal_line};
+ghost use Rattle.history_replay.specs.JournalLines.{journal_line};
 ghost use Rattle.history_replay.specs.Line.{HasLine, IsLineFault, told_entry};
 ghost use Rattle.history_replay.specs.ReadParts.{Reads};
 ghost use Rattle.history_replay.specs.ReadEntry as spec;

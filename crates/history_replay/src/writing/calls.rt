@@ -1,7 +1,7 @@
 // Calls as values.
 ghost use Rattle.std.specs.Prelude.{◌≡◌, IfOk};
 ghost use Rattle.serde_json.specs.View.{view};
-ghost use Rattle.machine_model.specs.JournalLines as spec;
+ghost use Rattle.history_replay.specs.JournalLines as spec;
 
 use super::create::create_value;
 use super::execs::{exec_create_value, exec_inspect_value, exec_start_value};

@@ -2,7 +2,7 @@
 ghost use Rattle.std.specs.Prelude.{◌≡◌, IfOk};
 ghost use Rattle.serde_json.specs.View.{view};
 ghost use Rattle.api_json.specs.Container as container;
-ghost use Rattle.machine_model.specs.JournalLines as spec;
+ghost use Rattle.history_replay.specs.JournalLines as spec;
 ghost use Rattle.history_replay.specs.Object.{members_in};
 ghost use Rattle.history_replay.specs.CreateParts as parts;
 

@@ -2,7 +2,7 @@
 ghost use Rattle.std.specs.Prelude.{◌≡◌, IfOk, codes};
 ghost use Rattle.serde_json.specs.Data as json;
 ghost use Rattle.serde_json.specs.View.{view};
-ghost use Rattle.machine_model.specs.JournalLines as spec;
+ghost use Rattle.history_replay.specs.JournalLines as spec;
 ghost use Rattle.machine_model.specs.State.{owner_number};
 
 use super::object::Object;

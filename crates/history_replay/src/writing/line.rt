@@ -1,7 +1,7 @@
 // The line of an entry (own: one entry a line, so that a history can be replayed).
 ghost use Rattle.std.specs.Prelude.{◌≡◌, IfOk};
 ghost use Rattle.serde_json.specs.View.{view};
-ghost use Rattle.machine_model.specs.JournalLines as spec;
+ghost use Rattle.history_replay.specs.JournalLines as spec;
 
 use super::calls::call_value;
 use super::object::Object;

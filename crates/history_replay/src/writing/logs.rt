@@ -1,7 +1,7 @@
 // What is asked of logs and of an attach, as values.
 ghost use Rattle.std.specs.Prelude.{◌≡◌, IfOk};
 ghost use Rattle.serde_json.specs.View.{view};
-ghost use Rattle.machine_model.specs.JournalLines as spec;
+ghost use Rattle.history_replay.specs.JournalLines as spec;
 
 use super::object::Object;
 use super::options::count_or_null;

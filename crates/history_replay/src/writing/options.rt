@@ -4,7 +4,7 @@ ghost use Rattle.std.specs.Option.{option_map_or};
 ghost use Rattle.serde_json.specs.Data.{null};
 ghost use Rattle.serde_json.specs.View.{view};
 ghost use Rattle.api_json.specs.Values.{text, natural, integer};
-ghost use Rattle.machine_model.specs.JournalLines.{signal_value};
+ghost use Rattle.history_replay.specs.JournalLines.{signal_value};
 
 use engine_text::{Signal, Text};
 use serde_json::Value;

@@ -2,7 +2,7 @@
 ghost use Rattle.std.specs.Prelude.{◌≡◌, IfOk, false};
 ghost use Rattle.serde_json.specs.View.{view};
 ghost use Rattle.serde_json.specs.Written.{has_float, compact_text};
-ghost use Rattle.machine_model.specs.JournalLines as spec;
+ghost use Rattle.history_replay.specs.JournalLines as spec;
 
 use super::object::Object;
 use engine_text::{Call, NoMemory, Reply, Text};

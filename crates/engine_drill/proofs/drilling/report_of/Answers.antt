@@ -1,7 +1,7 @@
 use Rattle.std.proofs.Common.{◌≡◌, ◌∙◌, ℕ, List, length, ap, subst}
 use Rattle.std.specs.Prelude.{All}
 use Rattle.machine_model.specs.History.{Charter, IsLegal, events_of, state_after}
-use Rattle.machine_model.specs.JournalLines.{entries_of}
+use Rattle.history_replay.specs.Entries.{entries_of}
 use Rattle.history_replay.specs.Texts.{EntryHasTexts}
 use Rattle.history_replay.specs.Verdict.{IsVerdict}
 use Rattle.history_check.specs.Legal.{journal_of, steps_told}

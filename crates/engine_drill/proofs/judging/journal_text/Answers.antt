@@ -1,6 +1,7 @@
 use Rattle.std.proofs.Common.{arith, ◌≡◌, ◌⊎◌, inl, inr, ◌++◌, ◌∙◌, ℕ, List, take, drop, subst, sym}
 use Rattle.std.specs.List.{flat_map}
-use Rattle.machine_model.specs.JournalLines.{entries_of, journal_line}
+use Rattle.history_replay.specs.Entries.{entries_of}
+use Rattle.history_replay.specs.JournalLines.{journal_line}
 use Rattle.session_model.specs.declared.turned.Part.{Part}
 use Rattle.session_model.specs.declared.turned.Part.TheVariants.{Whole, Gone}
 use Rattle.daemon_core.specs.JournalTurns.{JournalSays}

@@ -1,6 +1,7 @@
 use Rattle.std.proofs.Common.{◌≡◌, ◌≤◌, ◌-◌, length, take}
 use Rattle.std.specs.List.{flat_map}
-use Rattle.machine_model.specs.JournalLines.{entries_of, journal_line}
+use Rattle.history_replay.specs.Entries.{entries_of}
+use Rattle.history_replay.specs.JournalLines.{journal_line}
 use Rattle.daemon_core.specs.Keeping.{history_of}
 use Rattle.daemon_core.specs.Passing.{charter}
 use Rattle.engine_drill.proofs.judging.journal_text.Given as goal

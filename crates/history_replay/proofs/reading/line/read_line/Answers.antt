@@ -2,7 +2,7 @@ use Rattle.std.proofs.Common.{◌≡◌, ℕ, List, true, false, refl, sym, ap, 
 use Rattle.std.proofs.lemmas.Slice.Eq.{bytes_eq-Decides}
 use Rattle.serde_json.specs.View.{view}
 use Rattle.call_bounds.specs.Soundness.{is_sound}
-use Rattle.machine_model.specs.JournalLines.{entry_value, journal_line}
+use Rattle.history_replay.specs.JournalLines.{entry_value, journal_line}
 use Rattle.engine_text.specs.declared.entry.Entry.{Entry}
 use Rattle.history_replay.specs.Line.{IsLineFault}
 use Rattle.history_replay.specs.declared.fault.LineFault.{LineFault}

@@ -1,6 +1,6 @@
 use Rattle.std.proofs.Common.{◌≡◌, drop}
 use Rattle.serde_json.specs.Data.{no_members}
-use Rattle.machine_model.specs.JournalLines.{put_rows}
+use Rattle.history_replay.specs.JournalLines.{put_rows}
 use Rattle.history_replay.specs.Object.{members_in}
 use Rattle.history_replay.proofs.writing.filter.filter_value.Given as goal
 

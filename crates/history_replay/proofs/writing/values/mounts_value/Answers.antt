@@ -1,6 +1,6 @@
 use Rattle.std.proofs.Common.{map, ap, ◌∙◌}
 use Rattle.serde_json.specs.View.{view}
-use Rattle.machine_model.specs.JournalLines.{mount_entry}
+use Rattle.history_replay.specs.JournalLines.{mount_entry}
 use Rattle.history_replay.proofs.ValueLemmas.{shown_more, all_shown}
 use Rattle.history_replay.proofs.writing.values.mounts_value.Goals as goal
 

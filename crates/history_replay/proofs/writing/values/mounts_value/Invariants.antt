@@ -1,6 +1,6 @@
 use Rattle.std.proofs.Common.{◌≡◌, map, take}
 use Rattle.serde_json.specs.View.{view}
-use Rattle.machine_model.specs.JournalLines.{mount_entry}
+use Rattle.history_replay.specs.JournalLines.{mount_entry}
 use Rattle.history_replay.proofs.writing.values.mounts_value.Given as goal
 
 abbrev pub invariant-mounts : goal.invariant-mounts
