@@ -16,7 +16,7 @@ use Rattle.engine_text.specs.declared.step.Step.{Step}
 use Rattle.machine_model.specs.State.{State}
 use Rattle.machine_model.specs.Calls.Feed.{feed_by, feed_end_by}
 use Rattle.machine_model.specs.History.{Charter, DuesUntil, Extends, HasNone, HasNoCall, bears, calls_of, input_of, is_drop, after_step, moment_used, opening_state, reply_of, state_after, state_from}
-use Rattle.history_replay.specs.Room.{HasRoom}
+use Rattle.journal_lines.specs.Room.{HasRoom}
 use Rattle.machine_model.specs.Statuses.{is_feed}
 use Rattle.machine_model.specs.Step.{at_moment}
 use Rattle.machine_model.specs.Streams.{Coming, Live, Over, RunState, run_state}

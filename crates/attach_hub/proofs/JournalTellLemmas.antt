@@ -11,8 +11,8 @@ use Rattle.engine_text.specs.declared.step.Step.{Step}
 use Rattle.json_laws.specs.Sound.{line_text}
 use Rattle.serde_json.specs.Written.{compact_text}
 use Rattle.machine_model.specs.History.{Charter, Extends}
-use Rattle.history_replay.specs.Entries.{entries_of}
-use Rattle.history_replay.specs.JournalLines.{entry_value, journal_line, journal_lines}
+use Rattle.journal_lines.specs.Entries.{history_entries}
+use Rattle.journal_lines.specs.JournalLines.{entry_value, journal_line, journal_lines}
 use Rattle.session_model.specs.declared.turned.Part.{Part}
 use Rattle.session_model.specs.declared.turned.Part.TheVariants as P
 use Rattle.session_model.specs.Exchange.{IsBody}
@@ -22,7 +22,7 @@ use Rattle.daemon_core.proofs.KeepLemmas.{entries_append}
 -- a body is the lines of a history's first entries, up to that place
 pub record TellsJournal (ch : Charter) (count : ℕ) (b : List Step) (body : List ℕ) (place : ℕ) : Type 0 where
   pub within : place ≤ count
-  pub counted : count ≤ length (entries_of ch b)
+  pub counted : count ≤ length (history_entries ch b)
   pub tells : body ≡ journal_lines ch b place
 
 -- what a part of it says
@@ -32,7 +32,7 @@ JournalSaid ch count b place part old new = (place < count) × JournalSays ch b 
 
 -- ---- it goes on
 
-pub journal_first : (ch : Charter) (count : ℕ) (a : List Step) → count ≤ length (entries_of ch a) → TellsJournal ch count a [] 0
+pub journal_first : (ch : Charter) (count : ℕ) (a : List Step) → count ≤ length (history_entries ch a) → TellsJournal ch count a [] 0
 journal_first ch count a le = record { within = omega arith; counted = le; tells = refl }
 
 -- a longer history has these entries, and more behind them
@@ -40,12 +40,12 @@ pub journal_later : (ch : Charter) (count : ℕ) (b c : List Step) (body : List 
     → TellsJournal ch count b body place → TellsJournal ch count c body place
 journal_later ch count b c body place (more, is) t =
     let behind = entries_append ch b more in
-    let all : entries_of ch c ≡ entries_of ch b ++ behind.0 = ap (entries_of ch) is ∙ behind.1 in
-    let sum = ap length all ∙ length-append (entries_of ch b) behind.0 in
+    let all : history_entries ch c ≡ history_entries ch b ++ behind.0 = ap (history_entries ch) is ∙ behind.1 in
+    let sum = ap length all ∙ length-append (history_entries ch b) behind.0 in
     let within = t.within in
     let counted = t.counted in
-    let same : take place (entries_of ch c) ≡ take place (entries_of ch b) =
-    ap (take place) all ∙ take-append-le place (entries_of ch b) behind.0 (omega (arith, within, counted)) in
+    let same : take place (history_entries ch c) ≡ take place (history_entries ch b) =
+    ap (take place) all ∙ take-append-le place (history_entries ch b) behind.0 (omega (arith, within, counted)) in
     record { within = within; counted = omega (arith, counted, sum); tells = t.tells ∙ ap (flat_map journal_line) (sym same) }
 
 -- the lines up to a place, and those up to a later one
@@ -66,7 +66,7 @@ journal_more ch count b body old new place next t (below, says) empty =
       counted = t.counted;
       tells = ap (λ y. body ++ y) (says.2 ∙ ap (λ y. y ++ entry_lines ch b place next) empty)
           ∙ ap (λ y. y ++ entry_lines ch b place next) t.tells
-          ∙ sym (lines_on (entries_of ch b) place next (omega (arith, one)));
+          ∙ sym (lines_on (history_entries ch b) place next (omega (arith, one)));
     }
 
 -- ---- a stream that isn't whole
@@ -92,7 +92,7 @@ some_between xs a b below le =
 pub journal_broken : (ch : Charter) (count : ℕ) (a b : List Step) (body : List ℕ) (place : ℕ) → place < count → TellsJournal ch count b body place
     → IsBody ch (JournalStream count) false a b body
 journal_broken ch count a b body place below t =
-    let es : List Entry = entries_of ch b in
+    let es : List Entry = history_entries ch b in
     let rest : List ℕ = flat_map journal_line (drop place (take count es)) in
     let all : journal_lines ch b count ≡ body ++ rest =
     lines_on es place count (omega (arith, below)) ∙ ap (λ y. y ++ rest) (sym t.tells) in

@@ -10,7 +10,7 @@ use Rattle.engine_text.specs.declared.step.Step.{Step}
 use Rattle.machine_model.specs.State.{State}
 use Rattle.machine_model.specs.LogStream.{is_kept, log_of, log_reach}
 use Rattle.machine_model.specs.History.{Charter, Extends, calls_of, events_of, state_after}
-use Rattle.history_replay.specs.Entries.{entries_of}
+use Rattle.journal_lines.specs.Entries.{history_entries}
 use Rattle.http_edge.specs.Chunks.{IsChunked, chunk_text}
 use Rattle.session_model.specs.declared.followed.Followed.{Followed}
 use Rattle.session_model.specs.declared.followed.Followed.TheVariants as F
@@ -50,7 +50,7 @@ pub record MayFollow (s : State) (spec : LogSpec) : Type 0 where
 abbrev pub CanFollow : Charter → List Step → Reply → Type 0
 CanFollow ch h (LogStream spec) = MayFollow (state_after ch h) spec
 CanFollow ch h (EventStream first until filter) = first ≤ length (events_of ch h)
-CanFollow ch h (JournalStream count) = count ≤ length (entries_of ch h)
+CanFollow ch h (JournalStream count) = count ≤ length (history_entries ch h)
 CanFollow ch h reply = ⊥
 
 -- where events up to a moment are whole, the clock has come to it

@@ -13,7 +13,7 @@ use Rattle.engine_text.specs.declared.reply.Reply.TheVariants.{Fed}
 use Rattle.engine_text.specs.declared.reply.LogSpec.{LogSpec}
 use Rattle.engine_text.specs.declared.step.Step.{Step}
 use Rattle.machine_model.specs.History.{Charter, input_of, state_after}
-use Rattle.history_replay.specs.Room.{HasRoom}
+use Rattle.journal_lines.specs.Room.{HasRoom}
 use Rattle.session_model.specs.declared.followed.PumpEnd.{PumpEnd}
 use Rattle.session_model.specs.declared.followed.PumpEnd.TheVariants as P
 use Rattle.session_model.specs.Pass.{PassView}

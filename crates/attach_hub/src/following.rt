@@ -3,7 +3,7 @@ ghost use Rattle.std.specs.Prelude.{ℕ, ◌≡◌, ◌≤◌, length};
 ghost use Rattle.engine_text.specs.declared.reply.Reply.TheVariants.{EventStream, JournalStream, LogStream};
 ghost use Rattle.engine_ports.specs.Sink.{WriteSays};
 ghost use Rattle.machine_model.specs.History.{events_of, state_after};
-ghost use Rattle.history_replay.specs.Entries.{entries_of};
+ghost use Rattle.journal_lines.specs.Entries.{history_entries};
 ghost use Rattle.session_model.specs.Pass.{IsNumber};
 ghost use Rattle.attach_hub.specs.Following.{Follows, FollowsSince, MayFollow, written_of};
 ghost use Rattle.attach_hub.specs.Streams.{JournalPart, PartOf, StandsIn, first_of, reply_of};
@@ -248,7 +248,7 @@ pub fn follow_journal<W: Wait, T: Turns, K: Sink, C: Clock>(
 ) -> Followed
     requires number { IsNumber (T.pass turns.old).number conn }
     requires counted { count ≤ length
-        (entries_of (T.pass turns.old).charter (T.pass turns.old).seen) }
+        (history_entries (T.pass turns.old).charter (T.pass turns.old).seen) }
     ensures { Follows conn (JournalStream count) chunked result
         (T.pass turns.old) (T.pass turns.new) (K.takes sink.old) (K.takes sink.new)
         (C.times clock.old) (C.times clock.new) }

@@ -5,8 +5,8 @@ use Rattle.std.specs.Option.{option_map_or}
 use Rattle.percent_encoding.proofs.PercentLemmas.{IsByte}
 use Rattle.response_reader.specs.Answers.{Answer, NoHead, Answered}
 use Rattle.response_reader.specs.Heads.{first_in}
-use Rattle.history_replay.specs.declared.verdict.Verdict.{Verdict}
-use Rattle.history_replay.specs.declared.verdict.Verdict.TheVariants.{Legal, Illegal, BadLine}
+use Rattle.journal_lines.specs.declared.verdict.Verdict.{Verdict}
+use Rattle.journal_lines.specs.declared.verdict.Verdict.TheVariants.{Legal, Illegal, BadLine}
 use Rattle.engine_text.specs.declared.event.Event.{Event}
 use Rattle.event_ring.specs.Fold.{fold_of}
 use Rattle.json_laws.specs.Pairs.{AreWordsUtf8}

@@ -5,7 +5,7 @@ use Rattle.std.specs.Option.{option_map_or}
 use Rattle.engine_line.specs.Lines.{port_in, seed_of, moment_in}
 use Rattle.engine_text.specs.Texts.{same_bytes}
 use Rattle.engine_text.specs.declared.pairs.Pair.{Pair}
-use Rattle.history_replay.specs.declared.verdict.Verdict.{Verdict}
+use Rattle.journal_lines.specs.declared.verdict.Verdict.{Verdict}
 use Rattle.json_laws.specs.Pairs.{AreWordsUtf8}
 use Rattle.response_reader.specs.Answers.{Answer}
 use Rattle.client_model.specs.Words.{has_flag, value_of}

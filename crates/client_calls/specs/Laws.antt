@@ -1,7 +1,7 @@
 -- What the client's requests are for the daemon (own).
 use Rattle.std.specs.Prelude.{ℕ, ◌≡◌, ◌⊎◌, List, [], ◌∷◌, ◌++◌, map, Option}
 use Rattle.engine_text.specs.Words.{AreUtf8}
-use Rattle.history_replay.specs.declared.verdict.Verdict.{Verdict}
+use Rattle.journal_lines.specs.declared.verdict.Verdict.{Verdict}
 use Rattle.response_reader.specs.Answers.{Answer, TellsSoFar}
 use Rattle.api_routes.specs.Class.{class_of}
 use Rattle.client_model.specs.Plans.{Asked}

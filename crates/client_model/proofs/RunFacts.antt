@@ -16,8 +16,8 @@ use Rattle.json_laws.specs.Sound.{line_text}
 use Rattle.api_json.specs.EventRules.{is_decimal_below}
 use Rattle.http_edge.specs.declared.head.Form.{Form}
 use Rattle.http_edge.specs.declared.head.Form.TheVariants.{Json, Empty, ChunkedFrames, ChunkedJson, Takeover}
-use Rattle.history_replay.specs.declared.verdict.Verdict.{Verdict}
-use Rattle.history_replay.specs.declared.verdict.Verdict.TheVariants.{Legal, Illegal, BadLine}
+use Rattle.journal_lines.specs.declared.verdict.Verdict.{Verdict}
+use Rattle.journal_lines.specs.declared.verdict.Verdict.TheVariants.{Legal, Illegal, BadLine}
 use Rattle.response_reader.specs.Answers.{Answer, NoHead, Answered}
 use Rattle.client_model.specs.Client.{Result, client_result}
 use Rattle.client_model.specs.Faults.{status_of}

@@ -1,8 +1,8 @@
 -- What the client asks, writes and ends with, by its words, by standard input and by the answers that it reads (own).
 use Rattle.std.specs.Prelude.{ℕ, ◌≡◌, List, [], ◌∷◌, ◌++◌, Option, Some, None, option_map}
 use Rattle.std.specs.Option.{option_map_or}
-use Rattle.history_replay.specs.Verdict.{IsVerdict}
-use Rattle.history_replay.specs.declared.verdict.Verdict.{Verdict}
+use Rattle.journal_lines.specs.Verdict.{IsVerdict}
+use Rattle.journal_lines.specs.declared.verdict.Verdict.{Verdict}
 use Rattle.response_reader.specs.Answers.{Answer}
 use Rattle.client_model.specs.Faults.{status_of, fault_line}
 use Rattle.client_model.specs.Plans.{Plan, Ends, Asks, Judges, Written, Asked, Ending, Done, Fails, nothing, joined, fails}

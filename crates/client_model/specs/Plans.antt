@@ -4,7 +4,7 @@ use Rattle.std.specs.Option.{option_map_or}
 use Rattle.http_edge.specs.Message.{Request}
 use Rattle.http_edge.specs.declared.head.Head.{Head}
 use Rattle.machine_model.specs.History.{Charter}
-use Rattle.history_replay.specs.declared.verdict.Verdict.{Verdict}
+use Rattle.journal_lines.specs.declared.verdict.Verdict.{Verdict}
 use Rattle.response_reader.specs.Answers.{Answer, NoHead, Answered}
 use Rattle.client_model.specs.Bodies.{message_in}
 use Rattle.client_model.specs.declared.fault.Fault.{Fault}

@@ -6,7 +6,7 @@ use Rattle.engine_ports.specs.Source.{SourceView, SourceGave, SourceEnded}
 use Rattle.engine_ports.specs.Sink.{SinkView}
 use Rattle.engine_ports.specs.Link.{LinkView}
 use Rattle.engine_ports.proofs.PortLemmas.{sink_none, sink_on, source_none}
-use Rattle.history_replay.specs.declared.verdict.Verdict.{Verdict}
+use Rattle.journal_lines.specs.declared.verdict.Verdict.{Verdict}
 use Rattle.machine_model.specs.History.{Charter}
 use Rattle.client_model.specs.Plans.{Plan, Ends, Asks, Judges, Asked, Done, Fails, nothing}
 use Rattle.client_model.specs.Client.{said, said_by, plan_for, IsJudged}

@@ -8,7 +8,7 @@ use Rattle.engine_ports.specs.Sink.{SinkView, SinkTook, IsFront}
 use Rattle.engine_ports.specs.Link.{LinkView, others, but_for}
 use Rattle.engine_ports.proofs.PortLemmas.{sink_on, rose_since, rose_until}
 use Rattle.response_reader.specs.Answers.{Answer}
-use Rattle.history_replay.specs.declared.verdict.Verdict.{Verdict}
+use Rattle.journal_lines.specs.declared.verdict.Verdict.{Verdict}
 use Rattle.client_model.specs.Requests.{request_bytes}
 use Rattle.client_model.specs.Faults.{fault_line}
 use Rattle.client_model.specs.Lines.{command_names, address_in}

@@ -14,7 +14,7 @@ use client_model::Fault;
 use engine_ports::{Sink, Source};
 use engine_text::{NoMemory, Text, Words};
 use history_check::check;
-use history_replay::Verdict;
+use journal_lines::Verdict;
 use itoa::Buffer;
 use std::alloc::Global;
 use std::sync::Wait;

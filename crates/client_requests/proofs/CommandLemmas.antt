@@ -4,8 +4,8 @@ use Rattle.std.specs.Prelude.{option_map}
 use Rattle.std.specs.Option.{IfSome}
 use Rattle.engine_text.specs.declared.pairs.Pair.{Pair}
 use Rattle.engine_line.specs.Lines.{seed_of, moment_in}
-use Rattle.history_replay.specs.declared.verdict.Verdict.{Verdict}
-use Rattle.history_replay.specs.declared.verdict.Verdict.TheVariants.{Legal, Illegal, BadLine}
+use Rattle.journal_lines.specs.declared.verdict.Verdict.{Verdict}
+use Rattle.journal_lines.specs.declared.verdict.Verdict.TheVariants.{Legal, Illegal, BadLine}
 use Rattle.event_ring.specs.Fold.{fold_of}
 use Rattle.response_reader.specs.Heads.{first_in}
 use Rattle.engine_text.specs.declared.event.Event.{Event}

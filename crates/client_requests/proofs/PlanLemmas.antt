@@ -5,7 +5,7 @@ use Rattle.std.specs.Option.{IfSome}
 use Rattle.std.proofs.lemmas.List.Elements.{All-nil, All-cons}
 use Rattle.http_edge.specs.Message.{Request}
 use Rattle.http_edge.specs.declared.head.Head.{Head}
-use Rattle.history_replay.specs.declared.verdict.Verdict.{Verdict}
+use Rattle.journal_lines.specs.declared.verdict.Verdict.{Verdict}
 use Rattle.response_reader.specs.Answers.{Answer, NoHead, Answered}
 use Rattle.client_model.specs.declared.fault.Fault.TheVariants as F
 use Rattle.client_model.specs.Bodies.{message_in}

@@ -4,7 +4,7 @@ use Rattle.std.specs.List.{AllZip}
 use Rattle.std.proofs.lemmas.List.{map-append}
 use Rattle.std.proofs.lemmas.List.Elements.{All-head, All-tail}
 use Rattle.engine_ports.specs.Sink.{IsFront}
-use Rattle.history_replay.specs.declared.verdict.Verdict.{Verdict}
+use Rattle.journal_lines.specs.declared.verdict.Verdict.{Verdict}
 use Rattle.response_reader.specs.Answers.{Answer}
 use Rattle.client_model.specs.Requests.{request_bytes}
 use Rattle.client_model.specs.Plans.{Asked}

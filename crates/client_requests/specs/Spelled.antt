@@ -1,7 +1,7 @@
 -- What the client's requests are to a daemon (RFC 9112, sections 3 to 6: a request line, fields, and a body by its length).
 use Rattle.std.specs.Prelude.{ℕ, ◌≤◌, ◌+◌, List, length, Option, All, sum_by}
 use Rattle.http_edge.specs.Spelling.{Spells}
-use Rattle.history_replay.specs.declared.verdict.Verdict.{Verdict}
+use Rattle.journal_lines.specs.declared.verdict.Verdict.{Verdict}
 use Rattle.response_reader.specs.Answers.{Answer}
 use Rattle.client_model.specs.Requests.{request_bytes}
 use Rattle.client_model.specs.Plans.{Asked}

@@ -19,7 +19,7 @@ use Rattle.machine_model.specs.Statuses.{statuses_of, ticket_statuses, is_among,
 use Rattle.call_bounds.specs.Soundness.{IsSound}
 use Rattle.machine_model.specs.Ready.{is_ready}
 use Rattle.machine_model.specs.Tickets.{ticket_numbered}
-use Rattle.history_replay.specs.Room.{HasRoom}
+use Rattle.journal_lines.specs.Room.{HasRoom}
 use Rattle.machine_model.specs.History.{Charter, after_step, state_after, opening_state, reply_of, IsLawful, IsTimely, is_due, has_steps, is_drop}
 use Rattle.machine_model.proofs.ClosureLemmas.{runs_call}
 use Rattle.machine_model.proofs.MomentLemmas.{stamped_closed}

@@ -10,7 +10,7 @@ use Rattle.machine_model.specs.State.{State}
 use Rattle.machine_model.specs.Chain.{Effect, still}
 use Rattle.machine_model.specs.Due.{least_due}
 use Rattle.machine_model.specs.History.{Charter, AreLawful, IsLegal, after_step, latest, opening_state, state_after, state_from}
-use Rattle.history_replay.specs.Entries.{entries_from, entries_of}
+use Rattle.journal_lines.specs.Entries.{entries_from, history_entries}
 use Rattle.machine_model.specs.Step.{at_moment, step_of}
 use Rattle.machine_model.proofs.ClosureLemmas.{IsClosed, runs_call, runs_due}
 use Rattle.machine_model.proofs.Laws.{consistency_law}
@@ -98,5 +98,5 @@ calls_from s d (Step.Call k t c ∷ xs) =
     omega (arith, one, more)
 
 -- each call has its entry
-pub counted_entries : (ch : Charter) (h : List Step) → (state_after ch h).call_count ≡ length (entries_of ch h)
+pub counted_entries : (ch : Charter) (h : List Step) → (state_after ch h).call_count ≡ length (history_entries ch h)
 counted_entries ch h = let all = calls_from (opening_state ch) 0 h in omega (arith, all)

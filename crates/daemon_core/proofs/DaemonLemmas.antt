@@ -11,7 +11,7 @@ use Rattle.engine_text.specs.declared.reply.Reply.{Reply}
 use Rattle.engine_text.specs.declared.reply.Reply.TheVariants as reply
 use Rattle.engine_text.specs.declared.step.Step.{Step}
 use Rattle.machine_model.specs.State.{State}
-use Rattle.history_replay.specs.Room.{HasRoom, has_room}
+use Rattle.journal_lines.specs.Room.{HasRoom, has_room}
 use Rattle.machine_model.specs.History.{Charter, IsLegal, IsLawful, AreLawful, state_after, state_from, moment_used, latest, greatest_moment, acts_by, calls_of, bears, DuesUntil, SomeDues, reply_of, is_drop}
 use Rattle.machine_model.proofs.Histories.{run_append, legal_append}
 use Rattle.session_model.specs.declared.turned.Turned.{Turned}

@@ -6,11 +6,11 @@ use Rattle.std.proofs.lemmas.Bool.{false≢true}
 use Rattle.std.proofs.lemmas.Option.{slice_get_within}
 use Rattle.engine_text.specs.declared.entry.Entry.{Entry}
 use Rattle.engine_text.specs.declared.step.Step.{Step}
-use Rattle.history_replay.specs.Kept.{Kept}
-use Rattle.history_replay.specs.Texts.{EntryHasTexts}
+use Rattle.journal_lines.specs.KeptJournal.{KeptJournal}
+use Rattle.journal_lines.specs.FitsTypes.{EntryFitsTypes}
 use Rattle.machine_model.specs.History.{Charter, IsLegal}
-use Rattle.history_replay.specs.Entries.{entries_of}
-use Rattle.history_replay.specs.JournalLines.{journal_line}
+use Rattle.journal_lines.specs.Entries.{history_entries}
+use Rattle.journal_lines.specs.JournalLines.{journal_line}
 use Rattle.session_model.specs.declared.turned.Part.{Part}
 use Rattle.session_model.specs.declared.turned.Part.TheVariants as P
 use Rattle.daemon_core.specs.JournalTurns.{JournalSays, JournalTurn, entry_lines}
@@ -26,23 +26,23 @@ one_at (x ∷ es) zero e is = let same : x ≡ e = cc in ap (λ y. y ∷ []) sam
 one_at (x ∷ es) (suc n) e is = one_at es n e is
 
 -- its line
-line_at : (ch : Charter) (h : List Step) (n : ℕ) (e : Entry) → slice_get (entries_of ch h) n ≡ Some e
+line_at : (ch : Charter) (h : List Step) (n : ℕ) (e : Entry) → slice_get (history_entries ch h) n ≡ Some e
     → entry_lines ch h n (n + 1) ≡ journal_line e
 line_at ch h n e is =
     let next : n + 1 ≡ suc n = omega arith in
-    ap (λ m. entry_lines ch h n m) next ∙ ap (flat_map journal_line) (one_at (entries_of ch h) n e is) ∙ append-nil (journal_line e)
+    ap (λ m. entry_lines ch h n m) next ∙ ap (flat_map journal_line) (one_at (history_entries ch h) n e is) ∙ append-nil (journal_line e)
 
 -- it was appended
-pub told_line : (ch : Charter) (j : Kept) (n : ℕ) (e : Entry) (old new : List ℕ) → HasEntries ch j → slice_get j.entries n ≡ Some e
+pub told_line : (ch : Charter) (j : KeptJournal) (n : ℕ) (e : Entry) (old new : List ℕ) → HasEntries ch j → slice_get j.entries n ≡ Some e
     → new ≡ old ++ journal_line e → JournalSays ch (history_of j) n (P.More (n + 1)) old new
 unfolding told_entries
 told_line ch j n e old new has is told =
-    let at : slice_get (entries_of ch (history_of j)) n ≡ Some e = ap (λ es. slice_get es n) (sym has) ∙ is in
-    let below = slice_get_within (entries_of ch (history_of j)) n e at in
+    let at : slice_get (history_entries ch (history_of j)) n ≡ Some e = ap (λ es. slice_get es n) (sym has) ∙ is in
+    let below = slice_get_within (history_entries ch (history_of j)) n e at in
     (refl, omega (arith, below), told ∙ ap (λ y. old ++ y) (sym (line_at ch (history_of j) n e at)))
 
 -- there is none of that number
-pub told_last : (ch : Charter) (j : Kept) (n : ℕ) (out : List ℕ) → HasEntries ch j → length j.entries ≤ n
+pub told_last : (ch : Charter) (j : KeptJournal) (n : ℕ) (out : List ℕ) → HasEntries ch j → length j.entries ≤ n
     → JournalSays ch (history_of j) n P.UpToDate out out
 unfolding told_entries
 told_last ch j n out has le = let count = ap length has in (omega (arith, count, le), refl)
@@ -59,9 +59,9 @@ never_missing es n below none = let le = found_by es n none in omega (arith, bel
 -- ---- all of them
 
 -- a fact about each entry that is kept is one about the history's
-pub texts_of : (ch : Charter) (j : Kept) → HasEntries ch j → All EntryHasTexts j.entries → All EntryHasTexts (entries_of ch (history_of j))
+pub texts_of : (ch : Charter) (j : KeptJournal) → HasEntries ch j → All EntryFitsTypes j.entries → All EntryFitsTypes (history_entries ch (history_of j))
 unfolding told_entries
-texts_of ch j has texts = subst (λ (es : List Entry). All EntryHasTexts es) has texts
+texts_of ch j has texts = subst (λ (es : List Entry). All EntryFitsTypes es) has texts
 
 -- ---- behind no step
 

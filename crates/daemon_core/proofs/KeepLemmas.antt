@@ -5,11 +5,11 @@ use Rattle.std.proofs.lemmas.Grind.{flat_map-append}
 use Rattle.engine_text.specs.declared.call.Call.{Call}
 use Rattle.engine_text.specs.declared.entry.Entry.{Entry}
 use Rattle.engine_text.specs.declared.step.Step.{Step}
-use Rattle.history_replay.specs.Kept.{Kept, steps_in}
-use Rattle.history_replay.specs.Stored.{due_steps, steps_of, stored_history}
+use Rattle.journal_lines.specs.KeptJournal.{KeptJournal, steps_in}
+use Rattle.journal_lines.specs.Stored.{due_steps, entry_steps, stored_history}
 use Rattle.machine_model.specs.State.{State}
 use Rattle.machine_model.specs.History.{Charter, after_step, opening_state, reply_of, state_after, state_from}
-use Rattle.history_replay.specs.Entries.{entries_from, entries_of}
+use Rattle.journal_lines.specs.Entries.{entries_from, history_entries}
 use Rattle.daemon_core.specs.Keeping.{history_of, told_entries}
 use Rattle.daemon_core.specs.Telling.{IsLike}
 
@@ -19,15 +19,15 @@ use Rattle.daemon_core.specs.Telling.{IsLike}
 stored_same : (es fs : List Entry) (n m : ℕ) → fs ≡ es → m ≡ n → stored_history fs m ≡ stored_history es n
 stored_same es fs n m same times = ap (λ x. stored_history x m) same ∙ ap (stored_history es) times
 
-pub history_same : (j j' : Kept) → IsLike j j' → history_of j' ≡ history_of j
+pub history_same : (j j' : KeptJournal) → IsLike j j' → history_of j' ≡ history_of j
 unfolding history_of
 history_same j j' like = stored_same j.entries j'.entries j.since j'.since like.entries like.since
 
-pub history_counted : (j : Kept) → length (history_of j) ≡ steps_in j
+pub history_counted : (j : KeptJournal) → length (history_of j) ≡ steps_in j
 unfolding history_of
 history_counted j = refl
 
-pub history_new : (j : Kept) → j.entries ≡ [] → j.since ≡ 0 → history_of j ≡ []
+pub history_new : (j : KeptJournal) → j.entries ≡ [] → j.since ≡ 0 → history_of j ≡ []
 unfolding history_of
 history_new j none idle = stored_same [] j.entries 0 j.since none idle
 
@@ -40,24 +40,24 @@ due_last n = let next : n + 1 ≡ suc n = omega arith in ap due_steps next ∙ d
 
 stored_due : (es : List Entry) (n : ℕ) → stored_history es (n + 1) ≡ stored_history es n ++ Step.Due ∷ []
 stored_due es n =
-    ap (λ x. flat_map steps_of es ++ x) (due_last n) ∙ sym (append_assoc (flat_map steps_of es) (due_steps n) (Step.Due ∷ []))
+    ap (λ x. flat_map entry_steps es ++ x) (due_last n) ∙ sym (append_assoc (flat_map entry_steps es) (due_steps n) (Step.Due ∷ []))
 
 -- one more due step
-pub history_due : (j j' : Kept) → j'.entries ≡ j.entries → j'.since ≡ j.since + 1 → history_of j' ≡ history_of j ++ Step.Due ∷ []
+pub history_due : (j j' : KeptJournal) → j'.entries ≡ j.entries → j'.since ≡ j.since + 1 → history_of j' ≡ history_of j ++ Step.Due ∷ []
 unfolding history_of
 history_due j j' same more = stored_same j.entries j'.entries (j.since + 1) j'.since same more ∙ stored_due j.entries j.since
 
 stored_call : (es : List Entry) (e : Entry)
     → stored_history (es ++ e ∷ []) 0 ≡ stored_history es e.dues ++ Step.Call e.conn e.moment e.call ∷ []
 stored_call es e =
-    let front : List Step = flat_map steps_of es in
-    append-nil (flat_map steps_of (es ++ e ∷ []))
-    ∙ flat_map-append steps_of es (e ∷ [])
-    ∙ ap (λ x. front ++ x) (append-nil (steps_of e))
+    let front : List Step = flat_map entry_steps es in
+    append-nil (flat_map entry_steps (es ++ e ∷ []))
+    ∙ flat_map-append entry_steps es (e ∷ [])
+    ∙ ap (λ x. front ++ x) (append-nil (entry_steps e))
     ∙ sym (append_assoc front (due_steps e.dues) (Step.Call e.conn e.moment e.call ∷ []))
 
 -- one more entry, which has the due steps before it
-pub history_call : (j j' : Kept) (e : Entry) → j'.entries ≡ j.entries ++ e ∷ [] → j'.since ≡ 0 → e.dues ≡ j.since
+pub history_call : (j j' : KeptJournal) (e : Entry) → j'.entries ≡ j.entries ++ e ∷ [] → j'.since ≡ 0 → e.dues ≡ j.since
     → history_of j' ≡ history_of j ++ Step.Call e.conn e.moment e.call ∷ []
 unfolding history_of
 history_call j j' e more idle dues =
@@ -89,7 +89,7 @@ entries_more s d (Step.Call k t c ∷ xs) ys =
     (more.0, ap (λ es. record { dues = d; conn = k; moment = t; call = c; reply = reply_of s k t c } ∷ es) more.1)
 
 -- a longer history has these, and more behind them
-pub entries_append : (ch : Charter) (a more : List Step) → (rest : List Entry) × (entries_of ch (a ++ more) ≡ entries_of ch a ++ rest)
+pub entries_append : (ch : Charter) (a more : List Step) → (rest : List Entry) × (history_entries ch (a ++ more) ≡ history_entries ch a ++ rest)
 entries_append ch a more = entries_more (opening_state ch) 0 a more
 
 -- the due steps behind the last call of these, of which so many stood before
@@ -107,18 +107,18 @@ behind_dues : (d n : ℕ) → dues_behind d (due_steps n) ≡ d + n
 behind_dues d zero = omega arith
 behind_dues d (suc n) = let e = behind_dues (d + 1) n in omega (arith, e)
 
-behind_entry : (d : ℕ) (e : Entry) (xs : List Step) → dues_behind d (steps_of e ++ xs) ≡ dues_behind 0 xs
+behind_entry : (d : ℕ) (e : Entry) (xs : List Step) → dues_behind d (entry_steps e ++ xs) ≡ dues_behind 0 xs
 behind_entry d e xs =
-    behind_both d (steps_of e) xs
+    behind_both d (entry_steps e) xs
     ∙ ap (λ n. dues_behind n xs) (behind_both d (due_steps e.dues) (Step.Call e.conn e.moment e.call ∷ []))
 
-behind_entries : (es : List Entry) → dues_behind 0 (flat_map steps_of es) ≡ 0
+behind_entries : (es : List Entry) → dues_behind 0 (flat_map entry_steps es) ≡ 0
 behind_entries [] = refl
-behind_entries (e ∷ es) = behind_entry 0 e (flat_map steps_of es) ∙ behind_entries es
+behind_entries (e ∷ es) = behind_entry 0 e (flat_map entry_steps es) ∙ behind_entries es
 
 behind_stored : (es : List Entry) (n : ℕ) → dues_behind 0 (stored_history es n) ≡ n
 behind_stored es n =
-    let all = behind_both 0 (flat_map steps_of es) (due_steps n)
+    let all = behind_both 0 (flat_map entry_steps es) (due_steps n)
     ∙ ap (λ (d : ℕ). dues_behind d (due_steps n)) (behind_entries es)
     ∙ behind_dues 0 n in
     omega (arith, all)
@@ -134,28 +134,28 @@ entries_call s d (Step.Call j u b ∷ xs) k t c =
     ap (λ es. entry_at s d j u b ∷ es) (entries_call (after_step s (Step.Call j u b)) 0 xs k t c)
 
 -- a call has one, with its reply
-pub told_call : (ch : Charter) (j : Kept) (k t : ℕ) (c : Call)
+pub told_call : (ch : Charter) (j : KeptJournal) (k t : ℕ) (c : Call)
     → told_entries ch (history_of j ++ Step.Call k t c ∷ []) ≡ told_entries ch (history_of j) ++ entry_at (state_after ch (history_of j)) j.since k t c ∷ []
 unfolding told_entries history_of
 told_call ch j k t c =
     let h : List Step = stored_history j.entries j.since in
     entries_call (opening_state ch) 0 h k t c
-    ∙ ap (λ n. entries_of ch h ++ entry_at (state_after ch h) n k t c ∷ []) (behind_stored j.entries j.since)
+    ∙ ap (λ n. history_entries ch h ++ entry_at (state_after ch h) n k t c ∷ []) (behind_stored j.entries j.since)
 
 -- ---- a journal that grows by a step
 
 -- the entries of the history that the journal stores
-abbrev pub HasEntries : Charter → Kept → Type 0
+abbrev pub HasEntries : Charter → KeptJournal → Type 0
 HasEntries ch j = j.entries ≡ told_entries ch (history_of j)
 
-pub entries_same : (ch : Charter) (j j' : Kept) → IsLike j j' → HasEntries ch j → HasEntries ch j'
+pub entries_same : (ch : Charter) (j j' : KeptJournal) → IsLike j j' → HasEntries ch j → HasEntries ch j'
 entries_same ch j j' like has = like.entries ∙ has ∙ ap (told_entries ch) (sym (history_same j j' like))
 
-pub entries_due_more : (ch : Charter) (j j' : Kept) → j'.entries ≡ j.entries → j'.since ≡ j.since + 1 → HasEntries ch j → HasEntries ch j'
+pub entries_due_more : (ch : Charter) (j j' : KeptJournal) → j'.entries ≡ j.entries → j'.since ≡ j.since + 1 → HasEntries ch j → HasEntries ch j'
 entries_due_more ch j j' same more has =
     same ∙ has ∙ sym (told_due ch (history_of j)) ∙ ap (told_entries ch) (sym (history_due j j' same more))
 
-pub entries_call_more : (ch : Charter) (j j' : Kept) (e : Entry) → j'.entries ≡ j.entries ++ e ∷ [] → j'.since ≡ 0 → e.dues ≡ j.since
+pub entries_call_more : (ch : Charter) (j j' : KeptJournal) (e : Entry) → j'.entries ≡ j.entries ++ e ∷ [] → j'.since ≡ 0 → e.dues ≡ j.since
     → e.reply ≡ reply_of (state_after ch (history_of j)) e.conn e.moment e.call → HasEntries ch j → HasEntries ch j'
 entries_call_more ch j j' e more idle dues reply has =
     let this : e ≡ entry_at (state_after ch (history_of j)) j.since e.conn e.moment e.call =

@@ -10,7 +10,7 @@ use Rattle.engine_text.specs.declared.step.DueAction.{DueAction}
 use Rattle.engine_text.specs.declared.step.Step.{Step}
 use Rattle.event_ring.specs.Ring as event_ring
 use Rattle.event_ring.specs.Ring.{ring_of}
-use Rattle.history_replay.specs.Kept.{Kept, steps_in}
+use Rattle.journal_lines.specs.KeptJournal.{KeptJournal, steps_in}
 use Rattle.machine_model.specs.State.{State}
 use Rattle.machine_model.specs.Chain.{still}
 use Rattle.machine_model.specs.Call.{outcome_of}
@@ -140,22 +140,22 @@ pub told_still : (d d' : Stored) → d'.machine ≡ d.machine → IsLike d.journ
 told_still d d' machine like ring = told_same d d' (ap (λ (m : MachineParts). m.memory.state) machine) like ring
 
 -- a journal is like itself
-pub like_same : (j j' : Kept) → j' ≡ j → IsLike j j'
+pub like_same : (j j' : KeptJournal) → j' ≡ j → IsLike j j'
 like_same j j' same = record {
-  entries = ap (λ (x : Kept). x.entries) same;
-  since = ap (λ (x : Kept). x.since) same;
-  room = let e = ap (λ (x : Kept). x.room) same in omega (arith, e);
+  entries = ap (λ (x : KeptJournal). x.entries) same;
+  since = ap (λ (x : KeptJournal). x.since) same;
+  room = let e = ap (λ (x : KeptJournal). x.room) same in omega (arith, e);
 }
 
-pub like_on : (j j' j'' : Kept) → IsLike j j' → j'' ≡ j' → IsLike j j''
+pub like_on : (j j' j'' : KeptJournal) → IsLike j j' → j'' ≡ j' → IsLike j j''
 like_on j j' j'' like same = record {
-  entries = ap (λ (x : Kept). x.entries) same ∙ like.entries;
-  since = ap (λ (x : Kept). x.since) same ∙ like.since;
-  room = let e = ap (λ (x : Kept). x.room) same in let le = like.room in omega (arith, e, le);
+  entries = ap (λ (x : KeptJournal). x.entries) same ∙ like.entries;
+  since = ap (λ (x : KeptJournal). x.since) same ∙ like.since;
+  room = let e = ap (λ (x : KeptJournal). x.room) same in let le = like.room in omega (arith, e, le);
 }
 
 -- where fewer than 2^57 steps were made, the journal can count one more
-pub few_told : (d : Stored) (j : Kept) → IsToldBySome d → j ≡ d.journal → d.machine.memory.state.step_count < 2 ^ 57 → steps_in j < 2 ^ 57
+pub few_told : (d : Stored) (j : KeptJournal) → IsToldBySome d → j ≡ d.journal → d.machine.memory.state.step_count < 2 ^ 57 → steps_in j < 2 ^ 57
 few_told d j (ch, told) same few =
     let count = sym (history_counted j) ∙ ap (λ x. length (history_of x)) same in
     let steps = told.steps in

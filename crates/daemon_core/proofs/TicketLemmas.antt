@@ -11,7 +11,7 @@ use Rattle.engine_text.specs.declared.reply.Reply.{Reply}
 use Rattle.engine_text.specs.declared.reply.Reply.TheVariants as reply
 use Rattle.engine_text.specs.declared.step.Step.{Step}
 use Rattle.engine_text.specs.declared.ticket.Ticket.{Ticket}
-use Rattle.history_replay.specs.Kept.{ends_behind, ends_of, tickets_begun}
+use Rattle.journal_lines.specs.KeptJournal.{ends_behind, ends_of, tickets_begun}
 use Rattle.machine_model.specs.State.{State}
 use Rattle.machine_model.specs.Consistency.{IsConsistent}
 use Rattle.machine_model.specs.History.{Charter, IsLegal, IsLawful, AreLawful, after_step, has_steps, reply_of, state_after, state_from, opening_state, is_drop, SomeDues}

@@ -12,7 +12,7 @@ pub use Rattle.session_model.specs.Pass.{is_call}
 use Rattle.machine_model.specs.State.{State}
 use Rattle.machine_model.specs.History.{Charter, after_step, state_from, reply_of, acts_by, latest, SomeDues, AreLawful, IsLegal, has_ticket, is_due, greatest_jump, greatest_moment}
 use Rattle.machine_model.specs.Ready.{is_ready}
-use Rattle.history_replay.specs.Room.{HasRoom}
+use Rattle.journal_lines.specs.Room.{HasRoom}
 use Rattle.session_model.specs.Turning.{GivesNoTicket, IsNotReady}
 use Rattle.session_model.specs.Pass.{PassView, Every}
 

@@ -7,8 +7,8 @@ use Rattle.engine_text.specs.declared.step.Step.{Step}
 use Rattle.engine_text.specs.declared.call.Call.{Call}
 use Rattle.engine_text.specs.declared.call.Call.TheVariants.{Take, Drop}
 use Rattle.event_ring.specs.Ring.{Kept, ring_of}
-use Rattle.history_replay.specs.Kept.{ends_of}
-use Rattle.history_replay.specs.Kept as journal
+use Rattle.journal_lines.specs.KeptJournal.{ends_of}
+use Rattle.journal_lines.specs.KeptJournal as journal
 use Rattle.machine_model.specs.EventLines.{lines_of}
 use Rattle.machine_model.specs.History.{Charter, after_step, events_of, state_after}
 use Rattle.machine_model.specs.Step.{step_effect}
@@ -42,7 +42,7 @@ pub record Plays (x : Step) (d d' : Stored) : Type 0 where
       → d'.ring ≡ ring_of (all ++ (step_effect x d.machine.memory.state).events)
 
 -- the same entries and due steps, and no less room
-pub record IsLike (j j' : journal.Kept) : Type 0 where
+pub record IsLike (j j' : journal.KeptJournal) : Type 0 where
   pub entries : j'.entries ≡ j.entries
   pub since : j'.since ≡ j.since
   pub room : j.room ≤ j'.room

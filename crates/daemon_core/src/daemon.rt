@@ -14,7 +14,7 @@ use crate::stored::Stored;
 use container_machine::Machine;
 use engine_text::{Call, NoMemory, Reply};
 use event_ring::Ring;
-use history_replay::Journal;
+use journal_lines::Journal;
 use session_model::Turned;
 use std::alloc::Global;
 

@@ -1,13 +1,13 @@
 // A part of the journal.
 ghost use Rattle.std.specs.Prelude.{◌≡◌, ℕ, ◌++◌, OnErr, OnOk};
-ghost use Rattle.history_replay.specs.JournalLines.{journal_line};
+ghost use Rattle.journal_lines.specs.JournalLines.{journal_line};
 ghost use Rattle.daemon_core.specs.JournalTurns.{JournalTurn};
 ghost use Rattle.daemon_core.specs.Passing.{whole_pass};
 
 use crate::append::append;
 use crate::daemon::Daemon;
 use engine_text::{Entry, NoMemory};
-use history_replay::write_line;
+use journal_lines::write_line;
 use session_model::Part;
 use std::alloc::Global;
 

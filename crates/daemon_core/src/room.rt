@@ -1,7 +1,7 @@
 // Room for a call in the journal.
 ghost use Rattle.std.specs.Prelude.{◌≡◌};
 ghost use Rattle.machine_model.specs.History.{has_steps};
-ghost use Rattle.history_replay.specs.Room.{places_of, has_room};
+ghost use Rattle.journal_lines.specs.Room.{places_of, has_room};
 ghost use Rattle.daemon_core.specs.Storing.{charter_for};
 
 use container_machine::Machine;

@@ -2,7 +2,7 @@
 ghost use Rattle.std.specs.Prelude.{◌≡◌, ◌≢◌, ◌+◌, ◌≤◌, IfOk, OnErr, OnOk, IsFalse, length};
 ghost use Rattle.engine_text.specs.declared.reply.Reply.TheVariants as replies;
 ghost use Rattle.engine_text.specs.declared.step.Step as steps;
-ghost use Rattle.history_replay.specs.Kept.{ends_of};
+ghost use Rattle.journal_lines.specs.KeptJournal.{ends_of};
 ghost use Rattle.machine_model.specs.History.{IsLawful, is_drop, reply_of};
 ghost use Rattle.daemon_core.specs.Keeping.{history_of};
 ghost use Rattle.daemon_core.specs.Storing.{Adds, AddsDue};
@@ -12,7 +12,7 @@ use crate::telling::{keep_all, with_lines};
 use container_machine::Machine;
 use engine_text::{Call, Entry, NoMemory, Reply};
 use event_ring::Ring;
-use history_replay::Journal;
+use journal_lines::Journal;
 use std::alloc::Global;
 
 /// A machine, the journal of the steps that led to its state, and the last of their events.

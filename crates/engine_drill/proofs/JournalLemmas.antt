@@ -4,7 +4,7 @@ use Rattle.std.specs.List.{flat_map}
 use Rattle.std.proofs.lemmas.List.{take-take, take_all}
 use Rattle.std.proofs.lemmas.Grind.{flat_map-append}
 use Rattle.engine_text.specs.declared.entry.Entry.{Entry}
-use Rattle.history_replay.specs.JournalLines.{journal_line}
+use Rattle.journal_lines.specs.JournalLines.{journal_line}
 
 -- one more line
 pub one_line : (xs : List Entry) (n : ℕ) (text new : List ℕ) → text ≡ flat_map journal_line (take n xs)

@@ -2,9 +2,9 @@
 use Rattle.std.specs.Prelude.{ℕ, zero, suc, ◌≡◌, ◌+◌, List, [], ◌∷◌, ◌++◌, length, codes, decimal}
 use Rattle.engine_text.specs.declared.step.Step.{Step}
 use Rattle.machine_model.specs.History.{Charter, events_of, state_after}
-use Rattle.history_replay.specs.Verdict.{IsVerdict}
-use Rattle.history_replay.specs.declared.verdict.Verdict.{Verdict}
-use Rattle.history_replay.specs.declared.verdict.Verdict.TheVariants.{Legal, Illegal, BadLine}
+use Rattle.journal_lines.specs.Verdict.{IsVerdict}
+use Rattle.journal_lines.specs.declared.verdict.Verdict.{Verdict}
+use Rattle.journal_lines.specs.declared.verdict.Verdict.TheVariants.{Legal, Illegal, BadLine}
 use Rattle.history_check.specs.Legal.{journal_of, steps_told}
 use Rattle.engine_drill.specs.Answers.{HaveStatuses, counts_of}
 

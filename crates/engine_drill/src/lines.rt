@@ -2,7 +2,7 @@
 ghost use Rattle.std.specs.Prelude.{◌≡◌, ◌≤◌, ◌+◌, ◌^◌, ◌++◌, IfOk, OnOk, length, string_bytes};
 ghost use Rattle.engine_drill.specs.Report as spec;
 
-use history_replay::Verdict;
+use journal_lines::Verdict;
 use std::alloc::{AllocError, Global};
 
 /// Adds a line of a word and a text.

@@ -3,7 +3,7 @@ ghost use Rattle.std.specs.Prelude.{◌≡◌, IfOk, string_bytes};
 ghost use Rattle.engine_drill.specs.Report.{report_by};
 
 use super::lines::{put_number, put_statuses, put_verdict};
-use history_replay::Verdict;
+use journal_lines::Verdict;
 use std::alloc::{AllocError, Global};
 
 /// The report by how often each status was answered, and how many events and containers there are.

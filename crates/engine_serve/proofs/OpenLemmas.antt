@@ -16,7 +16,7 @@ use Rattle.machine_model.specs.State.{State}
 use Rattle.machine_model.specs.Calls.Events.{first_event}
 use Rattle.machine_model.specs.Step.{at_moment}
 use Rattle.machine_model.specs.History.{Charter, events_of, opening_state, reply_of, state_after}
-use Rattle.history_replay.specs.Entries.{entries_of}
+use Rattle.journal_lines.specs.Entries.{history_entries}
 use Rattle.machine_model.specs.Statuses.{is_reply_of}
 use Rattle.machine_model.proofs.Histories.{events_append}
 use Rattle.machine_model.proofs.Kept.PastLemmas.{events_counted}
@@ -84,7 +84,7 @@ pub journal_follows : (ch : Charter) (h : List Step) (k t : ℕ)
     → CanFollow ch (h ++ Step.Call k t call.JournalRead ∷ []) (reply_of (state_after ch h) k t call.JournalRead)
 journal_follows ch h k t =
     let x : Step = Step.Call k t call.JournalRead in
-    let count : (state_after ch h).call_count ≡ length (entries_of ch h) = counted_entries ch h in
+    let count : (state_after ch h).call_count ≡ length (history_entries ch h) = counted_entries ch h in
     let more = entries_append ch h (x ∷ []) in
-    let sum = ap length more.1 ∙ length-append (entries_of ch h) more.0 in
+    let sum = ap length more.1 ∙ length-append (history_entries ch h) more.0 in
     omega (arith, count, sum)

@@ -7,8 +7,8 @@ use Rattle.engine_text.specs.declared.entry.Entry.{Entry}
 use Rattle.engine_text.specs.declared.step.Step.{Step}
 use Rattle.machine_model.specs.State.{State}
 use Rattle.machine_model.specs.History.{after_step, IsLawful, AreLawful}
-use Rattle.history_replay.specs.Stored.{due_steps}
-use Rattle.history_replay.specs.Due.{IsTimed, IsDueCount, TellsDueCount, behind_dues}
+use Rattle.journal_lines.specs.Stored.{due_steps}
+use Rattle.journal_lines.specs.Due.{IsMomentFor, IsDueCount, TellsDueCount, behind_dues}
 use Rattle.history_check.specs.Counting.{IsLeastUpTo, IsPast, HasRun, first_of, is_settled, count_text}
 use Rattle.history_check.specs.Checking.{IsRun}
 use Rattle.history_check.specs.declared.dues.Dues.TheVariants as dues
@@ -48,11 +48,11 @@ kept_on s e n (Some least) h more most d = grind (arith, nat_tests, more, most)
 
 -- whether the count serves is whether the moment is the call's
 serves_at : (s : State) (e : Entry) (now : State) (n : ℕ) (b : Bool) → now ≡ behind_dues s n → AreLawful s (due_steps n)
-    → Decides b (IsTimed now e.moment e.call) → Decides b (IsDueCount s e n)
+    → Decides b (IsMomentFor now e.moment e.call) → Decides b (IsDueCount s e n)
 serves_at s e now n b is all timed =
-    (λ t. (all, subst (λ (y : State). IsTimed y e.moment e.call) is (timed.0 t)), λ d. timed.1 (subst (λ (y : State). IsTimed y e.moment e.call) (sym is) d.1))
+    (λ t. (all, subst (λ (y : State). IsMomentFor y e.moment e.call) is (timed.0 t)), λ d. timed.1 (subst (λ (y : State). IsMomentFor y e.moment e.call) (sym is) d.1))
 
-pub run_first : (s : State) (e : Entry) (b : Bool) → Decides b (IsTimed s e.moment e.call) → HasRun s e s 0 (first_of None b 0)
+pub run_first : (s : State) (e : Entry) (b : Bool) → Decides b (IsMomentFor s e.moment e.call) → HasRun s e s 0 (first_of None b 0)
 run_first s e b timed = record {
   state = refl;
   lawful = tt;
@@ -63,7 +63,7 @@ run_first s e b timed = record {
 
 run_next : (s : State) (e : Entry) (now next : State) (n : ℕ) (o : Option ℕ) (b : Bool) → HasRun s e now n o → is_settled o n e.dues ≡ false
     → IsLawful now Step.Due → next ≡ after_step now Step.Due → next.step_count ≡ now.step_count + 1
-    → Decides b (IsTimed next e.moment e.call) → HasRun s e next (suc n) (first_of o b (suc n))
+    → Decides b (IsMomentFor next e.moment e.call) → HasRun s e next (suc n) (first_of o b (suc n))
 run_next s e now next n o b run more lawful is counted timed =
     let state : next ≡ behind_dues s (suc n) = is ∙ ap (λ (y : State). after_step y Step.Due) run.state ∙ sym (dues_more s n) in
     let all : AreLawful s (due_steps (suc n)) = lawful_more s n run.lawful (subst (λ (y : State). IsLawful y Step.Due) run.state lawful) in
@@ -77,7 +77,7 @@ run_next s e now next n o b run more lawful is counted timed =
 
 pub run_more : (s : State) (e : Entry) (now next : State) (n : ℕ) (o : Option ℕ) (b : Bool) → HasRun s e now n o → is_settled o n e.dues ≡ false
     → IsLawful now Step.Due → next ≡ after_step now Step.Due → next.step_count ≡ now.step_count + 1
-    → Decides b (IsTimed next e.moment e.call) → HasRun s e next (n + 1) (first_of o b (n + 1))
+    → Decides b (IsMomentFor next e.moment e.call) → HasRun s e next (n + 1) (first_of o b (n + 1))
 run_more s e now next n o b run more lawful is counted timed =
     let one : suc n ≡ n + 1 = omega arith in
     subst (λ k. HasRun s e next k (first_of o b k)) one (run_next s e now next n o b run more lawful is counted timed)
@@ -104,14 +104,14 @@ tells s e now n None run (inr past) = inr (λ m d. by m d (nat_le m n) refl, ref
     by m d true low = run.lowest m (grind (arith, nat_tests, low)) d
     by m d false high = none_behind s e now n m run.state past (grind (arith, nat_tests, high)) d
 
-pub run_serves : (s : State) (e : Entry) (now : State) (n : ℕ) (o : Option ℕ) → HasRun s e now n o → IsTimed now e.moment e.call → n ≡ e.dues
-    → IsRun s e now dues.Serves
+pub run_serves : (s : State) (e : Entry) (now : State) (n : ℕ) (o : Option ℕ) → HasRun s e now n o → IsMomentFor now e.moment e.call → n ≡ e.dues
+    → IsRun s e now dues.Made
 run_serves s e now n o run timed is =
-    let here : IsDueCount s e n = (run.lawful, subst (λ (y : State). IsTimed y e.moment e.call) run.state timed) in
+    let here : IsDueCount s e n = (run.lawful, subst (λ (y : State). IsMomentFor y e.moment e.call) run.state timed) in
     (subst (IsDueCount s e) is here, run.state ∙ ap (behind_dues s) is)
 
 not_kept : (s : State) (e : Entry) (now : State) (n : ℕ) (o : Option ℕ) → HasRun s e now n o → IsEnd e now n o
-    → (n ≡ e.dues → IsTimed now e.moment e.call → ⊥) → IsDueCount s e e.dues → ⊥
+    → (n ≡ e.dues → IsMomentFor now e.moment e.call → ⊥) → IsDueCount s e e.dues → ⊥
 not_kept s e now n o run end other d = by (nat_le e.dues n) refl (e.dues == n) refl
   where
     beyond : n < e.dues → IsEnd e now n o → ⊥
@@ -125,11 +125,11 @@ not_kept s e now n o run end other d = by (nat_le e.dues n) refl (e.dues == n) r
     by : (t : Bool) → nat_le e.dues n ≡ t → (u : Bool) → (e.dues == n) ≡ u → ⊥
     by true low true same =
         let is : n ≡ e.dues = grind (arith, nat_tests, same) in
-        other is (subst (λ (y : State). IsTimed y e.moment e.call) (ap (behind_dues s) (sym is) ∙ sym run.state) d.1)
+        other is (subst (λ (y : State). IsMomentFor y e.moment e.call) (ap (behind_dues s) (sym is) ∙ sym run.state) d.1)
     by true low false differs = run.kept (grind (arith, nat_tests, low, differs)) d
     by false high u same = beyond (grind (arith, nat_tests, high)) end
 
 pub run_other : (s : State) (e : Entry) (now : State) (n : ℕ) (o : Option ℕ) → HasRun s e now n o → IsEnd e now n o
-    → (n ≡ e.dues → IsTimed now e.moment e.call → ⊥) → (found : List ℕ) → found ≡ count_text o → IsRun s e now (dues.Other found)
+    → (n ≡ e.dues → IsMomentFor now e.moment e.call → ⊥) → (found : List ℕ) → found ≡ count_text o → IsRun s e now (dues.Other found)
 run_other s e now n o run end other found is =
     (not_kept s e now n o run end other, subst (TellsDueCount s e) (sym is) (tells s e now n o run end))

@@ -7,13 +7,13 @@ use Rattle.engine_text.specs.declared.entry.Entry.{Entry}
 use Rattle.engine_text.specs.declared.step.Step.{Step}
 use Rattle.machine_model.specs.State.{State}
 use Rattle.machine_model.specs.History.{IsLawful, IsLawfulCall, after_step, has_ticket, reply_of}
-use Rattle.history_replay.specs.JournalLines.{reply_value}
+use Rattle.journal_lines.specs.JournalLines.{reply_value}
 use Rattle.machine_model.specs.Ready.{is_ready}
 use Rattle.machine_model.proofs.Histories.{state_append}
-use Rattle.history_replay.specs.Stored.{due_steps}
-use Rattle.history_replay.specs.Due.{IsTimed, IsDueCount, behind_dues}
-use Rattle.history_replay.specs.Entry.{IsWrong, OtherDues, NotReady, OtherReply, IsRight, lacks_ticket, can_answer, kept_reply, found_reply, behind_entry}
-use Rattle.history_replay.specs.Line.{HasLine}
+use Rattle.journal_lines.specs.Stored.{due_steps}
+use Rattle.journal_lines.specs.Due.{IsMomentFor, IsDueCount, behind_dues}
+use Rattle.journal_lines.specs.Entry.{IsWrong, OtherDues, NotReady, OtherReply, IsRight, lacks_ticket, can_answer, kept_reply, found_reply, behind_entry}
+use Rattle.journal_lines.specs.Line.{HasLine}
 use Rattle.history_check.specs.Checking.{IsRun, IsSaid}
 use Rattle.history_check.specs.declared.dues.Dues.{Dues}
 use Rattle.history_check.specs.declared.dues.Dues.TheVariants as dues
@@ -25,7 +25,7 @@ stands : (b : Bool) → not b ≡ false → b ≡ true
 stands true h = refl
 stands false h = let never : ⊥ = cc in absurd never
 
-lawful_call : (s : State) (n k t : ℕ) (c : Call) → lacks_ticket s k c ≡ false → IsTimed (behind_dues s n) t c → is_ready (behind_dues s n) c ≡ true
+lawful_call : (s : State) (n k t : ℕ) (c : Call) → lacks_ticket s k c ≡ false → IsMomentFor (behind_dues s n) t c → is_ready (behind_dues s n) c ≡ true
     → IsLawfulCall (behind_dues s n) k t c
 lawful_call s n k t (Call.Drop ticket) holds timed ready = (timed, held_behind s k ticket n (stands (has_ticket s k ticket) holds))
 lawful_call s n k t (Call.Take ticket) holds timed ready = (timed, held_behind s k ticket n (stands (has_ticket s k ticket) holds), ready)
@@ -46,11 +46,11 @@ entry_state s now after e is made =
 -- ---- what is said of an entry
 
 -- the due steps, as they are told
-pub ran : (s : State) (e : Entry) (now : State) (d : Dues) → IsRun s e now d → d ≡ dues.Serves → IsDueCount s e e.dues × (now ≡ behind_dues s e.dues)
+pub ran : (s : State) (e : Entry) (now : State) (d : Dues) → IsRun s e now d → d ≡ dues.Made → IsDueCount s e e.dues × (now ≡ behind_dues s e.dues)
 ran s e now d run is = subst (IsRun s e now) is run
 
 -- where they serve, and the rest is as it should be, the call is lawful
-pub lawful_now : (s : State) (e : Entry) (now : State) (d : Dues) → HasLine e → lacks_ticket s e.conn e.call ≡ false → IsRun s e now d → d ≡ dues.Serves
+pub lawful_now : (s : State) (e : Entry) (now : State) (d : Dues) → HasLine e → lacks_ticket s e.conn e.call ≡ false → IsRun s e now d → d ≡ dues.Made
     → is_ready now e.call ≡ true → IsLawful now (Step.Call e.conn e.moment e.call)
 lawful_now s e now d has holds run is ready =
     let (count, at) = ran s e now d run is in
@@ -69,7 +69,7 @@ other_dues s e now d kept found holds run is digits =
     let both : IsRun s e now (dues.Other found) = subst (IsRun s e now) is run in
     subst (λ k. IsWrong s e k found) (sym digits) (OtherDues found holds both.0 both.1)
 
-pub not_ready : (s : State) (e : Entry) (now : State) (d : Dues) → lacks_ticket s e.conn e.call ≡ false → IsRun s e now d → d ≡ dues.Serves
+pub not_ready : (s : State) (e : Entry) (now : State) (d : Dues) → lacks_ticket s e.conn e.call ≡ false → IsRun s e now d → d ≡ dues.Made
     → is_ready now e.call ≡ false → IsWrong s e (kept_reply e) (codes "not ready")
 not_ready s e now d holds run is never =
     let (count, at) = ran s e now d run is in
@@ -80,7 +80,7 @@ abbrev text_at : State → Entry → List ℕ
 text_at now e = compact_text (reply_value e.call (reply_of now e.conn e.moment e.call))
 
 pub right_entry : (s : State) (e : Entry) (now after : State) (d : Dues) (kept found : List ℕ) → lacks_ticket s e.conn e.call ≡ false → IsRun s e now d
-    → d ≡ dues.Serves → is_ready now e.call ≡ true → kept ≡ kept_reply e → found ≡ text_at now e → kept ≡ found
+    → d ≡ dues.Made → is_ready now e.call ≡ true → kept ≡ kept_reply e → found ≡ text_at now e → kept ≡ found
     → after ≡ after_step now (Step.Call e.conn e.moment e.call) → IsRight s e × (after ≡ behind_entry s e)
 right_entry s e now after d kept found holds run is ready old new same made =
     let (count, at) = ran s e now d run is in
@@ -88,7 +88,7 @@ right_entry s e now after d kept found holds run is ready old new same made =
     (record { ticket = holds; dues = count; ready = ap (λ (y : State). is_ready y e.call) (sym at) ∙ ready; reply = reply }, entry_state s now after e at made)
 
 pub other_reply : (s : State) (e : Entry) (now : State) (d : Dues) (kept found : List ℕ) → lacks_ticket s e.conn e.call ≡ false → IsRun s e now d
-    → d ≡ dues.Serves → is_ready now e.call ≡ true → kept ≡ kept_reply e → found ≡ text_at now e → (kept ≡ found → ⊥) → IsWrong s e kept found
+    → d ≡ dues.Made → is_ready now e.call ≡ true → kept ≡ kept_reply e → found ≡ text_at now e → (kept ≡ found → ⊥) → IsWrong s e kept found
 other_reply s e now d kept found holds run is ready old new differs =
     let (count, at) = ran s e now d run is in
     let text : found ≡ found_reply s e = new ∙ ap (λ (y : State). text_at y e) at in

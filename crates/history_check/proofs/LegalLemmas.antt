@@ -16,8 +16,8 @@ use Rattle.machine_model.specs.Chain.{Effect}
 use Rattle.machine_model.specs.Call.{outcome_of}
 use Rattle.machine_model.specs.Consistency.{IsConsistent}
 use Rattle.machine_model.specs.History.{after_step, state_from, opening_state, reply_of, IsLawful, AreLawful}
-use Rattle.history_replay.specs.Entries.{entries_from}
-use Rattle.history_replay.specs.JournalLines.{call_value, reply_value, journal_line}
+use Rattle.journal_lines.specs.Entries.{entries_from}
+use Rattle.journal_lines.specs.JournalLines.{call_value, reply_value, journal_line}
 use Rattle.machine_model.specs.Ready.{is_ready}
 use Rattle.machine_model.specs.Step.{at_moment}
 use Rattle.machine_model.proofs.Consistent.BackLemmas.{form_of}
@@ -27,13 +27,13 @@ use Rattle.machine_model.proofs.Costs.CallLemmas.{call_costs, ends_any}
 use Rattle.machine_model.proofs.Histories.{lawful_append, state_append}
 use Rattle.machine_model.proofs.Kept.CountLemmas.{Counted, counted_priced}
 use Rattle.machine_model.proofs.Laws.{kept_step, consistency_law}
-use Rattle.history_replay.specs.Stored.{due_steps, steps_of}
-use Rattle.history_replay.specs.Due.{behind_dues}
-use Rattle.history_replay.specs.Entry.{IsRight, behind_entry}
-use Rattle.history_replay.specs.Line.{HasLine}
-use Rattle.history_replay.specs.Verdict.{IsVerdictFrom, AtEnd, AtNoLine, AtWrongLine, AfterRightLine}
-use Rattle.history_replay.specs.declared.verdict.Verdict.{Verdict}
-use Rattle.history_replay.specs.declared.verdict.Verdict.TheVariants.{Legal}
+use Rattle.journal_lines.specs.Stored.{due_steps, entry_steps}
+use Rattle.journal_lines.specs.Due.{behind_dues}
+use Rattle.journal_lines.specs.Entry.{IsRight, behind_entry}
+use Rattle.journal_lines.specs.Line.{HasLine}
+use Rattle.journal_lines.specs.Verdict.{IsVerdictFrom, AtEnd, AtNoLine, AtWrongLine, AfterRightLine}
+use Rattle.journal_lines.specs.declared.verdict.Verdict.{Verdict}
+use Rattle.journal_lines.specs.declared.verdict.Verdict.TheVariants.{Legal}
 use Rattle.history_check.specs.Legal.{LegalLaw}
 use Rattle.history_check.proofs.EntryLemmas.{lawful_behind}
 use Rattle.history_check.proofs.RunLemmas.{due_counted}
@@ -92,19 +92,19 @@ record Plays (s : State) (text : List ℕ) (steps : ℕ) : Type 0 where
   counted : s.step_count + length history ≡ steps
   lines : text ≡ flat_map journal_line (entries_from s 0 history)
 
-entry_lawful : (s : State) (e : Entry) → HasLine e → IsRight s e → AreLawful s (steps_of e)
+entry_lawful : (s : State) (e : Entry) → HasLine e → IsRight s e → AreLawful s (entry_steps e)
 entry_lawful s e has right =
     lawful_append s (due_steps e.dues) (Step.Call e.conn e.moment e.call ∷ []) right.dues.0
     (lawful_behind s e has right.ticket right.dues right.ready, tt)
 
 entry_lines : (s : State) (e : Entry) (h : List Step) → IsRight s e
-    → flat_map journal_line (entries_from s 0 (steps_of e ++ h)) ≡ journal_line e ++ flat_map journal_line (entries_from (behind_entry s e) 0 h)
+    → flat_map journal_line (entries_from s 0 (entry_steps e ++ h)) ≡ journal_line e ++ flat_map journal_line (entries_from (behind_entry s e) 0 h)
 entry_lines s e h right =
     let x : Step = Step.Call e.conn e.moment e.call in
     let at : State = behind_dues s e.dues in
     let reply : Reply = reply_of at e.conn e.moment e.call in
     let none : e.dues + 0 ≡ e.dues = omega arith in
-    let moved : entries_from s 0 (steps_of e ++ h) ≡ entries_from at e.dues (x ∷ h) =
+    let moved : entries_from s 0 (entry_steps e ++ h) ≡ entries_from at e.dues (x ∷ h) =
     ap (entries_from s 0) (append_assoc (due_steps e.dues) (x ∷ []) h) ∙ entries_behind s 0 e.dues (x ∷ h) ∙ ap (λ m. entries_from at m (x ∷ h)) none in
     let behind : after_step at x ≡ behind_entry s e = sym (state_append s (due_steps e.dues) (x ∷ [])) in
     ap (flat_map journal_line) moved
@@ -126,13 +126,13 @@ plays _ _ _ _ steps kept (AtNoLine s n text full none) e = let never : ⊥ = cc 
 plays _ _ _ _ steps kept (AtWrongLine s n x rest old found has wrong) e = let never : ⊥ = cc in absurd never
 plays _ _ _ _ steps kept (AfterRightLine s n x rest v has right more) e =
     let lawful = entry_lawful s x has right in
-    let behind = steps_counted s (steps_of x) kept lawful in
+    let behind = steps_counted s (entry_steps x) kept lawful in
     let on : Plays (behind_entry s x) rest steps = plays (behind_entry s x) (n + 1) rest v steps behind.0 more e in
-    let count : (behind_entry s x).step_count ≡ s.step_count + length (steps_of x) = behind.1 in
+    let count : (behind_entry s x).step_count ≡ s.step_count + length (entry_steps x) = behind.1 in
     record {
-      history = steps_of x ++ on.history;
-      lawful = lawful_append s (steps_of x) on.history lawful on.lawful;
-      counted = omega (arith, on.counted, count, length-append (steps_of x) on.history);
+      history = entry_steps x ++ on.history;
+      lawful = lawful_append s (entry_steps x) on.history lawful on.lawful;
+      counted = omega (arith, on.counted, count, length-append (entry_steps x) on.history);
       lines = ap (λ l. journal_line x ++ l) on.lines ∙ sym (entry_lines s x on.history right);
     }
 

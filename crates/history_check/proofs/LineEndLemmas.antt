@@ -13,8 +13,9 @@ use Rattle.serde_json.specs.Written.{number_text, comma_if, compact_text, items_
 use Rattle.json_laws.specs.Plain.{IsWhole, IsPlain, ArePlain, AreRising}
 use Rattle.json_laws.specs.Sound.{line_text}
 use Rattle.engine_text.specs.declared.entry.Entry.{Entry}
-use Rattle.history_replay.specs.JournalLines.{entry_value, journal_line}
-use Rattle.history_replay.specs.Line.{HasLine, IsLine, BeginsWithLine}
+use Rattle.journal_lines.specs.JournalLines.{entry_value, journal_line}
+use Rattle.journal_lines.specs.Line.{HasLine, IsJournalLine, BeginsWithLine}
+use Rattle.journal_lines.proofs.EntryLemmas.{is_carried}
 use Rattle.history_check.specs.Cutting.{HasNoLineEnd, IsFirstLine}
 
 -- ---- texts without a line end
@@ -124,7 +125,7 @@ differ (x ∷ xs) h = let p = and_parts (not (x == 10)) (no_end xs) h in (λ e. 
 pub line_is_first : (e : Entry) → HasLine e → IsFirstLine (journal_line e)
 unfolding line_text
 line_is_first e has =
-    (compact_text (entry_value e), All-from_recursion (λ b. b ≢ 10) (compact_text (entry_value e)) (differ (compact_text (entry_value e)) (data_ends (entry_value e) has.carried.0)), refl)
+    (compact_text (entry_value e), All-from_recursion (λ b. b ≢ 10) (compact_text (entry_value e)) (differ (compact_text (entry_value e)) (data_ends (entry_value e) (is_carried e has).0)), refl)
 
 same_front : (f g c d : List ℕ) → AllByRecursion (λ b. b ≢ 10) f → AllByRecursion (λ b. b ≢ 10) g → f ++ 10 ∷ c ≡ g ++ 10 ∷ d → f ≡ g
 same_front [] [] c d h k e = refl
@@ -147,7 +148,7 @@ same_line a b c d (f, h, is) (g, k, at) e =
     is ∙ ap (λ l. l ++ 10 ∷ []) same ∙ sym at
 
 -- where the first line is none, the text begins with none
-pub no_first : (text line rest : List ℕ) → IsFirstLine line → line ++ rest ≡ text → (IsLine line → ⊥) → BeginsWithLine text → ⊥
+pub no_first : (text line rest : List ℕ) → IsFirstLine line → line ++ rest ≡ text → (IsJournalLine line → ⊥) → BeginsWithLine text → ⊥
 no_first text line rest first whole none (line', rest', (e, has, is), begins) =
     let same : journal_line e ≡ line = same_line (journal_line e) line rest' rest (line_is_first e has) first (ap (λ l. l ++ rest') is ∙ begins ∙ sym whole) in
     none (e, has, same)

@@ -4,14 +4,14 @@ use Rattle.std.specs.Prelude.{decimal}
 use Rattle.std.proofs.lemmas.Bool.{false≢true, cases_lt}
 use Rattle.std.proofs.lemmas.List.{append_cancel_left}
 use Rattle.machine_model.specs.State.{State}
-use Rattle.history_replay.specs.JournalLines.{journal_line}
-use Rattle.history_replay.specs.Due.{TellsDueCount, IsLeastDueCount}
-use Rattle.history_replay.specs.Entry.{IsWrong, NoTicket, OtherDues, NotReady, OtherReply, IsRight, behind_entry}
-use Rattle.history_replay.specs.Line.{HasLine}
-use Rattle.history_replay.specs.Verdict.{IsVerdictFrom, AtEnd, AtNoLine, AtWrongLine, AfterRightLine}
-use Rattle.history_replay.specs.declared.verdict.Verdict.{Verdict}
-use Rattle.history_replay.specs.declared.verdict.Verdict.TheVariants.{Illegal}
-use Rattle.history_replay.proofs.EntryLemmas.{one_line}
+use Rattle.journal_lines.specs.JournalLines.{journal_line}
+use Rattle.journal_lines.specs.Due.{TellsDueCount, IsLeastDueCount}
+use Rattle.journal_lines.specs.Entry.{IsWrong, NoTicket, OtherDues, NotReady, OtherReply, IsRight, behind_entry}
+use Rattle.journal_lines.specs.Line.{HasLine}
+use Rattle.journal_lines.specs.Verdict.{IsVerdictFrom, AtEnd, AtNoLine, AtWrongLine, AfterRightLine}
+use Rattle.journal_lines.specs.declared.verdict.Verdict.{Verdict}
+use Rattle.journal_lines.specs.declared.verdict.Verdict.TheVariants.{Illegal}
+use Rattle.journal_lines.proofs.EntryLemmas.{one_line}
 use Rattle.engine_text.specs.declared.entry.Entry.{Entry}
 use Rattle.history_check.specs.Legal.{OneVerdictLaw}
 use Rattle.history_check.proofs.LineEndLemmas.{line_is_first, same_line}

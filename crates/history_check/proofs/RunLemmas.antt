@@ -20,8 +20,8 @@ use Rattle.machine_model.proofs.MomentLemmas.{moves}
 use Rattle.machine_model.proofs.StandingLemmas.{Held, held_due}
 use Rattle.container_machine.specs.Parts.{MachineParts}
 use Rattle.container_machine.specs.Dues.{IsStepped}
-use Rattle.history_replay.specs.Stored.{due_steps}
-use Rattle.history_replay.specs.Due.{IsTimed, IsDueCount, behind_dues}
+use Rattle.journal_lines.specs.Stored.{due_steps}
+use Rattle.journal_lines.specs.Due.{IsMomentFor, IsDueCount, behind_dues}
 use Rattle.history_check.specs.Counting.{IsPast}
 
 -- ---- one step
@@ -83,7 +83,7 @@ held_behind s k ticket (suc n) h = held_behind (after_step s Step.Due) k ticket 
 -- ---- where no step brings the call's moment
 
 -- no call stands before the clock
-timed_clock : (s : State) (t : ℕ) (c : Call) → IsTimed s t c → s.clock ≤ t
+timed_clock : (s : State) (t : ℕ) (c : Call) → IsMomentFor s t c → s.clock ≤ t
 timed_clock s t (Call.Drop ticket) h = omega (arith, h)
 timed_clock s t (Call.Take ticket) h = h.0
 timed_clock s t c h = h.0.0

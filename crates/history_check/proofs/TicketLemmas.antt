@@ -18,7 +18,7 @@ use Rattle.machine_model.proofs.Costs.CostLemmas.{Cost, none, IsPriced, write_pa
 use Rattle.machine_model.proofs.Costs.EffectLemmas.{costs_due}
 use Rattle.machine_model.proofs.Costs.ExecEndLemmas.{level_end, level_ends}
 use Rattle.machine_model.proofs.StandingLemmas.{Held}
-use Rattle.history_replay.specs.Due.{behind_dues}
+use Rattle.journal_lines.specs.Due.{behind_dues}
 use Rattle.engine_text.specs.declared.container.Container.{Container}
 use Rattle.engine_text.specs.declared.owner.Owner.{Owner}
 use Rattle.engine_text.specs.declared.owner.Owner.TheVariants.{Container as OfContainer, Exec as OfExec}

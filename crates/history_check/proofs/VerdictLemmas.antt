@@ -5,14 +5,14 @@ use Rattle.std.proofs.lemmas.Bool.Decides.{nat_tests}
 use Rattle.engine_text.specs.declared.entry.Entry.{Entry}
 use Rattle.engine_text.specs.declared.memory.NoMemory.{NoMemory}
 use Rattle.machine_model.specs.State.{State}
-use Rattle.history_replay.specs.JournalLines.{journal_line}
-use Rattle.history_replay.specs.Entry.{IsWrong}
-use Rattle.history_replay.specs.Line.{HasLine, IsLine, IsLineFault}
-use Rattle.history_replay.specs.Verdict.{IsVerdictFrom, AtEnd, AtNoLine, AtWrongLine, AfterRightLine}
-use Rattle.history_replay.specs.declared.fault.LineFault.{LineFault}
-use Rattle.history_replay.specs.declared.fault.LineFault.TheVariants as line_fault
-use Rattle.history_replay.specs.declared.verdict.Verdict.{Verdict}
-use Rattle.history_replay.specs.declared.verdict.Verdict.TheVariants.{Legal, Illegal, BadLine}
+use Rattle.journal_lines.specs.JournalLines.{journal_line}
+use Rattle.journal_lines.specs.Entry.{IsWrong}
+use Rattle.journal_lines.specs.Line.{HasLine, IsJournalLine, IsLineFault}
+use Rattle.journal_lines.specs.Verdict.{IsVerdictFrom, AtEnd, AtNoLine, AtWrongLine, AfterRightLine}
+use Rattle.journal_lines.specs.declared.fault.LineFault.{LineFault}
+use Rattle.journal_lines.specs.declared.fault.LineFault.TheVariants as line_fault
+use Rattle.journal_lines.specs.declared.verdict.Verdict.{Verdict}
+use Rattle.journal_lines.specs.declared.verdict.Verdict.TheVariants.{Legal, Illegal, BadLine}
 use Rattle.history_check.specs.Cutting.{HasNoLineEnd, IsFirstLine}
 use Rattle.history_check.specs.Checking.{IsLineSaid}
 use Rattle.history_check.proofs.LineEndLemmas.{no_first, no_end_no_line}
@@ -59,7 +59,7 @@ first_some line (front, none, is) =
     let long : length line ≡ length (front ++ 10 ∷ []) = ap length is in
     omega (arith, long, length-append front (10 ∷ []))
 
-pub bad_line : (s : State) (n : ℕ) (line rest : List ℕ) → IsFirstLine line → (IsLine line → ⊥) → IsVerdictFrom s n (line ++ rest) (BadLine n)
+pub bad_line : (s : State) (n : ℕ) (line rest : List ℕ) → IsFirstLine line → (IsJournalLine line → ⊥) → IsVerdictFrom s n (line ++ rest) (BadLine n)
 bad_line s n line rest first none =
     let whole : line ++ rest ≡ line ++ rest = refl in
     AtNoLine s n (line ++ rest) (some line rest (first_some line first)) (no_first (line ++ rest) line rest first whole none)

@@ -2,15 +2,15 @@
 use Rattle.std.specs.Prelude.{◌≡◌, ℕ, List, ◌++◌, Option, Some, None}
 use Rattle.machine_model.specs.State.{State}
 use Rattle.machine_model.specs.History.{Charter}
-use Rattle.history_replay.specs.JournalLines.{journal_line}
-use Rattle.history_replay.specs.Line.{HasLine}
-use Rattle.history_replay.specs.Due.{IsDueCount, TellsDueCount, behind_dues}
-use Rattle.history_replay.specs.Entry.{IsWrong, IsRight, behind_entry}
-use Rattle.history_replay.specs.Verdict.{IsVerdictFrom}
-use Rattle.history_replay.specs.declared.verdict.Verdict.{Verdict}
+use Rattle.journal_lines.specs.JournalLines.{journal_line}
+use Rattle.journal_lines.specs.Line.{HasLine}
+use Rattle.journal_lines.specs.Due.{IsDueCount, TellsDueCount, behind_dues}
+use Rattle.journal_lines.specs.Entry.{IsWrong, IsRight, behind_entry}
+use Rattle.journal_lines.specs.Verdict.{IsVerdictFrom}
+use Rattle.journal_lines.specs.declared.verdict.Verdict.{Verdict}
 use Rattle.engine_text.specs.declared.entry.Entry.{Entry}
 use Rattle.history_check.specs.declared.dues.Dues.{Dues}
-use Rattle.history_check.specs.declared.dues.Dues.TheVariants.{Serves, Other}
+use Rattle.history_check.specs.declared.dues.Dues.TheVariants.{Made, Other}
 use Rattle.history_check.specs.declared.entry.Said.{Said}
 use Rattle.history_check.specs.declared.entry.Said.TheVariants.{Right, Wrong}
 
@@ -20,7 +20,7 @@ charter_of seed opening = record { seed = seed; opening = opening; greatest = 0 
 
 -- The machine was brought behind the entry's due steps, which are right; or they are wrong, and the right count is told.
 abbrev pub IsRun : State → Entry → State → Dues → Type 0
-IsRun before e after Serves = IsDueCount before e e.dues × (after ≡ behind_dues before e.dues)
+IsRun before e after Made = IsDueCount before e e.dues × (after ≡ behind_dues before e.dues)
 IsRun before e after (Other found) = (IsDueCount before e e.dues → ⊥) × TellsDueCount before e found
 
 -- What is said of an entry: it is right, and the machine was brought behind it; or it is wrong.

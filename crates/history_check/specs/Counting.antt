@@ -2,8 +2,8 @@
 use Rattle.std.specs.Prelude.{◌≡◌, ℕ, suc, ◌<◌, ◌≤◌, List, Option, Some, None, Bool, true, false, ◌&&◌, is_some, nat_le, codes, decimal}
 use Rattle.machine_model.specs.State.{State}
 use Rattle.machine_model.specs.History.{AreLawful}
-use Rattle.history_replay.specs.Stored.{due_steps}
-use Rattle.history_replay.specs.Due.{IsDueCount, IsLeastDueCount, behind_dues}
+use Rattle.journal_lines.specs.Stored.{due_steps}
+use Rattle.journal_lines.specs.Due.{IsDueCount, IsLeastDueCount, behind_dues}
 use Rattle.engine_text.specs.declared.entry.Entry.{Entry}
 
 -- Of the counts up to this one, the least that serves.

@@ -2,22 +2,22 @@
 use Rattle.std.specs.Prelude.{◌≡◌, ℕ, List, length, All}
 use Rattle.std.specs.List.{flat_map}
 use Rattle.machine_model.specs.History.{Charter, IsCharter, IsLegal}
-use Rattle.history_replay.specs.Entries.{entries_of}
-use Rattle.history_replay.specs.JournalLines.{journal_line}
-use Rattle.history_replay.specs.Stored.{steps_of}
-use Rattle.history_replay.specs.Texts.{EntryHasTexts}
-use Rattle.history_replay.specs.Verdict.{IsVerdict}
-use Rattle.history_replay.specs.declared.verdict.Verdict.{Verdict}
-use Rattle.history_replay.specs.declared.verdict.Verdict.TheVariants.{Legal}
+use Rattle.journal_lines.specs.Entries.{history_entries}
+use Rattle.journal_lines.specs.JournalLines.{journal_line}
+use Rattle.journal_lines.specs.Stored.{entry_steps}
+use Rattle.journal_lines.specs.FitsTypes.{EntryFitsTypes}
+use Rattle.journal_lines.specs.Verdict.{IsVerdict}
+use Rattle.journal_lines.specs.declared.verdict.Verdict.{Verdict}
+use Rattle.journal_lines.specs.declared.verdict.Verdict.TheVariants.{Legal}
 use Rattle.engine_text.specs.declared.step.Step.{Step}
 
 -- The lines of a history's calls, with the replies that they are given.
 abbrev pub journal_of : Charter → List Step → List ℕ
-journal_of charter h = flat_map journal_line (entries_of charter h)
+journal_of charter h = flat_map journal_line (history_entries charter h)
 
 -- The steps that these lines tell: those of the history up to its last call.
 abbrev pub steps_told : Charter → List Step → ℕ
-steps_told charter h = length (flat_map steps_of (entries_of charter h))
+steps_told charter h = length (flat_map entry_steps (history_entries charter h))
 
 -- The text is the journal of a legal history of so many steps.
 abbrev pub IsJournal : Charter → List ℕ → ℕ → Type 0
@@ -32,7 +32,7 @@ LegalLaw = (charter : Charter) (text : List ℕ) (steps : ℕ) → IsCharter cha
 -- The journal of each legal history is legal, whose calls and replies are what their types hold: texts of UTF-8, numbers
 -- of 64 bits, bytes.
 abbrev pub CompleteLaw : Type 0
-CompleteLaw = (charter : Charter) (h : List Step) → IsLegal charter h → All EntryHasTexts (entries_of charter h)
+CompleteLaw = (charter : Charter) (h : List Step) → IsLegal charter h → All EntryFitsTypes (history_entries charter h)
     → IsVerdict charter (journal_of charter h) (Legal (steps_told charter h))
 
 -- No text has two verdicts.

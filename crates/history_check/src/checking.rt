@@ -1,9 +1,9 @@
 // What is said of a journal (own: its lines are read from the first on, and its calls are made again).
 ghost use Rattle.std.specs.Prelude.{◌≤◌, IfOk};
 ghost use Rattle.machine_model.specs.History.{greatest_moment};
-ghost use Rattle.history_replay.specs.JournalLines.{journal_line};
-ghost use Rattle.history_replay.specs.Line.{HasLine};
-ghost use Rattle.history_replay.specs.Verdict.{IsVerdict, IsVerdictFrom};
+ghost use Rattle.journal_lines.specs.JournalLines.{journal_line};
+ghost use Rattle.journal_lines.specs.Line.{HasLine};
+ghost use Rattle.journal_lines.specs.Verdict.{IsVerdict, IsVerdictFrom};
 ghost use Rattle.history_check.specs.Cutting.{IsFirstLine};
 ghost use Rattle.history_check.specs.Checking.{charter_of, IsLineSaid};
 
@@ -11,7 +11,7 @@ use super::cut::cut_line;
 use super::entry::{Said, check_entry};
 use container_machine::Machine;
 use engine_text::{Entry, NoMemory};
-use history_replay::{LineFault, Verdict, read_line};
+use journal_lines::{LineFault, Verdict, read_line};
 use std::alloc::Global;
 
 // What is said of the line of an entry: none where it is right, and the machine was brought behind it.

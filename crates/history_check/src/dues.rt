@@ -6,7 +6,7 @@ ghost use Rattle.history_check.specs.Checking.{IsRun};
 ghost use Rattle.history_check.specs.Counting as spec;
 
 use super::making::step_due;
-use super::moments::{can_step, is_timed};
+use super::moments::{can_step, is_moment_for};
 use container_machine::Machine;
 use engine_text::{Entry, NoMemory, Text};
 use std::alloc::Global;
@@ -15,7 +15,7 @@ use std::alloc::Global;
 /// count is told.
 #[derive(Drop)]
 pub enum Dues {
-    Serves,
+    Made,
     Other { found: Text },
 }
 
@@ -72,16 +72,16 @@ pub fn run_dues(machine: &mut Machine, alloc: Global, entry: &Entry) -> Result<D
         (λ d. IsRun machine.old.memory.state entry.now machine.new.memory.state d) }
 {
     let mut count = 0;
-    let mut serves = is_timed(machine, entry.moment, &entry.call);
+    let mut serves = is_moment_for(machine, entry.moment, &entry.call);
     let mut least = first_of(None, serves, count);
     'dues: while !is_settled(least, count, entry.dues) && !is_past(machine, entry) {
         step_due(machine, alloc)?;
         count += 1;
-        serves = is_timed(machine, entry.moment, &entry.call);
+        serves = is_moment_for(machine, entry.moment, &entry.call);
         least = first_of(least, serves, count);
     }
     if serves && count == entry.dues {
-        return Ok(Dues::Serves);
+        return Ok(Dues::Made);
     }
     let found = count_text(alloc, least)?;
     Ok(Dues::Other { found })

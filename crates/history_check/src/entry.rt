@@ -3,10 +3,10 @@ ghost use Rattle.std.specs.Prelude.{◌≡◌, IfOk, OnOk};
 ghost use Rattle.serde_json.specs.Written.{compact_text};
 ghost use Rattle.engine_text.specs.declared.step.Step as steps;
 ghost use Rattle.machine_model.specs.History.{IsLawful, after_step, reply_of};
-ghost use Rattle.history_replay.specs.JournalLines.{reply_value};
+ghost use Rattle.journal_lines.specs.JournalLines.{reply_value};
 ghost use Rattle.machine_model.specs.Ready.{is_ready};
-ghost use Rattle.history_replay.specs.Entry.{kept_reply, lacks_ticket};
-ghost use Rattle.history_replay.specs.Line.{HasLine};
+ghost use Rattle.journal_lines.specs.Entry.{kept_reply, lacks_ticket};
+ghost use Rattle.journal_lines.specs.Line.{HasLine};
 ghost use Rattle.history_check.specs.Checking.{IsSaid};
 ghost use Rattle.history_check.specs.declared.entry.Said.TheVariants as said;
 
@@ -14,7 +14,7 @@ use super::dues::{Dues, run_dues, spelled};
 use super::making::ask;
 use container_machine::Machine;
 use engine_text::{Call, Entry, NoMemory, Text};
-use history_replay::reply_text;
+use journal_lines::reply_text;
 use std::alloc::Global;
 
 /// It is right; or it is wrong, with what it keeps and what is found.
@@ -89,7 +89,7 @@ pub fn check_entry(machine: &mut Machine, alloc: Global, entry: &Entry) -> Resul
         return wrong(alloc, entry, "no ticket");
     }
     match run_dues(machine, alloc, entry)? {
-        Dues::Serves => {}
+        Dues::Made => {}
         Dues::Other { found } => {
             let kept = spelled(alloc, entry.dues)?;
             return Ok(Said::Wrong { kept, found });

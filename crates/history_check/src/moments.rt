@@ -1,7 +1,7 @@
 // Whether a step may be made (own: a call stands where nothing is due at or before its moment).
 ghost use Rattle.std.specs.Prelude.{◌≡◌, Decides};
 ghost use Rattle.engine_text.specs.declared.step.Step as steps;
-ghost use Rattle.history_replay.specs.Due.{IsTimed};
+ghost use Rattle.journal_lines.specs.Due.{IsMomentFor};
 ghost use Rattle.machine_model.specs.History as spec;
 
 use container_machine::Machine;
@@ -52,8 +52,8 @@ fn is_timely(machine: &Machine, moment: u64) -> bool
 }
 
 /// Whether the moment is one for the call.
-pub fn is_timed(machine: &Machine, moment: u64, call: &Call) -> bool
-    ensures { Decides result (IsTimed machine.now.memory.state moment call.now) }
+pub fn is_moment_for(machine: &Machine, moment: u64, call: &Call) -> bool
+    ensures { Decides result (IsMomentFor machine.now.memory.state moment call.now) }
 {
     match call {
         Call::Drop { .. } => moment == machine.now(),

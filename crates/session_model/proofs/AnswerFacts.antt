@@ -8,7 +8,7 @@ use Rattle.engine_text.specs.declared.step.Step.{Step}
 use Rattle.machine_model.specs.Calls.Events.{first_kept}
 use Rattle.machine_model.specs.LogStream.{first_kept_removal}
 use Rattle.machine_model.specs.History.{Charter, state_after}
-use Rattle.history_replay.specs.Room.{HasRoom}
+use Rattle.journal_lines.specs.Room.{HasRoom}
 use Rattle.http_edge.specs.Message.{Request}
 use Rattle.session_model.specs.declared.followed.Followed.TheVariants as F
 use Rattle.session_model.specs.Exchange.{AtSome, EndsSo, IsShort, JournalIsFull, Kind}

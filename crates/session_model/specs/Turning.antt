@@ -8,7 +8,7 @@ use Rattle.engine_text.specs.declared.reply.Reply.{Reply}
 use Rattle.engine_text.specs.declared.reply.Reply.TheVariants as reply
 use Rattle.engine_text.specs.declared.step.Step.{Step}
 use Rattle.machine_model.specs.State.{State}
-use Rattle.history_replay.specs.Room.{HasRoom}
+use Rattle.journal_lines.specs.Room.{HasRoom}
 use Rattle.machine_model.specs.Ready.{is_ready}
 use Rattle.machine_model.specs.Soundness.{IsSound}
 use Rattle.session_model.specs.declared.turned.Turned.{Turned}

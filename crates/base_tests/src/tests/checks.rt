@@ -1,7 +1,7 @@
 // Small journals that were written by hand, from what the API says of each call, and their verdicts.
 use engine_text::NoMemory;
 use history_check::check;
-use history_replay::Verdict;
+use journal_lines::Verdict;
 use std::alloc::Global;
 
 /// The moment of the opening, in milliseconds since 1970.

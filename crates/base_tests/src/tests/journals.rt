@@ -1,5 +1,5 @@
 // Lines of format 1 that were written by hand, and bytes that are none.
-use history_replay::{LineFault, read_line, write_line};
+use journal_lines::{LineFault, read_line, write_line};
 use std::alloc::Global;
 use std::test::Fail;
 

@@ -4,8 +4,8 @@ use Rattle.std.specs.Option.{option_flatten}
 use Rattle.engine_line.specs.Lines.{seed_of, moment_in}
 use Rattle.engine_text.specs.declared.pairs.Pair.{Pair}
 use Rattle.machine_model.specs.History.{Charter}
-use Rattle.history_replay.specs.declared.verdict.Verdict.{Verdict}
-use Rattle.history_replay.specs.declared.verdict.Verdict.TheVariants.{Legal, Illegal, BadLine}
+use Rattle.journal_lines.specs.declared.verdict.Verdict.{Verdict}
+use Rattle.journal_lines.specs.declared.verdict.Verdict.TheVariants.{Legal, Illegal, BadLine}
 use Rattle.client_model.specs.Words.{Options, behind_options, one_word, value_of}
 use Rattle.client_model.specs.Plans.{Plan, Judges, prints, ends}
 use Rattle.client_model.specs.declared.words.Kind.TheVariants.{Valued}

@@ -1,11 +1,11 @@
 use Rattle.std.proofs.Common.{◌≡◌, ◌∙◌, ℕ, List, length, ap, subst}
 use Rattle.std.specs.Prelude.{All}
 use Rattle.machine_model.specs.History.{Charter, IsLegal, events_of, state_after}
-use Rattle.history_replay.specs.Entries.{entries_of}
-use Rattle.history_replay.specs.Texts.{EntryHasTexts}
-use Rattle.history_replay.specs.Verdict.{IsVerdict}
+use Rattle.journal_lines.specs.Entries.{history_entries}
+use Rattle.journal_lines.specs.FitsTypes.{EntryFitsTypes}
+use Rattle.journal_lines.specs.Verdict.{IsVerdict}
 use Rattle.history_check.specs.Legal.{journal_of, steps_told}
-use Rattle.history_replay.specs.declared.verdict.Verdict.TheVariants.{Legal}
+use Rattle.journal_lines.specs.declared.verdict.Verdict.TheVariants.{Legal}
 use Rattle.daemon_core.specs.Keeping.{history_of}
 use Rattle.daemon_core.specs.Passing.{charter}
 use Rattle.engine_drill.specs.Answers.{counts_of}
@@ -25,7 +25,7 @@ returns c =
     let text : c.deref.result.now ≡ journal_of ch h = c.deref.ensures.value ∙ c.in_ok-journal.ensures ∙ ap (λ (x : Charter). journal_of x h) same in
     let judged : IsVerdict ch (journal_of ch h) verdict = subst (λ (l : List ℕ). IsVerdict ch l verdict) text c.in_ok-verdict.ensures in
     let legal : IsLegal ch h = subst (λ (x : Charter). IsLegal x h) same d.legal in
-    let texts : All EntryHasTexts (entries_of ch h) = subst (λ (x : Charter). All EntryHasTexts (entries_of x h)) same c.texts.ensures in
+    let texts : All EntryFitsTypes (history_entries ch h) = subst (λ (x : Charter). All EntryFitsTypes (history_entries x h)) same c.texts.ensures in
     record {
       statuses = told.0;
       answered = told.1;

@@ -1,7 +1,7 @@
 use Rattle.std.proofs.Common.{arith, ◌≡◌, ◌⊎◌, inl, inr, ◌++◌, ◌∙◌, ℕ, List, take, drop, subst, sym}
 use Rattle.std.specs.List.{flat_map}
-use Rattle.history_replay.specs.Entries.{entries_of}
-use Rattle.history_replay.specs.JournalLines.{journal_line}
+use Rattle.journal_lines.specs.Entries.{history_entries}
+use Rattle.journal_lines.specs.JournalLines.{journal_line}
 use Rattle.session_model.specs.declared.turned.Part.{Part}
 use Rattle.session_model.specs.declared.turned.Part.TheVariants.{Whole, Gone}
 use Rattle.daemon_core.specs.JournalTurns.{JournalSays}
@@ -15,7 +15,7 @@ lines-init c = (c.new-text.ensures.items, omega arith)
 
 pub lines-preserved : goal.lines-preserved
 lines-preserved c =
-    let entries = entries_of (charter c.args.daemon.now) (history_of c.args.daemon.now.stored.journal) in
+    let entries = history_entries (charter c.args.daemon.now) (history_of c.args.daemon.now.stored.journal) in
     let n : ℕ = c.lines.number in
     let old : List ℕ = c.lines.text.items in
     let new : List ℕ = c.journal_from.new.out.items in
@@ -30,7 +30,7 @@ lines-smaller c = let says = (c.in-More.ensures 0).says in omega (arith, says.0,
 
 pub returns-in-UpToDate : goal.returns-in-UpToDate
 returns-in-UpToDate c =
-    let entries = entries_of (charter c.args.daemon.now) (history_of c.args.daemon.now.stored.journal) in
+    let entries = history_entries (charter c.args.daemon.now) (history_of c.args.daemon.now.stored.journal) in
     let says = (c.in-UpToDate.ensures 0).says in
     says.1 ∙ all_lines entries c.lines.number c.lines.text.items c.lines.invariant.0 says.0
 

@@ -1,5 +1,5 @@
 use Rattle.machine_model.specs.State.{State}
-use Rattle.history_replay.specs.JournalLines.{journal_line}
+use Rattle.journal_lines.specs.JournalLines.{journal_line}
 use Rattle.history_check.proofs.VerdictLemmas.{line_said, bad_bytes}
 use Rattle.history_check.proofs.checking.check_line.Goals as goal
 

@@ -1,7 +1,7 @@
 use Rattle.std.proofs.Common.{◌≡◌, ◌<◌, ◌+◌, ◌++◌, ℕ, List, length, length-append, None, sym, ap, subst, ◌∙◌, arith}
 use Rattle.machine_model.specs.State.{State}
-use Rattle.history_replay.specs.Verdict.{IsVerdictFrom}
-use Rattle.history_replay.specs.declared.verdict.Verdict.TheVariants.{Legal, BadLine}
+use Rattle.journal_lines.specs.Verdict.{IsVerdictFrom}
+use Rattle.journal_lines.specs.declared.verdict.Verdict.TheVariants.{Legal, BadLine}
 use Rattle.history_check.specs.Checking.{IsLineSaid}
 use Rattle.history_check.proofs.VerdictLemmas.{said_on, no_line, first_some, some_text, at_end}
 use Rattle.history_check.proofs.checking.check_lines.Goals as goal

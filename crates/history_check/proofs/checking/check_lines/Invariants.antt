@@ -1,6 +1,6 @@
 use Rattle.std.proofs.Common.{◌≤◌, ◌+◌, length}
-use Rattle.history_replay.specs.Verdict.{IsVerdictFrom}
-use Rattle.history_replay.specs.declared.verdict.Verdict.{Verdict}
+use Rattle.journal_lines.specs.Verdict.{IsVerdictFrom}
+use Rattle.journal_lines.specs.declared.verdict.Verdict.{Verdict}
 use Rattle.history_check.proofs.checking.check_lines.Given as goal
 
 abbrev pub invariant-lines : goal.invariant-lines

@@ -1,7 +1,7 @@
 use Rattle.std.proofs.Common.{refl, subst}
 use Rattle.engine_text.specs.declared.entry.Entry.{Entry}
 use Rattle.machine_model.specs.State.{State}
-use Rattle.history_replay.specs.JournalLines.{journal_line}
+use Rattle.journal_lines.specs.JournalLines.{journal_line}
 use Rattle.history_check.specs.Checking.{IsSaid}
 use Rattle.history_check.proofs.VerdictLemmas.{wrong_line}
 use Rattle.history_check.proofs.checking.say.Goals as goal

@@ -5,7 +5,7 @@ use Rattle.engine_text.specs.declared.entry.Entry.{Entry}
 use Rattle.engine_text.specs.declared.step.Step.{Step}
 use Rattle.machine_model.specs.State.{State}
 use Rattle.machine_model.specs.History.{IsLawful}
-use Rattle.history_replay.specs.Due.{IsTimed}
+use Rattle.journal_lines.specs.Due.{IsMomentFor}
 use Rattle.history_check.specs.Counting.{HasRun, IsPast, is_settled}
 use Rattle.history_check.proofs.CountLemmas.{run_first, run_more, run_other}
 use Rattle.history_check.proofs.dues.run_dues.Goals.{then-dues-test+else-not-is_past, else-dues-test, else-serves-via-then-serves+else-count-entry, else-serves-via-else-serves}
@@ -15,8 +15,8 @@ pub dues-init : goal.dues-init
 dues-init c =
     let s : State = c.args.machine.now.memory.state in
     record {
-      run = subst (λ o. HasRun s c.args.entry.now s 0 o) (sym c.first_of-least.ensures) (run_first s c.args.entry.now c.is_timed-serves.result c.is_timed-serves.ensures);
-      timed = c.is_timed-serves.ensures;
+      run = subst (λ o. HasRun s c.args.entry.now s 0 o) (sym c.first_of-least.ensures) (run_first s c.args.entry.now c.is_moment_for-serves.result c.is_moment_for-serves.ensures);
+      timed = c.is_moment_for-serves.ensures;
     }
 
 pub dues-preserved : goal.dues-preserved
@@ -29,9 +29,9 @@ dues-preserved c =
     let lawful : IsLawful now Step.Due = c.is_past.ensures.on cc in
     record {
       run = subst (λ o. HasRun s e next (c.dues.count + 1) o) (sym c.first_of-least-in-dues.ensures)
-          (run_more s e now next c.dues.count c.dues.least c.is_timed-serves-in-dues.result c.dues.invariant.run more lawful
-          c.in_ok-step_due.ensures.made c.in_ok-step_due.ensures.counted c.is_timed-serves-in-dues.ensures);
-      timed = c.is_timed-serves-in-dues.ensures;
+          (run_more s e now next c.dues.count c.dues.least c.is_moment_for-serves-in-dues.result c.dues.invariant.run more lawful
+          c.in_ok-step_due.ensures.made c.in_ok-step_due.ensures.counted c.is_moment_for-serves-in-dues.ensures);
+      timed = c.is_moment_for-serves-in-dues.ensures;
     }
 
 pub returns : goal.returns
@@ -43,7 +43,7 @@ returns c =
       | then-dues-test+else-not-is_past w ↦ inr (w.is_past.ensures.past cc)
       | else-dues-test w ↦ inl cc
     ] in
-    let other : c.dues.count ≡ e.dues → IsTimed now e.moment e.call → ⊥ = elim c.else-serves.branch [
+    let other : c.dues.count ≡ e.dues → IsMomentFor now e.moment e.call → ⊥ = elim c.else-serves.branch [
       | else-serves-via-then-serves+else-count-entry w ↦ λ is timed. w.if-count-entry.false is
       | else-serves-via-else-serves w ↦ λ is timed. false≢true (sym w.if-serves.false ∙ c.dues.invariant.timed.1 timed)
     ] in

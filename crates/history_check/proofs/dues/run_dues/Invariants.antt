@@ -1,13 +1,13 @@
 use Rattle.std.proofs.Common.{◌-◌, ◌^◌}
 use Rattle.std.specs.Prelude.{Decides}
-use Rattle.history_replay.specs.Due.{IsTimed}
+use Rattle.journal_lines.specs.Due.{IsMomentFor}
 use Rattle.history_check.specs.Counting.{HasRun}
 use Rattle.history_check.proofs.dues.run_dues.Given as goal
 
 abbrev pub invariant-dues : goal.invariant-dues
 invariant-dues l = record {
   run : HasRun l.fn.machine.memory.state l.entry l.machine.memory.state l.count l.least;
-  timed : Decides l.serves (IsTimed l.machine.memory.state l.entry.moment l.entry.call);
+  timed : Decides l.serves (IsMomentFor l.machine.memory.state l.entry.moment l.entry.call);
 }
 
 abbrev pub decreases-dues : goal.decreases-dues

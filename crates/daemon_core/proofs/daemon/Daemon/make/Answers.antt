@@ -1,7 +1,7 @@
 use Rattle.std.proofs.Common.{◌∙◌, subst, sym}
 use Rattle.std.specs.Prelude.{IsTrue}
 use Rattle.engine_text.specs.declared.step.Step.{Step}
-use Rattle.history_replay.specs.Room.{HasRoom}
+use Rattle.journal_lines.specs.Room.{HasRoom}
 use Rattle.machine_model.specs.History.{IsLawful}
 use Rattle.daemon_core.specs.Keeping.{history_of}
 use Rattle.daemon_core.specs.Passing.{charter}

@@ -1,7 +1,7 @@
 use Rattle.std.proofs.Common.{◌≡◌, ◌∙◌, ◌+◌, ◌<◌, ◌≤◌, ◌^◌, [], ◌∷◌, ◌++◌, refl, ap, subst, sym, length, length-append, arith}
 use Rattle.engine_text.specs.declared.entry.Entry.{Entry}
 use Rattle.engine_text.specs.declared.step.Step.{Step}
-use Rattle.history_replay.specs.Kept.{Kept, ends_behind, ends_of}
+use Rattle.journal_lines.specs.KeptJournal.{KeptJournal, ends_behind, ends_of}
 use Rattle.machine_model.specs.State.{State}
 use Rattle.machine_model.specs.History.{IsLawful, after_step, reply_of}
 use Rattle.container_machine.specs.Parts.{MachineParts}
@@ -52,7 +52,7 @@ add-requires-clause-place c =
     let placed = call_placed s k t c.dues-since.result call c.in_ok-made.made.0 d1 (told_replies d c.requires.told) c.requires.lawful c.kept.ensures.state
     (c.in_ok-made.ensures.kept ∙ ap (λ (y : State). reply_of y k t call) reserved) reserved c.places.ensures
     (ends_like d d1 c.make_place.ensures.journal reserved c.requires.ends) c.in_ok-make_place.ensures.room in
-    subst (λ (j : Kept). length j.entries + 1 + ends_behind (ends_of j.entries) e ≤ j.room) (sym c.commit_call.ensures.journal) placed.0
+    subst (λ (j : KeptJournal). length j.entries + 1 + ends_behind (ends_of j.entries) e ≤ j.room) (sym c.commit_call.ensures.journal) placed.0
 
 pub returns-clause-made : goal.returns-clause-made
 returns-clause-made c =
@@ -91,8 +91,8 @@ returns-clause-ends c =
     c.in_ok-made.ensures.made.state ∙ ap (λ (y : State). after_step y (Step.Call k t call)) reserved in
     let tickets = ap (λ (y : State). length y.tickets) is in
     let entries = ap length c.add.ensures.entries ∙ length-append d2.journal.entries (e ∷ []) in
-    let as_many = ap (λ (j : Kept). length j.entries) c.commit_call.ensures.journal in
-    let room = c.add.ensures.room ∙ ap (λ (j : Kept). j.room) c.commit_call.ensures.journal in
+    let as_many = ap (λ (j : KeptJournal). length j.entries) c.commit_call.ensures.journal in
+    let room = c.add.ensures.room ∙ ap (λ (j : KeptJournal). j.room) c.commit_call.ensures.journal in
     omega (arith, placed.1, tickets, entries, as_many, room)
 
 pub returns-clause-told : goal.returns-clause-told
@@ -108,11 +108,11 @@ returns-clause-told c =
     let e : Entry = record { dues = c.dues-since.result; conn = k; moment = t; call = call; reply = c.in_ok-made.made.0 } in
     let last : Stored = record { machine = d2.machine; journal = j'; ring = d2.ring } in
     let same = c.commit_call.ensures.journal in
-    let dues = c.dues-since.ensures ∙ ap (λ (j : Kept). j.since) same in
+    let dues = c.dues-since.ensures ∙ ap (λ (j : KeptJournal). j.since) same in
     told_on d d1 last (told_still d d1 c.make_place.ensures.machine c.make_place.ensures.journal c.make_place.ensures.ring)
     (told_more d1 d2 last x c.in_ok-made.ensures.made refl refl
     (history_call d2.journal j' e c.add.ensures.entries c.add.ensures.since c.dues-since.ensures ∙ ap (λ j. history_of j ++ x ∷ []) same)
-    (λ ch told. entries_call_more ch d1.journal j' e (c.add.ensures.entries ∙ ap (λ (j : Kept). j.entries ++ e ∷ []) same) c.add.ensures.since dues
+    (λ ch told. entries_call_more ch d1.journal j' e (c.add.ensures.entries ∙ ap (λ (j : KeptJournal). j.entries ++ e ∷ []) same) c.add.ensures.since dues
     (c.in_ok-made.ensures.kept ∙ ap (λ (y : State). reply_of y k t call) told.state) told.entries)
     (call_counted d1.machine.memory.state k t call))
 

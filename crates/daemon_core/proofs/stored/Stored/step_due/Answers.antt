@@ -1,6 +1,6 @@
 use Rattle.std.proofs.Common.{◌≡◌, ◌∙◌, ◌+◌, [], ◌∷◌, ◌++◌, refl, ap, length, arith}
 use Rattle.engine_text.specs.declared.step.Step.{Step}
-use Rattle.history_replay.specs.Kept.{Kept}
+use Rattle.journal_lines.specs.KeptJournal.{KeptJournal}
 use Rattle.machine_model.specs.State.{State}
 use Rattle.machine_model.specs.Due.{least_due}
 use Rattle.machine_model.specs.History.{after_step, latest}
@@ -37,8 +37,8 @@ returns-clause-ends c =
     let s : State = d.machine.memory.state in
     let placed = due_placed s (length d.journal.entries) d.journal.room c.requires.ends in
     let tickets = ap (λ (y : State). length y.tickets) c.in_ok-commit_due.ensures.made.state in
-    let entries = ap length (c.due.ensures.entries ∙ ap (λ (j : Kept). j.entries) c.commit_due.ensures.journal) in
-    let room = c.due.ensures.room ∙ ap (λ (j : Kept). j.room) c.commit_due.ensures.journal in
+    let entries = ap length (c.due.ensures.entries ∙ ap (λ (j : KeptJournal). j.entries) c.commit_due.ensures.journal) in
+    let room = c.due.ensures.room ∙ ap (λ (j : KeptJournal). j.room) c.commit_due.ensures.journal in
     omega (arith, placed, tickets, entries, room)
 
 pub returns-clause-told : goal.returns-clause-told
@@ -48,8 +48,8 @@ returns-clause-told c =
     let s : State = d.machine.memory.state in
     let j' = c.due.new.self in
     let last : Stored = record { machine = n.machine; journal = j'; ring = n.ring } in
-    let entries = c.due.ensures.entries ∙ ap (λ (j : Kept). j.entries) c.commit_due.ensures.journal in
-    let since = c.due.ensures.since ∙ ap (λ (j : Kept). j.since + 1) c.commit_due.ensures.journal in
+    let entries = c.due.ensures.entries ∙ ap (λ (j : KeptJournal). j.entries) c.commit_due.ensures.journal in
+    let since = c.due.ensures.since ∙ ap (λ (j : KeptJournal). j.since + 1) c.commit_due.ensures.journal in
     told_more d n last Step.Due c.in_ok-commit_due.ensures.made refl refl (history_due d.journal j' entries since)
     (λ ch told. entries_due_more ch d.journal j' entries since told.entries)
     (due_counted s (latest s) (least_due s) c.requires.lawful.1)

@@ -1,0 +1,124 @@
+-- What is said of small journals, written out by hand.
+use Rattle.std.specs.Prelude.{◌≡◌, ℕ, zero, suc, ◌-◌, ◌<◌, List, [], ◌∷◌, ◌++◌, get_or, true, codes, refl}
+use Rattle.std.proofs.Common.{ap, arith, inl, inr, ◌∙◌}
+use Rattle.std.specs.Fmt.{digits}
+use Rattle.rand_chacha.specs.Block.{quarter_round, column_round, diagonal_round, double_rounds, block_word}
+use Rattle.rand_core.specs.Steps.{u32_at}
+use Rattle.hex.specs.Hex.{encode_with}
+use Rattle.json.specs.Print.{escape_byte}
+use Rattle.proc_kernel.specs.Processes.{meet_waiting, meeting_order}
+use Rattle.engine_text.specs.Id.{id_of, key_bytes}
+use Rattle.engine_text.specs.declared.owner.Owner.TheVariants as Owner
+use Rattle.json_laws.specs.Sound.{line_text}
+use Rattle.json.proofs.Printed.Utf8.{IsUtf8-are_ascii}
+use Rattle.machine_model.specs.History.{opening_state}
+use Rattle.journal_lines.specs.JournalLines.{journal_line}
+use Rattle.machine_model.proofs.Scenes.{t, web, charter, create, final_state}
+use Rattle.journal_lines.specs.Line.{HasLine}
+use Rattle.journal_lines.specs.Due.{IsDueCount}
+use Rattle.journal_lines.specs.Verdict.{IsVerdict, AtEnd, AtNoLine, AtWrongLine, AfterRightLine}
+use Rattle.journal_lines.specs.Entry.{IsWrong, IsRight, NoTicket, OtherDues, NotReady, OtherReply}
+use Rattle.journal_lines.specs.declared.verdict.Verdict.TheVariants.{Legal, Illegal, BadLine}
+use Rattle.engine_text.specs.declared.call.Call.{Call}
+use Rattle.engine_text.specs.declared.entry.Entry.{Entry}
+use Rattle.engine_text.specs.declared.reply.Reply.{Reply}
+
+-- ---- entries
+
+-- the answer to who asks for a container that isn't there
+abbrev pub missing : List ℕ
+missing = codes "{\"message\":\"No such container: web\"}"
+
+-- an inspect, so many due steps behind the opening
+abbrev pub look : ℕ → ℕ → ℕ → List ℕ → Entry
+look dues moment status body =
+    record { dues = dues; conn = 0; moment = moment; call = Call.Inspect web; reply = Reply.Answer status body }
+
+abbrev pub looked : Entry
+looked = look 0 t 404 missing
+
+pub line_of_look : journal_line looked
+    ≡ codes "{\"call\":{\"op\":\"inspect\",\"ref\":\"web\"},\"conn\":0,\"dues\":0,\"moment\":1700000000000,\"reply\":{\"body\":\"{\\\"message\\\":\\\"No such container: web\\\"}\",\"status\":404}}\n"
+unfolding digits escape_byte line_text
+line_of_look = refl
+
+-- each of these has a line
+has_line : (dues moment : ℕ) → dues < 1000 → moment < 2000000000000 → HasLine (look dues moment 404 missing)
+has_line dues moment few soon = record {
+  sound = refl;
+  types = record {
+    conn = omega arith;
+    dues = omega (arith, few);
+    moment = omega (arith, soon);
+    call = IsUtf8-are_ascii web refl;
+    reply = (omega arith, IsUtf8-are_ascii missing refl);
+  };
+  told = refl;
+  dropped = λ e. absurd (cc e);
+}
+
+-- ---- verdicts
+
+-- an empty text is legal, and tells of no step
+pub empty_text : IsVerdict charter [] (Legal 0)
+empty_text = AtEnd _ _
+
+-- every line begins with a brace, so a text that doesn't begins with no line
+pub no_line : (c : ℕ) (rest : List ℕ) → 123 < c → IsVerdict charter (c ∷ rest) (BadLine 1)
+unfolding line_text
+no_line c rest above =
+    AtNoLine _ _ _ (λ e. cc e) (λ (line, more, (e, has, is), joined).
+    let brace : 123 ≡ c = ap (λ l. get_or (l ++ more) 0 0) is ∙ ap (λ l. get_or l 0 0) joined in
+    omega (arith, above, brace))
+
+-- the right answer at the opening is legal, and a line behind it counts further
+pub right_reply : IsRight (opening_state charter) looked
+unfolding digits escape_byte
+right_reply = record { ticket = refl; dues = (tt, ((omega arith, omega arith, refl), refl)); ready = refl; reply = refl }
+
+pub legal_look : IsVerdict charter (journal_line looked ++ []) (Legal 1)
+legal_look = AfterRightLine _ _ looked [] _ (has_line 0 t (omega arith) (omega arith)) right_reply (AtEnd _ _)
+
+-- a due step where nothing is due isn't right: the count is 0
+pub one_due_too_many : IsVerdict charter (journal_line (look 1 t 404 missing) ++ []) (Illegal 1 (codes "1") (codes "0"))
+unfolding digits
+one_due_too_many = AtWrongLine _ _ (look 1 t 404 missing) [] _ _ (has_line 1 t (omega arith) (omega arith))
+    (OtherDues _ refl (λ h. cc h.0.0.1) (inl (0, ((tt, ((omega arith, omega arith, refl), refl)), λ n less h. absurd (omega (arith, less))), refl)))
+
+-- no count serves a call before the opening
+no_count : (n : ℕ) → IsDueCount (opening_state charter) (look 0 (t - 1) 404 missing) n → ⊥
+no_count zero h = omega (arith, h.1.0.0)
+no_count (suc n) h = cc h.0.0.1
+
+pub before_the_opening : IsVerdict charter (journal_line (look 0 (t - 1) 404 missing) ++ []) (Illegal 1 (codes "0") (codes "none"))
+unfolding digits
+before_the_opening = AtWrongLine _ _ (look 0 (t - 1) 404 missing) [] _ _ (has_line 0 (t - 1) (omega arith) (omega arith))
+    (OtherDues _ refl (no_count 0) (inr (no_count, refl)))
+
+-- another reply than the machine's
+pub other_reply : IsWrong (opening_state charter) (look 0 t 204 [])
+    (codes "{\"body\":\"\",\"status\":204}") (codes "{\"body\":\"{\\\"message\\\":\\\"No such container: web\\\"}\",\"status\":404}")
+unfolding digits escape_byte
+other_reply = OtherReply refl (tt, ((omega arith, omega arith, refl), refl)) refl (λ e.
+    let differs : 123 ≡ 34 = ap (λ l. get_or l 9 0) e in
+    omega (arith, differs))
+
+-- a ticket that nobody was given
+abbrev taken : Entry
+taken = record { dues = 0; conn = 0; moment = t; call = Call.Take 3; reply = Reply.Answer 204 [] }
+
+pub no_ticket : IsWrong (opening_state charter) taken (codes "{\"body\":\"\",\"status\":204}") (codes "no ticket")
+unfolding digits escape_byte
+no_ticket = NoTicket refl
+
+-- an end of input for a run that hasn't begun
+abbrev ended : Entry
+ended = record { dues = 0; conn = 0; moment = t; call = Call.FeedEnd (Owner.Container 0) 1; reply = Reply.Fed true }
+
+pub not_ready : IsWrong (final_state (create (codes "deaf" ∷ []) ∷ [])) ended (codes "{\"fed\":true}") (codes "not ready")
+unfolding digits escape_byte id_of key_bytes encode_with quarter_round column_round diagonal_round double_rounds block_word u32_at meet_waiting meeting_order
+not_ready = NotReady refl (tt, ((omega arith, omega arith, refl), refl)) refl
+
+-- a drop stands whatever is due, at the moment of the step before it
+pub drop_is_timed : IsDueCount (opening_state charter) (record taken { call = Call.Drop 3 }) 0
+drop_is_timed = (tt, refl)

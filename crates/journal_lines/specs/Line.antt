@@ -1,0 +1,46 @@
+-- Which entries have a line of the journal, and which bytes are one (own: format 1).
+use Rattle.std.specs.Prelude.{◌≡◌, ℕ, ◌++◌, List, IsTrue, ⊤}
+use Rattle.machine_model.specs.History.{is_drop}
+use Rattle.call_bounds.specs.Soundness.{IsSound}
+use Rattle.engine_text.specs.declared.entry.Entry.{Entry}
+use Rattle.engine_text.specs.declared.reply.Reply.{Reply}
+use Rattle.engine_text.specs.declared.reply.Reply.TheVariants.{Answer, Begun, LogStream, EventStream, JournalStream, Fed, Dropped}
+use Rattle.journal_lines.specs.FitsTypes.{EntryFitsTypes}
+use Rattle.journal_lines.specs.JournalLines.{journal_line}
+use Rattle.journal_lines.specs.declared.fault.LineFault.{LineFault}
+use Rattle.journal_lines.specs.declared.fault.LineFault.TheVariants.{BadLine, NoMemory}
+
+-- A reply as its line tells it: of a stream where it begins, as if the journal's.
+abbrev pub told_reply : Reply → Reply
+told_reply (Answer status body) = Answer status body
+told_reply (Begun ticket) = Begun ticket
+told_reply (LogStream spec) = JournalStream spec.first
+told_reply (EventStream first until filter) = JournalStream first
+told_reply (JournalStream count) = JournalStream count
+told_reply (Fed taken) = Fed taken
+told_reply Dropped = Dropped
+
+-- An entry as its line tells it.
+abbrev pub told_entry : Entry → Entry
+told_entry e = record e { reply = told_reply e.reply }
+
+-- An entry has a line where a request can make its call, its values are what their types hold, its line tells the whole
+-- reply, and only a drop is answered by its ticket's end.
+pub record HasLine (e : Entry) : Type 0 where
+  pub sound : IsSound e.call
+  pub types : EntryFitsTypes e
+  pub told : told_reply e.reply ≡ e.reply
+  pub dropped : e.reply ≡ Dropped → IsTrue (is_drop e.call)
+
+-- The bytes are a line of a journal.
+abbrev pub IsJournalLine : List ℕ → Type 0
+IsJournalLine bytes = (e : Entry) × HasLine e × (journal_line e ≡ bytes)
+
+-- A line is refused: the bytes are none, or there was no memory.
+abbrev pub IsLineFault : List ℕ → LineFault → Type 0
+IsLineFault bytes BadLine = IsJournalLine bytes → ⊥
+IsLineFault bytes NoMemory = ⊤
+
+-- They begin with one.
+abbrev pub BeginsWithLine : List ℕ → Type 0
+BeginsWithLine bytes = (line : List ℕ) × (rest : List ℕ) × IsJournalLine line × (line ++ rest ≡ bytes)

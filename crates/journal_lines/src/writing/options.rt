@@ -1,0 +1,61 @@
+// Values that may be absent: null, where they are.
+ghost use Rattle.std.specs.Prelude.{◌≡◌, IfOk};
+ghost use Rattle.std.specs.Option.{option_map_or};
+ghost use Rattle.serde_json.specs.Data.{null};
+ghost use Rattle.serde_json.specs.View.{view};
+ghost use Rattle.api_json.specs.Values.{text, natural, integer};
+ghost use Rattle.journal_lines.specs.JournalLines.{signal_value};
+
+use engine_text::{Signal, Text};
+use serde_json::Value;
+use std::alloc::{AllocError, Global};
+
+/// A text, or null.
+pub fn text_or_null(alloc: Global, words: &Option<Text>) -> Result<Value, AllocError>
+    ensures { IfOk result (λ v. view v ≡ option_map_or text words.now null) }
+{
+    match words {
+        None => Ok(Value::Null),
+        Some(word) => Value::try_from_str(alloc, word.as_str()),
+    }
+}
+
+/// A number that is not below 0, or null.
+pub fn number_or_null(number: Option<u64>) -> Value
+    ensures { view result ≡ option_map_or natural number null }
+{
+    match number {
+        None => Value::Null,
+        Some(number) => Value::from(number),
+    }
+}
+
+/// A count, or null.
+pub fn count_or_null(count: Option<u32>) -> Value
+    ensures { view result ≡ option_map_or natural count null }
+{
+    match count {
+        None => Value::Null,
+        Some(count) => Value::from(count),
+    }
+}
+
+/// Seconds, or null.
+pub fn seconds_or_null(seconds: Option<i32>) -> Value
+    ensures { view result ≡ option_map_or integer seconds null }
+{
+    match seconds {
+        None => Value::Null,
+        Some(seconds) => Value::from(seconds),
+    }
+}
+
+/// A signal's number, or null.
+pub fn signal_or_null(signal: Option<Signal>) -> Value
+    ensures { view result ≡ option_map_or signal_value signal null }
+{
+    match signal {
+        None => Value::Null,
+        Some(signal) => Value::from(signal.number),
+    }
+}

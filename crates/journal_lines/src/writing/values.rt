@@ -1,0 +1,54 @@
+// Texts, pairs and mounts as values.
+ghost use Rattle.std.specs.Prelude.{◌≡◌, IfOk};
+ghost use Rattle.serde_json.specs.View.{view};
+ghost use Rattle.api_json.specs.Values.{text, list_of, pairs_object};
+ghost use Rattle.journal_lines.specs.JournalLines as spec;
+
+use super::object::Object;
+use engine_text::{Mount, Pair, Text};
+use serde_json::Value;
+use std::alloc::{AllocError, Global};
+
+/// The list of these words.
+pub fn words_value(alloc: Global, words: &[Text]) -> Result<Value, AllocError>
+    ensures { IfOk result (λ v. view v ≡ list_of text words.now) }
+{
+    let mut items = Vec::new(alloc);
+    'words: for word in words {
+        items.push(Value::try_from_str(alloc, word.as_str())?)?;
+    }
+    Ok(Value::Array(items))
+}
+
+/// The object of these pairs, each key with its last value.
+pub fn pairs_value(alloc: Global, pairs: &[Pair]) -> Result<Value, AllocError>
+    ensures { IfOk result (λ v. view v ≡ pairs_object pairs.now) }
+{
+    let mut object = Object::new(alloc);
+    'pairs: for pair in pairs {
+        object = object.text(alloc, pair.key.as_str(), pair.value.as_str())?;
+    }
+    Ok(object.value())
+}
+
+// A mount.
+fn mount_value(alloc: Global, mount: &Mount) -> Result<Value, AllocError>
+    ensures { IfOk result (λ v. view v ≡ spec.mount_entry mount.now) }
+{
+    let object = Object::new(alloc)
+        .flag(alloc, "ro", mount.read_only)?
+        .text(alloc, "target", mount.target.as_str())?
+        .text(alloc, "volume", mount.volume.as_str())?;
+    Ok(object.value())
+}
+
+/// The list of these mounts.
+pub fn mounts_value(alloc: Global, mounts: &[Mount]) -> Result<Value, AllocError>
+    ensures { IfOk result (λ v. view v ≡ list_of spec.mount_entry mounts.now) }
+{
+    let mut items = Vec::new(alloc);
+    'mounts: for mount in mounts {
+        items.push(mount_value(alloc, mount)?)?;
+    }
+    Ok(Value::Array(items))
+}
