@@ -13,7 +13,7 @@ use client_commands::print_all;
 use client_model::Fault;
 use engine_ports::{Sink, Source};
 use engine_text::{NoMemory, Text, Words};
-use history_check::check;
+use history_replay::check;
 use journal_lines::Verdict;
 use itoa::Buffer;
 use std::alloc::Global;

@@ -5,7 +5,7 @@ use Rattle.machine_model.specs.History.{Charter, events_of, state_after}
 use Rattle.journal_lines.specs.Verdict.{IsVerdict}
 use Rattle.journal_lines.specs.declared.verdict.Verdict.{Verdict}
 use Rattle.journal_lines.specs.declared.verdict.Verdict.TheVariants.{Legal, Illegal, BadLine}
-use Rattle.history_check.specs.Legal.{journal_of, steps_told}
+use Rattle.history_replay.specs.Legal.{journal_of, steps_told}
 use Rattle.engine_drill.specs.Answers.{HaveStatuses, counts_of}
 
 -- a line: a word and a text, or a word and a number

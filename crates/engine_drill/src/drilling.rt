@@ -16,7 +16,7 @@ use daemon_core::{Alone, Daemon};
 use engine_ports::{Clock, MemSink, Sink};
 use engine_serve::{Ending, serve};
 use engine_text::{NoMemory, Text};
-use history_check::{check, law_complete, law_one_verdict};
+use history_replay::{check, law_complete, law_one_verdict};
 use std::alloc::Global;
 use std::sync::Wait;
 use std::thread::Threads;

@@ -1,6 +1,6 @@
 // The journal of a drill, judged.
 ghost use Rattle.std.specs.Prelude.{◌≡◌, IfOk};
-ghost use Rattle.history_check.specs.Legal.{journal_of};
+ghost use Rattle.history_replay.specs.Legal.{journal_of};
 ghost use Rattle.daemon_core.specs.Keeping.{history_of};
 ghost use Rattle.daemon_core.specs.Passing.{charter};
 

@@ -1,6 +1,6 @@
 // Small journals that were written by hand, from what the API says of each call, and their verdicts.
 use engine_text::NoMemory;
-use history_check::check;
+use history_replay::check;
 use journal_lines::Verdict;
 use std::alloc::Global;
 

@@ -3,7 +3,7 @@ use super::memory::door_of;
 use super::requests::{CREATE_TICKS, FOLLOW_TICKS, MOMENT, START_TICKS, create};
 use daemon_shared::run_daemon;
 use engine_text::NoMemory;
-use history_check::check;
+use history_replay::check;
 use journal_lines::Verdict;
 use session_model::Worst;
 use std::alloc::{AllocError, Global};

@@ -4,7 +4,7 @@ use Rattle.machine_model.specs.History.{Charter, IsLegal, events_of, state_after
 use Rattle.journal_lines.specs.Entries.{history_entries}
 use Rattle.journal_lines.specs.FitsTypes.{EntryFitsTypes}
 use Rattle.journal_lines.specs.Verdict.{IsVerdict}
-use Rattle.history_check.specs.Legal.{journal_of, steps_told}
+use Rattle.history_replay.specs.Legal.{journal_of, steps_told}
 use Rattle.journal_lines.specs.declared.verdict.Verdict.TheVariants.{Legal}
 use Rattle.daemon_core.specs.Keeping.{history_of}
 use Rattle.daemon_core.specs.Passing.{charter}

@@ -1,5 +1,0 @@
-use Rattle.history_check.proofs.OneVerdictLemmas.{one_verdict_law}
-use Rattle.history_check.proofs.laws.law_one_verdict.Goals as goal
-
-pub returns : goal.returns
-returns c = one_verdict_law

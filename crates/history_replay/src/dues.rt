@@ -1,0 +1,88 @@
+// The due steps before an entry's call (own: as many as the call's moment wants).
+ghost use Rattle.std.specs.Prelude.{◌≡◌, IfOk, IsFalse, IsTrue, decimal};
+ghost use Rattle.machine_model.specs.History.{IsLawful};
+ghost use Rattle.engine_text.specs.declared.step.Step as steps;
+ghost use Rattle.history_replay.specs.Checking.{IsRun};
+ghost use Rattle.history_replay.specs.Counting as spec;
+
+use super::making::step_due;
+use super::moments::{can_step, is_moment_for};
+use container_machine::Machine;
+use engine_text::{Entry, NoMemory, Text};
+use std::alloc::Global;
+
+/// The due steps that an entry keeps are right, and were made; or they are wrong, and the right
+/// count is told.
+#[derive(Drop)]
+pub enum Dues {
+    Made,
+    Other { found: Text },
+}
+
+// The first of the counts that serve: the one that is known, or else this one, if it serves.
+fn first_of(least: Option<u64>, serves: bool, count: u64) -> Option<u64>
+    ensures { result ≡ spec.first_of least serves count }
+{
+    if least.is_none() && serves {
+        return Some(count);
+    }
+    least
+}
+
+// Whether the least count is known, and the kept one is reached.
+fn is_settled(least: Option<u64>, count: u64, kept: u64) -> bool
+    ensures { result ≡ spec.is_settled least count kept }
+{
+    least.is_some() && kept <= count
+}
+
+// Whether no due step brings the call's moment, since the clock is past it or no step can be made.
+fn is_past(machine: &Machine, entry: &Entry) -> bool
+    ensures past { IsTrue result → spec.IsPast machine.now.memory.state entry.now }
+    ensures on { IsFalse result → IsLawful machine.now.memory.state steps.Step.Due }
+{
+    machine.kept();
+    if entry.moment < machine.now() {
+        return true;
+    }
+    !can_step(machine)
+}
+
+// A count in decimal digits, or `none`.
+fn count_text(alloc: Global, count: Option<u64>) -> Result<Text, NoMemory>
+    ensures { IfOk result (λ text. text ≡ spec.count_text count) }
+{
+    match count {
+        None => Text::of(alloc, "none"),
+        Some(count) => spelled(alloc, count),
+    }
+}
+
+/// A number in decimal digits.
+pub fn spelled(alloc: Global, number: u64) -> Result<Text, NoMemory>
+    ensures { IfOk result (λ text. text ≡ decimal number) }
+{
+    let text = format!(in alloc; "{number}")?;
+    Ok(Text::from_string(text))
+}
+
+/// Makes the due steps before an entry's call, or tells how many there should be.
+pub fn run_dues(machine: &mut Machine, alloc: Global, entry: &Entry) -> Result<Dues, NoMemory>
+    ensures { IfOk result
+        (λ d. IsRun machine.old.memory.state entry.now machine.new.memory.state d) }
+{
+    let mut count = 0;
+    let mut serves = is_moment_for(machine, entry.moment, &entry.call);
+    let mut least = first_of(None, serves, count);
+    'dues: while !is_settled(least, count, entry.dues) && !is_past(machine, entry) {
+        step_due(machine, alloc)?;
+        count += 1;
+        serves = is_moment_for(machine, entry.moment, &entry.call);
+        least = first_of(least, serves, count);
+    }
+    if serves && count == entry.dues {
+        return Ok(Dues::Made);
+    }
+    let found = count_text(alloc, least)?;
+    Ok(Dues::Other { found })
+}

@@ -1,0 +1,17 @@
+// What a verdict tells.
+ghost use Rattle.history_replay.specs.Legal as law;
+
+/// A law: only a legal history's journal is called legal. Does nothing.
+pub fn law_legal()
+    ensures { law.LegalLaw }
+{}
+
+/// A law: a legal history's journal is called legal. Does nothing.
+pub fn law_complete()
+    ensures { law.CompleteLaw }
+{}
+
+/// A law: no text has two verdicts. Does nothing.
+pub fn law_one_verdict()
+    ensures { law.OneVerdictLaw }
+{}
