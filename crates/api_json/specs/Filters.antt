@@ -1,30 +1,16 @@
 -- Filters in a query (Docker Engine API v1.43, ContainerList, VolumeList, SystemEvents; own: the order of the rows, and which keys of the older form count).
-use Rattle.std.specs.Prelude.{ℕ, List, [], ◌∷◌, codes, if◌then◌else◌, Option, Some, None, Result, Ok, option_map, option_and_then, find}
+use Rattle.std.specs.Prelude.{ℕ, List, [], ◌∷◌, if◌then◌else◌, Option, Some, None, Result, Ok, option_map, option_and_then, find}
 use Rattle.serde_json.specs.Data.{Data, Items, Members, no_members, member}
 use Rattle.serde_json.specs.Find.{as_array, as_object, as_bool}
 use Rattle.json_laws.specs.Pairs.{words_of}
 use Rattle.json_laws.specs.Text.{data_of}
+use Rattle.engine_text.specs.Filter.{filter_word}
 use Rattle.engine_text.specs.Texts.{same_bytes}
 use Rattle.engine_text.specs.declared.filter.FilterKey.{FilterKey}
-use Rattle.engine_text.specs.declared.filter.FilterKey.TheVariants as Key
 use Rattle.engine_text.specs.declared.filter.FilterRow.{FilterRow}
 use Rattle.api_json.specs.Fault.{or_fault}
 use Rattle.api_json.specs.declared.fault.BodyFault.{BodyFault}
 use Rattle.api_json.specs.declared.fault.BodyFault.TheVariants.{InvalidFilter}
-
--- the name of a key
-abbrev pub filter_word : FilterKey → List ℕ
-filter_word Key.Kind = codes "type"
-filter_word Key.Action = codes "event"
-filter_word Key.Container = codes "container"
-filter_word Key.Image = codes "image"
-filter_word Key.Volume = codes "volume"
-filter_word Key.Id = codes "id"
-filter_word Key.Name = codes "name"
-filter_word Key.State = codes "status"
-filter_word Key.Exited = codes "exited"
-filter_word Key.Ancestor = codes "ancestor"
-filter_word Key.Label = codes "label"
 
 -- the key among these that has the name
 abbrev pub key_among : List FilterKey → List ℕ → Option FilterKey

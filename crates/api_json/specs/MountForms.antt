@@ -3,6 +3,7 @@ use Rattle.std.specs.Prelude.{ℕ, ◌==◌, List, [], ◌∷◌, ◌++◌, leng
 use Rattle.std.specs.List.{position_or_len, before_first, after_first}
 use Rattle.serde_json.specs.Data.{Data, Items, no_items, item}
 use Rattle.serde_json.specs.Find.{as_array, as_object}
+use Rattle.engine_text.specs.Mounts.{is_path}
 use Rattle.engine_text.specs.Name.{is_volume_name}
 use Rattle.engine_text.specs.Texts.{same_bytes}
 use Rattle.engine_text.specs.declared.mounts.Mount.{Mount}
@@ -12,11 +13,6 @@ use Rattle.api_json.specs.Lists.{texts_field}
 use Rattle.api_json.specs.declared.fault.BodyKey.TheVariants as Key
 use Rattle.api_json.specs.declared.fault.BodyFault.{BodyFault}
 use Rattle.api_json.specs.declared.fault.BodyFault.TheVariants.{BadField, BadMount}
-
--- a path begins with `/`
-abbrev pub is_path : List ℕ → Bool
-is_path [] = false
-is_path (c ∷ cs) = c == 47
 
 -- a volume and the path at which it is seen
 abbrev pub mount_of : List ℕ → List ℕ → Bool → Result Mount BodyFault

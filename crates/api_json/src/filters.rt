@@ -1,6 +1,7 @@
 // Filters in a query (Docker Engine API v1.43, the parameter `filters`).
 ghost use Rattle.std.specs.Prelude.{◌≡◌, IfOk};
 ghost use Rattle.serde_json.specs.View.{view, members_view};
+ghost use Rattle.engine_text.specs.Filter.{filter_word};
 ghost use Rattle.api_json.specs.Fault.{Answers};
 ghost use Rattle.api_json.specs.Filters as spec;
 
@@ -13,7 +14,7 @@ use std::alloc::Global;
 
 /// The name of a key, as a filter has it.
 pub fn filter_word(key: FilterKey) -> &'static str
-    ensures { result.now ≡ spec.filter_word key }
+    ensures { result.now ≡ filter_word key }
 {
     match key {
         FilterKey::Kind => "type",

@@ -1,6 +1,7 @@
 // The mounts that a create asks for (Docker Engine API v1.43, HostConfig: Binds and Mounts).
 ghost use Rattle.std.specs.Prelude.{◌≡◌, [], option_map, option_copied};
 ghost use Rattle.serde_json.specs.View.{view, items_view};
+ghost use Rattle.engine_text.specs.Mounts.{is_path};
 ghost use Rattle.api_json.specs.Fault.{Answers};
 ghost use Rattle.api_json.specs.MountForms as spec;
 
@@ -15,7 +16,7 @@ use std::alloc::Global;
 const MOST_MOUNTS: usize = 16;
 
 fn is_path(path: &str) -> bool
-    ensures { result ≡ spec.is_path path.now }
+    ensures { result ≡ is_path path.now }
 {
     match path.as_bytes() {
         [first, ..] => *first == b'/',

@@ -2,7 +2,7 @@
 use Rattle.std.proofs.Common.{◌≢◌, ℕ, List, [], ◌∷◌, refl, subst, IfOk}
 use Rattle.std.specs.Prelude.{IsTrue}
 use Rattle.http_edge.specs.Message.{Request}
-use Rattle.call_bounds.specs.Soundness.{IsSound, is_full}
+use Rattle.engine_text.specs.Soundness.{IsSound, is_full}
 use Rattle.api_routes.specs.Routes.{method_of}
 use Rattle.api_routes.specs.Class.{class_of}
 use Rattle.api_routes.specs.Laws.{OfItsCall}

@@ -1,3 +1,10 @@
+mod WithinLemmas
+mod RiseLemmas
+mod SignalLemmas
+mod MountLemmas
+mod CreateLemmas
+mod BodyLemmas
+mod FilterLemmas
 pub mod CutLemmas
 pub mod TextLemmas
 pub mod NumeralLemmas

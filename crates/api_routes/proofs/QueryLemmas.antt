@@ -9,8 +9,8 @@ use Rattle.engine_text.specs.Name.{is_name}
 use Rattle.engine_text.specs.Texts.{same_bytes}
 use Rattle.engine_text.specs.declared.signal.Signal.{Signal}
 use Rattle.engine_text.specs.Signal.{read_signal}
-use Rattle.call_bounds.specs.Soundness.{if_given, is_signal, is_seconds, is_limit, is_count, is_time}
-use Rattle.call_bounds.proofs.SignalLemmas.{IsSignal, signal_read}
+use Rattle.engine_text.specs.Soundness.{if_given, is_signal, is_seconds, is_limit, is_count, is_time}
+use Rattle.api_routes.proofs.SignalLemmas.{IsSignal, signal_read}
 use Rattle.api_routes.specs.Numeral.{number_of}
 use Rattle.api_routes.specs.Version.{dot}
 use Rattle.api_routes.specs.Query.{value_of, value_or_empty}

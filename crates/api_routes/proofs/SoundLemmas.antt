@@ -14,11 +14,11 @@ use Rattle.api_json.specs.Create.{create_of}
 use Rattle.api_json.specs.ExecCreate.{exec_of, exec_start_of}
 use Rattle.api_json.specs.VolumeCreate.{volume_of}
 use Rattle.api_json.specs.Filters.{filter_of}
-use Rattle.call_bounds.specs.Soundness.{IsSound, is_full, if_given, is_signal, is_seconds, is_limit, is_count, is_time, is_filter, is_list_key, is_event_key, is_volume_key, is_log_ask, far}
-use Rattle.call_bounds.proofs.StepLemmas.{both_true}
-use Rattle.call_bounds.proofs.CreateLemmas.{IsWithin, create_within, named_within}
-use Rattle.call_bounds.proofs.BodyLemmas.{IsExec, IsVolume, exec_within, volume_within}
-use Rattle.call_bounds.proofs.FilterLemmas.{IsFilter, filter_within}
+use Rattle.engine_text.specs.Soundness.{IsSound, is_full, if_given, is_signal, is_seconds, is_limit, is_count, is_time, is_filter, is_list_key, is_event_key, is_volume_key, is_log_ask, far}
+use Rattle.api_routes.proofs.WithinLemmas.{both_true}
+use Rattle.api_routes.proofs.CreateLemmas.{IsWithin, create_within, named_within}
+use Rattle.api_routes.proofs.BodyLemmas.{IsExec, IsVolume, exec_within, volume_within}
+use Rattle.api_routes.proofs.FilterLemmas.{IsFilter, filter_within}
 use Rattle.api_routes.specs.Query.{value_or_empty}
 use Rattle.api_routes.specs.Keys.{flag, create_name, new_name, signal_in, kill_signal, seconds_in, limit_in, tail_in, condition_in, time_in}
 use Rattle.api_routes.specs.Calls.{of_body, filters_in, create_call, list_keys, list_call, stop_call, restart_call, kill_call, rename_call, wait_call, remove_call, end_of, asked_logs, log_ask, logs_call, exec_create_call, volume_create_call, volume_list_call, event_keys, events_call}

@@ -12,7 +12,7 @@ use Rattle.api_json.specs.ExecCreate.{exec_of}
 use Rattle.api_json.specs.VolumeCreate.{volume_of}
 use Rattle.api_json.specs.Filters.{filter_of}
 use Rattle.api_json.specs.declared.fault.BodyFault.{BodyFault}
-use Rattle.call_bounds.specs.Soundness.{far}
+use Rattle.engine_text.specs.Soundness.{far}
 use Rattle.api_routes.specs.Fault.{and_then}
 use Rattle.api_routes.specs.Query.{value_or_empty}
 use Rattle.api_routes.specs.Keys.{flag, create_name, new_name, signal_in, kill_signal, seconds_in, limit_in, tail_in, condition_in, time_in}

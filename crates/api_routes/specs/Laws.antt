@@ -1,7 +1,7 @@
 -- What the class of a request tells of its call and of its answer (own).
 use Rattle.std.specs.Prelude.{◌≡◌, ◌==◌, ◌||◌, ℕ, Bool, IsTrue}
 use Rattle.engine_text.specs.declared.call.Call.{Call}
-use Rattle.call_bounds.specs.Soundness.{IsSound}
+use Rattle.engine_text.specs.Soundness.{IsSound}
 use Rattle.http_edge.specs.Message.{Request}
 use Rattle.api_routes.specs.Class.{class_of}
 use Rattle.api_routes.specs.declared.class.Class.{Class}

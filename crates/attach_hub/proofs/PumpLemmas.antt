@@ -3,7 +3,7 @@ use Rattle.std.proofs.Common.{◌≡◌, ◌<◌, ◌≤◌, ℕ, Bool, arith, l
 use Rattle.std.specs.Prelude.{IsTrue, nat_le, ◌&&◌}
 use Rattle.std.specs.List.{concat}
 use Rattle.std.proofs.lemmas.Bool.Decides.{nat_tests}
-use Rattle.call_bounds.specs.Soundness.{IsSound, is_full}
+use Rattle.engine_text.specs.Soundness.{IsSound, is_full}
 use Rattle.engine_ports.specs.Rose.{Rose}
 use Rattle.engine_ports.specs.Source.{SourceEnded, SourceGave, SourceView}
 use Rattle.engine_ports.specs.Sink.{SinkView}

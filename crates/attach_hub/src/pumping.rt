@@ -1,6 +1,6 @@
 // Pumping standard input to a run.
 ghost use Rattle.std.specs.Prelude.{◌≡◌, ◌<◌, ◌≤◌, IfOk, IsSomeAnd, IsTrue, Some, length};
-ghost use Rattle.call_bounds.specs.Soundness.{IsSound};
+ghost use Rattle.engine_text.specs.Soundness.{IsSound};
 ghost use Rattle.engine_text.specs.declared.call.Call.TheVariants.{Feed};
 ghost use Rattle.engine_text.specs.declared.reply.Reply.TheVariants.{Fed};
 ghost use Rattle.machine_model.specs.History.{input_of};

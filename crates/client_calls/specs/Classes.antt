@@ -18,7 +18,7 @@ use Rattle.api_json.specs.HostConfig.{policy_or_fault}
 use Rattle.api_json.specs.MountForms.{add_binds}
 use Rattle.api_json.specs.VolumeCreate.{volume_named}
 use Rattle.api_json.specs.declared.fault.BodyFault.{BodyFault}
-use Rattle.call_bounds.specs.Soundness.{far}
+use Rattle.engine_text.specs.Soundness.{far}
 use Rattle.api_routes.specs.Fault.{and_then}
 use Rattle.api_routes.specs.Keys.{optional_name, optional_signal, kill_signal, optional_seconds, optional_time}
 use Rattle.api_routes.specs.Calls.{of_body}

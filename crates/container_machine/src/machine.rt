@@ -5,7 +5,7 @@ ghost use Rattle.engine_text.specs.declared.step.Step as steps;
 ghost use Rattle.machine_model.specs.Call.{outcome_of};
 ghost use Rattle.machine_model.specs.History.{IsLawful, greatest_moment, is_drop, is_due};
 ghost use Rattle.machine_model.specs.State.{initial_state};
-ghost use Rattle.machine_model.specs.Soundness.{IsSound};
+ghost use Rattle.engine_text.specs.Soundness.{IsSound};
 ghost use Rattle.container_machine.specs.DuePlans.{HasDueRoom};
 ghost use Rattle.container_machine.specs.Dues.{IsForDue, IsStepped};
 ghost use Rattle.container_machine.specs.Making.{Makes};

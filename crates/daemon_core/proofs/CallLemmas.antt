@@ -16,7 +16,7 @@ use Rattle.engine_text.specs.declared.ticket.Ticket.{Ticket}
 use Rattle.machine_model.specs.State.{State}
 use Rattle.machine_model.specs.Step.{at_moment}
 use Rattle.machine_model.specs.Statuses.{statuses_of, ticket_statuses, is_among, is_reply_of, gives_log, gives_events, gives_journal, is_feed, ends_ticket}
-use Rattle.call_bounds.specs.Soundness.{IsSound}
+use Rattle.engine_text.specs.Soundness.{IsSound}
 use Rattle.machine_model.specs.Ready.{is_ready}
 use Rattle.machine_model.specs.Tickets.{ticket_numbered}
 use Rattle.journal_lines.specs.Room.{HasRoom}

@@ -64,7 +64,7 @@ fn turned(reply: Reply) -> Turned
 impl Daemon {
     ghost use Rattle.std.specs.Prelude.{ℕ, [], None, Some, IfOk, IsFalse, length};
     ghost use Rattle.std.specs.Option.{option_map};
-    ghost use Rattle.call_bounds.specs.Soundness.{IsSound};
+    ghost use Rattle.engine_text.specs.Soundness.{IsSound};
     ghost use Rattle.engine_text.specs.declared.call.Call as calls;
     ghost use Rattle.machine_model.specs.History.{is_drop};
     ghost use Rattle.session_model.specs.Turning.{MayAsk, Turn};

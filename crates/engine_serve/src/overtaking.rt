@@ -1,6 +1,6 @@
 // A request for the connection itself, and the takeover that its call gives.
 ghost use Rattle.std.specs.Prelude.{◌≡◌, IsTrue};
-ghost use Rattle.call_bounds.specs.Soundness.{IsSound};
+ghost use Rattle.engine_text.specs.Soundness.{IsSound};
 ghost use Rattle.engine_ports.specs.Door.{outside};
 ghost use Rattle.engine_ports.specs.Sink.{WriteSays};
 ghost use Rattle.http_edge.specs.Reader.{request_of};

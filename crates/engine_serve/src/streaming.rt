@@ -1,6 +1,6 @@
 // A request for a stream, answered.
 ghost use Rattle.std.specs.Prelude.{◌≡◌, true, IsTrue, Some};
-ghost use Rattle.call_bounds.specs.Soundness.{IsSound};
+ghost use Rattle.engine_text.specs.Soundness.{IsSound};
 ghost use Rattle.http_edge.specs.Reader.{request_of};
 ghost use Rattle.api_routes.specs.Class.{class_of};
 ghost use Rattle.api_routes.specs.declared.class.Class.TheVariants.{Stream};

@@ -9,3 +9,4 @@ pub mod QueryLemmas
 pub mod SignalLemmas
 pub mod PlaceLemmas
 pub mod PartLemmas
+pub mod SoundFacts

@@ -6,7 +6,7 @@ use Rattle.hex.proofs.HexLemmas.{decode_of-encode_lower}
 use Rattle.serde_json.specs.Data.{null}
 use Rattle.serde_json.specs.Find.{as_str}
 use Rattle.api_json.specs.Values.{text, natural, integer}
-use Rattle.call_bounds.specs.Soundness.{IsSound, if_given, is_seconds, is_signal, is_full, is_count, is_limit, is_time, is_create, is_log_ask, are_labels, is_list_key, is_event_key, is_volume_key, is_filter}
+use Rattle.engine_text.specs.Soundness.{IsSound, if_given, is_seconds, is_signal, is_full, is_count, is_limit, is_time, is_create, is_log_ask, are_labels, is_list_key, is_event_key, is_volume_key, is_filter}
 use Rattle.engine_text.specs.Name.{is_volume_name}
 use Rattle.journal_lines.specs.JournalLines.{call_value, create_value, signal_value, condition_word, kind_of_owner, filter_value}
 use Rattle.machine_model.specs.State.{owner_number}

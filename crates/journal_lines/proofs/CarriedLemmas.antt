@@ -15,7 +15,7 @@ use Rattle.json_laws.specs.Sound as fit
 use Rattle.json_laws.proofs.Sound.{has_fine_keys, object-sound, string-sound, ascii-sound, unsigned-sound, boolean-sound, null-sound}
 use Rattle.api_json.specs.Values.{text, natural, integer}
 use Rattle.api_json.specs.Container.{policy_word, most_retries}
-use Rattle.call_bounds.specs.Soundness.{IsSound, if_given, is_seconds, is_signal, is_count, is_limit, is_time, is_log_ask, is_policy, is_create, is_list_key, is_event_key, is_volume_key, is_filter}
+use Rattle.engine_text.specs.Soundness.{IsSound, if_given, is_seconds, is_signal, is_count, is_limit, is_time, is_log_ask, is_policy, is_create, is_list_key, is_event_key, is_volume_key, is_filter}
 use Rattle.machine_model.specs.State.{owner_number}
 use Rattle.journal_lines.specs.JournalLines.{call_value, create_value, stop_value, named_value, volume_value, ticket_value, attach_value, exec_create_value, kill_value, rename_value, remove_value, wait_value, exec_start_value, exec_inspect_value, volume_create_value, volume_list_value, journal_value, from_value, one_number, answer_value, fed_value, logs_value, events_value, list_value, feed_members, feed_value, signal_value, condition_word, kind_of_owner, filter_value, reply_value, ended_ticket}
 use Rattle.engine_text.specs.declared.call.Call.{Call}

@@ -7,7 +7,7 @@ use Rattle.json_laws.specs.Sound.{IsCarried}
 use Rattle.json_laws.proofs.RoundTrip.{some_same}
 use Rattle.json_laws.proofs.Lines.{line_text-injective}
 use Rattle.json_laws.proofs.Sound.{object-sound, unsigned-sound}
-use Rattle.call_bounds.specs.Soundness.{IsSound}
+use Rattle.engine_text.specs.Soundness.{IsSound}
 use Rattle.machine_model.specs.History.{is_drop}
 use Rattle.journal_lines.specs.JournalLines.{entry_value, reply_value, journal_line}
 use Rattle.engine_text.specs.declared.call.Call.{Call}

@@ -5,7 +5,7 @@ use Rattle.serde_json.specs.Data.{Data, Members, no_members, null}
 use Rattle.serde_json.specs.Written.{has_float, members_have_float}
 use Rattle.json_laws.proofs.NoFloat.{no_float-put, no_float-pairs_data}
 use Rattle.api_json.specs.Values.{list_of, pairs_of, text, natural, integer}
-use Rattle.api_json.specs.Filters.{filter_word}
+use Rattle.engine_text.specs.Filter.{filter_word}
 use Rattle.journal_lines.specs.JournalLines.{signal_value, put_rows, filter_value, mount_entry, call_value, reply_value, entry_value}
 use Rattle.engine_text.specs.declared.call.Call.{Call}
 use Rattle.engine_text.specs.declared.entry.Entry.{Entry}

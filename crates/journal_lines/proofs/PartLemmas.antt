@@ -16,9 +16,10 @@ use Rattle.json_laws.proofs.Pairs.{texts_of-put_pairs}
 use Rattle.json_laws.proofs.Sound.{null-sound, unsigned-sound, integer-sound, pairs-sound}
 use Rattle.api_json.specs.Values.{text, natural, integer, list_of, pairs_of, pairs_object}
 use Rattle.api_json.specs.Lists.{pairs_from, pairs_in}
-use Rattle.api_json.specs.Filters.{filter_word, key_among}
+use Rattle.engine_text.specs.Filter.{filter_word}
+use Rattle.api_json.specs.Filters.{key_among}
 use Rattle.api_json.specs.Container.{policy_word, most_retries}
-use Rattle.call_bounds.specs.Soundness.{if_given, is_signal, is_policy, is_seconds, are_rising, are_labels}
+use Rattle.engine_text.specs.Soundness.{if_given, is_signal, is_policy, is_seconds, are_rising, are_labels}
 use Rattle.journal_lines.specs.JournalLines.{signal_value, filter_value}
 use Rattle.engine_text.specs.Pairs.{ArePairsUtf8}
 use Rattle.engine_text.specs.Filter.{AreRowsUtf8}

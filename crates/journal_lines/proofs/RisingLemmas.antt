@@ -9,9 +9,9 @@ use Rattle.json_laws.specs.Plain.{IsPlain, AreAbove, AreRising}
 use Rattle.json_laws.specs.Pairs.{pairs_members, DoKeysRise}
 use Rattle.json_laws.proofs.RoundTrip.{joined, last_of, AreOver, put_end, all_over_last, joined_last, joined_none, none_over}
 use Rattle.api_json.specs.Values.{text, list_of, pairs_of}
-use Rattle.api_json.specs.Filters.{filter_word}
-use Rattle.call_bounds.specs.Soundness.{are_rising, are_labels}
-use Rattle.call_bounds.proofs.RiseLemmas.{names}
+use Rattle.engine_text.specs.Filter.{filter_word}
+use Rattle.engine_text.specs.Soundness.{are_rising, are_labels}
+use Rattle.journal_lines.proofs.MemberLemmas.{names}
 use Rattle.journal_lines.specs.JournalLines.{put_rows}
 use Rattle.engine_text.specs.declared.filter.FilterRow.{FilterRow}
 use Rattle.engine_text.specs.declared.pairs.Pair.{Pair}

@@ -7,7 +7,7 @@ use Rattle.hex.specs.Hex.{encode_lower}
 use Rattle.machine_model.specs.State.{owner_number}
 use Rattle.api_json.specs.Values.{text, natural, integer, list_of, pairs_object}
 use Rattle.api_json.specs.Container.{policy_word, most_retries}
-use Rattle.api_json.specs.Filters.{filter_word}
+use Rattle.engine_text.specs.Filter.{filter_word}
 use Rattle.json_laws.specs.Sound.{line_text}
 use Rattle.machine_model.specs.History.{Charter}
 use Rattle.engine_text.specs.declared.call.Call.{Call}

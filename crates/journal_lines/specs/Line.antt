@@ -1,7 +1,7 @@
 -- Which entries have a line of the journal, and which bytes are one (own: format 1).
 use Rattle.std.specs.Prelude.{◌≡◌, ℕ, ◌++◌, List, IsTrue, ⊤}
 use Rattle.machine_model.specs.History.{is_drop}
-use Rattle.call_bounds.specs.Soundness.{IsSound}
+use Rattle.engine_text.specs.Soundness.{IsSound}
 use Rattle.engine_text.specs.declared.entry.Entry.{Entry}
 use Rattle.engine_text.specs.declared.reply.Reply.{Reply}
 use Rattle.engine_text.specs.declared.reply.Reply.TheVariants.{Answer, Begun, LogStream, EventStream, JournalStream, Fed, Dropped}

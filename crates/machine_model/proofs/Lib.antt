@@ -13,7 +13,6 @@ pub mod ListLemmas
 pub mod VolumeLemmas
 pub mod IdLemmas
 pub mod SettleLemmas
-pub mod SoundFacts
 pub mod StreamFacts
 pub mod NameLemmas
 pub mod ChangeLemmas

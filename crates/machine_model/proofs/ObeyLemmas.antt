@@ -8,7 +8,7 @@ use Rattle.machine_model.specs.State.{State, container_numbered}
 use Rattle.machine_model.specs.Chain.{Effect, and_then, change, still}
 use Rattle.machine_model.specs.Outcome.{Outcome, by_found, at_reference, answers, replies, refused}
 use Rattle.machine_model.specs.Tickets.{begun, begins}
-use Rattle.call_bounds.specs.Soundness.{IsSound, is_signal, if_given}
+use Rattle.engine_text.specs.Soundness.{IsSound, is_signal, if_given}
 use Rattle.machine_model.specs.Statuses.{is_status_of, is_ticket_status, is_reply_of, gives_ticket}
 use Rattle.machine_model.specs.Consistency.{IsFrozenRight}
 use Rattle.machine_model.proofs.Fold.RowLemmas.{Same, Is, found_number, same_some}

@@ -13,7 +13,6 @@ pub mod Streams
 pub mod Call
 pub mod Due
 pub mod Step
-pub use Rattle.call_bounds.specs.Soundness
 pub mod Ready
 pub mod History
 pub mod Summary

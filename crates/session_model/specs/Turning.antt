@@ -10,7 +10,7 @@ use Rattle.engine_text.specs.declared.step.Step.{Step}
 use Rattle.machine_model.specs.State.{State}
 use Rattle.journal_lines.specs.Room.{HasRoom}
 use Rattle.machine_model.specs.Ready.{is_ready}
-use Rattle.machine_model.specs.Soundness.{IsSound}
+use Rattle.engine_text.specs.Soundness.{IsSound}
 use Rattle.session_model.specs.declared.turned.Turned.{Turned}
 use Rattle.session_model.specs.declared.turned.Turned.TheVariants.{Replied, Begun, NotYet, Nothing, JournalFull, NoMemory}
 use Rattle.machine_model.specs.History.{Charter, state_after, state_from, reply_of, moment_used, is_due, IsLegal, DuesUntil, SomeDues, HasNone, HasNoCall, calls_of, is_drop}

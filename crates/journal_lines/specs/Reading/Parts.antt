@@ -2,7 +2,7 @@
 use Rattle.std.specs.Prelude.{◌≡◌, ℕ, ℤ, List, nat_le, Bool, is_some, if◌then◌else◌, Option, Some, None, Result, Ok, Err, option_map, option_and_then, ⊤}
 use Rattle.serde_json.specs.Data.{Data}
 use Rattle.serde_json.specs.Find.{get, as_null, as_bool, as_number, as_str, as_u64, as_i64}
-use Rattle.call_bounds.specs.Soundness.{is_seconds}
+use Rattle.engine_text.specs.Soundness.{is_seconds}
 use Rattle.engine_text.specs.declared.signal.Signal.{Signal}
 use Rattle.journal_lines.specs.declared.fault.LineFault.{LineFault}
 use Rattle.journal_lines.specs.declared.fault.LineFault.TheVariants.{BadLine, NoMemory}

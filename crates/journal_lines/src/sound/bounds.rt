@@ -1,6 +1,6 @@
 // The bounds of numbers and texts.
 ghost use Rattle.std.specs.Prelude.{◌≡◌};
-ghost use Rattle.call_bounds.specs.Soundness as spec;
+ghost use Rattle.engine_text.specs.Soundness as spec;
 
 use engine_text::{LogAsk, Policy, Signal, Text, Words};
 

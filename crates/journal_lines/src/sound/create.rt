@@ -2,8 +2,8 @@
 ghost use Rattle.std.specs.Prelude.{◌≡◌};
 ghost use Rattle.std.specs.List.{list_all};
 ghost use Rattle.engine_text.specs.Name.{is_name};
-ghost use Rattle.api_json.specs.MountForms.{is_path};
-ghost use Rattle.call_bounds.specs.Soundness as spec;
+ghost use Rattle.engine_text.specs.Mounts.{is_path};
+ghost use Rattle.engine_text.specs.Soundness as spec;
 
 use super::bounds::{is_policy, is_seconds, is_signal};
 use super::rising::are_labels;

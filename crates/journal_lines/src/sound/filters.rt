@@ -1,7 +1,7 @@
 // Whether a filter has keys of its call alone, which rise.
 ghost use Rattle.std.specs.Prelude.{◌≡◌};
 ghost use Rattle.std.specs.List.{list_all};
-ghost use Rattle.call_bounds.specs.Soundness as spec;
+ghost use Rattle.engine_text.specs.Soundness as spec;
 
 use super::rising::do_rows_rise;
 use engine_text::{FilterKey, FilterRow};

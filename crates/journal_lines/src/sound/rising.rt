@@ -2,8 +2,8 @@
 ghost use Rattle.std.specs.Prelude.{◌≡◌, map};
 ghost use Rattle.std.specs.Ordering.{nat_cmp, is_lt};
 ghost use Rattle.std.specs.Cmp.Lexicographic.{slice_cmp};
-ghost use Rattle.api_json.specs.Filters.{filter_word};
-ghost use Rattle.call_bounds.specs.Soundness as spec;
+ghost use Rattle.engine_text.specs.Filter.{filter_word};
+ghost use Rattle.engine_text.specs.Soundness as spec;
 ghost use Rattle.journal_lines.specs.Rising.{rises_first};
 
 use api_json::filter_word;

@@ -1,6 +1,6 @@
 // Whether a request can make a call.
 ghost use Rattle.std.specs.Prelude.{◌≡◌};
-ghost use Rattle.call_bounds.specs.Soundness as spec;
+ghost use Rattle.engine_text.specs.Soundness as spec;
 
 use super::bounds::{
     has_words, is_full, is_limit_if_given, is_log_ask, is_seconds_if_given, is_signal,

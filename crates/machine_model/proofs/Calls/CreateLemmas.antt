@@ -7,7 +7,7 @@ use Rattle.machine_model.specs.Call.{outcome_of}
 use Rattle.machine_model.specs.EventTexts.{plain_event}
 use Rattle.machine_model.specs.Names.{holder, chosen_name}
 use Rattle.machine_model.specs.Filters.{is_image}
-use Rattle.call_bounds.specs.Soundness.{is_create, is_signal}
+use Rattle.engine_text.specs.Soundness.{is_create, is_signal}
 use Rattle.machine_model.specs.Summary.{fold_on, inspect_summary, summary_row}
 use Rattle.machine_model.specs.Calls.Create.{volume_named, make_missing, unless_it_stands, new_container, with_new, add, by_holder, by_image}
 use Rattle.machine_model.proofs.Fold.RowLemmas.{Same, exact, whole}

@@ -18,7 +18,7 @@ use Rattle.machine_model.specs.Tickets.{begins}
 use Rattle.machine_model.specs.Names.{holder, chosen_name}
 use Rattle.machine_model.specs.Filters.{is_image}
 use Rattle.machine_model.specs.Ready.{is_ready, feed_is_ready}
-use Rattle.call_bounds.specs.Soundness.{IsSound, is_create}
+use Rattle.engine_text.specs.Soundness.{IsSound, is_create}
 use Rattle.machine_model.specs.Streams.{RunState, Coming, Live, Over, run_state}
 use Rattle.machine_model.specs.Calls.Create as create
 use Rattle.machine_model.specs.Calls.Create.{volume_named, make_missing, make_volume, unless_it_stands, new_container, with_new, add}

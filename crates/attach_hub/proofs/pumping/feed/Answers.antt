@@ -1,5 +1,5 @@
 use Rattle.std.proofs.Common.{subst, sym}
-use Rattle.call_bounds.specs.Soundness.{IsSound}
+use Rattle.engine_text.specs.Soundness.{IsSound}
 use Rattle.engine_text.specs.declared.call.Call.TheVariants.{Feed}
 use Rattle.attach_hub.specs.Pumping.{Hears}
 use Rattle.attach_hub.proofs.HearLemmas.{heard_none}

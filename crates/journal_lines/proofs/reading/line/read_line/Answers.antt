@@ -1,7 +1,7 @@
 use Rattle.std.proofs.Common.{◌≡◌, ℕ, List, true, false, refl, sym, ap, ◌∙◌, subst, not, Bool, bytes_eq, Result, Ok, Err, IfErr, IsErrAnd}
 use Rattle.std.proofs.lemmas.Slice.Eq.{bytes_eq-Decides}
 use Rattle.serde_json.specs.View.{view}
-use Rattle.call_bounds.specs.Soundness.{is_sound}
+use Rattle.engine_text.specs.Soundness.{is_sound}
 use Rattle.journal_lines.specs.JournalLines.{entry_value, journal_line}
 use Rattle.engine_text.specs.declared.entry.Entry.{Entry}
 use Rattle.journal_lines.specs.Line.{IsLineFault}

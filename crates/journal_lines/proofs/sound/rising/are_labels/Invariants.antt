@@ -1,5 +1,5 @@
 use Rattle.std.proofs.Common.{◌≡◌, length}
-use Rattle.call_bounds.specs.Soundness.{are_labels}
+use Rattle.engine_text.specs.Soundness.{are_labels}
 use Rattle.journal_lines.proofs.sound.rising.are_labels.Given as goal
 
 abbrev pub invariant-pairs : goal.invariant-pairs

@@ -1,6 +1,6 @@
 use Rattle.std.proofs.Common.{◌≡◌, length, map}
-use Rattle.api_json.specs.Filters.{filter_word}
-use Rattle.call_bounds.specs.Soundness.{are_rising}
+use Rattle.engine_text.specs.Filter.{filter_word}
+use Rattle.engine_text.specs.Soundness.{are_rising}
 use Rattle.engine_text.specs.declared.filter.FilterRow.{FilterRow}
 use Rattle.journal_lines.proofs.sound.rising.do_rows_rise.Given as goal
 

@@ -10,11 +10,12 @@ use Rattle.json_laws.specs.Text.{data_of}
 use Rattle.engine_text.specs.Texts.{same_bytes}
 use Rattle.engine_text.specs.declared.filter.FilterKey.{FilterKey}
 use Rattle.engine_text.specs.declared.filter.FilterRow.{FilterRow}
-use Rattle.api_json.specs.Filters.{filter_word, key_among, values_in, rows_in, filter_of}
+use Rattle.engine_text.specs.Filter.{filter_word}
+use Rattle.api_json.specs.Filters.{key_among, values_in, rows_in, filter_of}
 use Rattle.api_json.specs.declared.fault.BodyFault.TheVariants.{InvalidFilter}
-use Rattle.call_bounds.specs.Soundness.{are_rising, is_filter}
-use Rattle.call_bounds.proofs.RiseLemmas.{IfOrdered, data_ordered, names, names_rise}
-use Rattle.call_bounds.proofs.StepLemmas.{or_else, both_true}
+use Rattle.engine_text.specs.Soundness.{are_rising, is_filter}
+use Rattle.api_routes.proofs.RiseLemmas.{IfOrdered, data_ordered, names, names_rise}
+use Rattle.api_routes.proofs.WithinLemmas.{or_else, both_true}
 
 -- ---- a key that is found among keys which pass a test passes it, and has the name
 

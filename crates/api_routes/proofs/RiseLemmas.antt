@@ -16,7 +16,7 @@ use Rattle.json_laws.specs.Pairs.{Texts, texts_of}
 use Rattle.engine_text.specs.declared.pairs.Pair.{Pair}
 use Rattle.api_json.specs.Fields.{body_of, object_or_bad, unless_null}
 use Rattle.api_json.specs.Lists.{pairs_in, pairs_of_members, pairs_from}
-use Rattle.call_bounds.specs.Soundness.{are_rising}
+use Rattle.engine_text.specs.Soundness.{are_rising}
 use Rattle.api_json.specs.declared.fault.BodyFault.{BodyFault}
 use Rattle.api_json.specs.declared.fault.BodyFault.TheVariants.{BadJson}
 

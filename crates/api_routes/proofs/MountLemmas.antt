@@ -13,11 +13,12 @@ use Rattle.engine_text.specs.declared.mounts.Mount.{Mount}
 use Rattle.api_json.specs.Fault.{and_then, or_fault}
 use Rattle.api_json.specs.Fields.{field, text_field, flag}
 use Rattle.api_json.specs.Lists.{texts_field}
-use Rattle.api_json.specs.MountForms.{is_path, mount_of, mode_of, split_colon, path_and_mode, volume_and_path, bind_of, told_mount, mount_fields, mount_in, added_mount, add_binds, add_mounts, add_mounts_field, mounts_of}
+use Rattle.engine_text.specs.Mounts.{is_path}
+use Rattle.api_json.specs.MountForms.{mount_of, mode_of, split_colon, path_and_mode, volume_and_path, bind_of, told_mount, mount_fields, mount_in, added_mount, add_binds, add_mounts, add_mounts_field, mounts_of}
 use Rattle.api_json.specs.declared.fault.BodyKey.TheVariants as Key
 use Rattle.api_json.specs.declared.fault.BodyFault.TheVariants.{BadField, BadMount}
-use Rattle.call_bounds.specs.Soundness.{is_mount, are_mounts}
-use Rattle.call_bounds.proofs.StepLemmas.{goes_on, goes_by, by_test, both_true}
+use Rattle.engine_text.specs.Soundness.{is_mount, are_mounts}
+use Rattle.api_routes.proofs.WithinLemmas.{goes_on, goes_by, by_test, both_true}
 
 abbrev IsMount : Mount → Type 0
 IsMount m = IsTrue (is_mount m)

@@ -4,8 +4,8 @@ use Rattle.std.specs.List.{list_all}
 use Rattle.std.specs.Ordering.{nat_cmp, is_lt}
 use Rattle.std.specs.Cmp.Lexicographic.{slice_cmp}
 use Rattle.engine_text.specs.Name.{is_name, is_volume_name}
-use Rattle.api_json.specs.MountForms.{is_path}
-use Rattle.api_json.specs.Filters.{filter_word}
+use Rattle.engine_text.specs.Mounts.{is_path}
+use Rattle.engine_text.specs.Filter.{filter_word}
 use Rattle.engine_text.specs.declared.call.Call.{Call}
 use Rattle.engine_text.specs.declared.call.CreateSpec.{CreateSpec}
 use Rattle.engine_text.specs.declared.call.LogAsk.{LogAsk}

@@ -12,10 +12,10 @@ use Rattle.api_json.specs.declared.exec_create.ExecSpec.{ExecSpec}
 use Rattle.api_json.specs.declared.volume_create.VolumeSpec.{VolumeSpec}
 use Rattle.api_json.specs.declared.fault.BodyKey.TheVariants as Key
 use Rattle.api_json.specs.declared.fault.BodyFault.TheVariants.{TtyLeftOut, BadVolumeName}
-use Rattle.call_bounds.specs.Soundness.{is_full, are_labels}
-use Rattle.call_bounds.proofs.RiseLemmas.{IsOrdered, body_ordered}
-use Rattle.call_bounds.proofs.CreateLemmas.{AreLabels, labels_read}
-use Rattle.call_bounds.proofs.StepLemmas.{gives, goes_on, goes_by, by_test, both_true}
+use Rattle.engine_text.specs.Soundness.{is_full, are_labels}
+use Rattle.api_routes.proofs.RiseLemmas.{IsOrdered, body_ordered}
+use Rattle.api_routes.proofs.CreateLemmas.{AreLabels, labels_read}
+use Rattle.api_routes.proofs.WithinLemmas.{gives, goes_on, goes_by, by_test, both_true}
 
 -- ---- exec
 

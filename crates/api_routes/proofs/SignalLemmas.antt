@@ -7,8 +7,8 @@ use Rattle.std.proofs.lemmas.List.Quantifiers.{position-Some}
 use Rattle.engine_text.specs.Signal.{number_named, without_sig, small_number, signal_of, read_by, read_signal, signal_names}
 use Rattle.engine_text.specs.Texts.{same_letters}
 use Rattle.engine_text.specs.declared.signal.Signal.{Signal}
-use Rattle.call_bounds.specs.Soundness.{is_signal}
-use Rattle.call_bounds.proofs.StepLemmas.{some_by_test}
+use Rattle.engine_text.specs.Soundness.{is_signal}
+use Rattle.api_routes.proofs.WithinLemmas.{some_by_test}
 
 abbrev pub IsSignal : Signal → Type 0
 IsSignal s = IsTrue (is_signal s)

@@ -19,13 +19,13 @@ use Rattle.api_json.specs.declared.create.Stop.{Stop}
 use Rattle.api_json.specs.declared.host_config.Host.{Host}
 use Rattle.api_json.specs.declared.fault.BodyKey.TheVariants as Key
 use Rattle.api_json.specs.declared.fault.BodyFault.TheVariants.{BadField, AutoRemoveNotBuilt}
-use Rattle.call_bounds.specs.Soundness.{is_seconds, is_policy, is_signal, are_labels, are_mounts, is_create, if_given}
+use Rattle.engine_text.specs.Soundness.{is_seconds, is_policy, is_signal, are_labels, are_mounts, is_create, if_given}
 use Rattle.engine_text.specs.Name.{is_name}
 use Rattle.std.proofs.lemmas.Bool.{false≢true}
-use Rattle.call_bounds.proofs.RiseLemmas.{IfOrdered, IsOrdered, body_ordered, value_found, then_unless, labels_in}
-use Rattle.call_bounds.proofs.SignalLemmas.{IsSignal, signal_read}
-use Rattle.call_bounds.proofs.MountLemmas.{AreMounts, mounts_read}
-use Rattle.call_bounds.proofs.StepLemmas.{gives, goes_on, goes_by, or_else, some_by_test, both_true}
+use Rattle.api_routes.proofs.RiseLemmas.{IfOrdered, IsOrdered, body_ordered, value_found, then_unless, labels_in}
+use Rattle.api_routes.proofs.SignalLemmas.{IsSignal, signal_read}
+use Rattle.api_routes.proofs.MountLemmas.{AreMounts, mounts_read}
+use Rattle.api_routes.proofs.WithinLemmas.{gives, goes_on, goes_by, or_else, some_by_test, both_true}
 
 -- ---- how it is stopped
 
