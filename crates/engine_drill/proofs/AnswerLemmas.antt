@@ -9,7 +9,7 @@ use Rattle.http_edge.specs.declared.head.Form.TheVariants.{Empty, Json}
 use Rattle.response_reader.specs.Heads.{IsFinal, is_bare}
 use Rattle.response_reader.specs.Numbers.{BeginsWithNumber}
 use Rattle.session_model.specs.Responses.{answer_bytes}
-use Rattle.engine_drill.specs.Answers.{plain_terms, IsAnswer, HasNoAnswer}
+use Rattle.drill_model.specs.Answers.{plain_terms, IsAnswer, HasNoAnswer}
 use Rattle.engine_drill.specs.Reading.{form_by, head_by, before_length}
 
 pub told_head : (status : ℕ) (body : List ℕ) → answer_bytes plain_terms status body ≡ head_text (head_by status (length body)) ++ body

@@ -4,8 +4,3 @@ pub mod AnswerLemmas
 pub mod TallyLemmas
 pub mod LineLemmas
 pub mod JournalLemmas
-pub mod SpellingLemmas
-pub mod AskedLemmas
-pub mod ClassLemmas
-pub mod UnrefusedLemmas
-pub mod DrillLemmas

@@ -1,6 +1,6 @@
 -- Lines that are added one behind the other.
 use Rattle.std.proofs.Common.{arith, ◌≡◌, ◌≢◌, ◌<◌, ◌+◌, ℕ, zero, suc, List, [], ◌∷◌, ◌++◌, length, take, get_or, refl, sym, ap, ◌∙◌, append_assoc, append-nil}
-use Rattle.engine_drill.specs.Report.{answered_line, status_line, status_lines}
+use Rattle.drill_model.specs.Report.{answered_line, status_line, status_lines}
 
 pub added_3 : (o a b c x y z : List ℕ) → x ≡ o ++ a → y ≡ x ++ b → z ≡ y ++ c → z ≡ o ++ ((a ++ b) ++ c)
 added_3 o a b c x y z e f g =

@@ -4,7 +4,7 @@ use Rattle.std.specs.List.{concat}
 use Rattle.std.proofs.lemmas.List.FromFn.{map-range_with_len_more}
 use Rattle.std.proofs.lemmas.List.Folds.{concat-append}
 use Rattle.rand_chacha.specs.ChaCha.{ChaCha, key_of, next_word}
-use Rattle.engine_drill.specs.Requests.{drill_stream, drill_word, request_of, drill_requests}
+use Rattle.drill_model.specs.Requests.{drill_stream, drill_word, request_of, drill_requests}
 
 -- one more request
 pub next_request : (seed : List ℕ) (i : ℕ) (bytes : List ℕ) → bytes ≡ concat (drill_requests seed i)

@@ -8,8 +8,8 @@ use Rattle.engine_ports.specs.Clock.{ClockView}
 use Rattle.machine_model.specs.History.{Charter, HasNoCall, input_of}
 use Rattle.session_model.specs.declared.ending.Ending.{Ending}
 use Rattle.daemon_core.proofs.OwnFacts.{no_other}
-use Rattle.engine_drill.specs.Requests.{drill_word, request_of}
-use Rattle.engine_drill.specs.Running.{Session}
+use Rattle.drill_model.specs.Requests.{drill_word, request_of}
+use Rattle.drill_model.specs.Running.{Session}
 
 -- the first word under the seed of zeros
 first_word : drill_word (replicate 32 0) 0 ≡ 1925117666

@@ -5,7 +5,7 @@ use Rattle.std.proofs.lemmas.Bool.Decides.{nat_tests}
 use Rattle.std.proofs.lemmas.List.{get_or-set_same, get_or-set_other}
 use Rattle.std.proofs.lemmas.List.Elements.{filter-append}
 use Rattle.std.proofs.lemmas.List.FromFn.{length-map-range_with_len, get_or-map-range_with_len, fill_by_all}
-use Rattle.engine_drill.specs.Answers.{IsAnswer, HasNoAnswer, HaveStatuses, NoMore, OneMore, count_of, counts_of}
+use Rattle.drill_model.specs.Answers.{IsAnswer, HasNoAnswer, HaveStatuses, NoMore, OneMore, count_of, counts_of}
 
 -- no status is counted more often than there are answers
 pub count_few : (s : ℕ) (seen : List ℕ) → count_of s seen ≤ length seen

@@ -3,7 +3,7 @@ ghost use Rattle.std.specs.Prelude.{◌≡◌, ◌<◌, ◌^◌, ◌++◌, ℕ, 
 ghost use Rattle.http_edge.specs.Response.{head_text};
 ghost use Rattle.response_reader.specs.Heads.{IsFinal, is_bare};
 ghost use Rattle.response_reader.specs.Numbers.{BeginsWithNumber};
-ghost use Rattle.engine_drill.specs.Answers.{IsAnswer, HasNoAnswer};
+ghost use Rattle.drill_model.specs.Answers.{IsAnswer, HasNoAnswer};
 ghost use Rattle.engine_drill.specs.Reading.{before_length, head_by};
 
 use http_edge::{Form, Head, head_line};

@@ -1,6 +1,6 @@
 // How often each status was answered.
 ghost use Rattle.std.specs.Prelude.{◌≡◌, List, ℕ, IfOk};
-ghost use Rattle.engine_drill.specs.Answers.{HaveStatuses, counts_of};
+ghost use Rattle.drill_model.specs.Answers.{HaveStatuses, counts_of};
 
 use super::answers::first_answer;
 use std::alloc::{AllocError, Global};

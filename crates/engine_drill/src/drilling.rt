@@ -3,9 +3,9 @@ ghost use Rattle.std.specs.Prelude.{◌≡◌, ◌≤◌, IfOk};
 ghost use Rattle.machine_model.specs.History.{greatest_moment};
 ghost use Rattle.daemon_core.specs.Keeping.{history_of};
 ghost use Rattle.daemon_core.specs.Passing.{charter};
-ghost use Rattle.engine_drill.specs.Source.{empty_sink};
-ghost use Rattle.engine_drill.specs.Report.{IsReport};
-ghost use Rattle.engine_drill.specs.Running.{charter_by, Drills};
+ghost use Rattle.drill_model.specs.Source.{empty_sink};
+ghost use Rattle.drill_model.specs.Report.{IsReport};
+ghost use Rattle.drill_model.specs.Running.{charter_by, Drills};
 
 use super::counting::tally;
 use super::given::Given;
@@ -13,6 +13,7 @@ use super::judging::journal_text;
 use super::making::requests;
 use super::reporting::report;
 use daemon_core::{Alone, Daemon};
+use drill_model::{Drill, Drilled, RunDrill};
 use engine_ports::{Clock, MemSink, Sink};
 use engine_serve::{Ending, serve};
 use engine_text::{NoMemory, Text};
@@ -20,28 +21,6 @@ use history_replay::{check, law_complete, law_one_verdict};
 use std::alloc::Global;
 use std::sync::Wait;
 use std::thread::Threads;
-
-/// What a drill came to.
-#[derive(Drop)]
-pub enum Drilled {
-    /// Its session was closed, and this is its report.
-    Reported(Text),
-    /// Its session ended otherwise.
-    Ended(Ending),
-}
-
-/// What a drill is run with.
-#[derive(Clone, Copy, Drop)]
-pub struct Drill {
-    /// The seed of its words and of the ids.
-    pub seed: [u8; 32],
-    /// How many requests it makes.
-    pub requests: u32,
-    /// The moment at which its daemon is opened, in milliseconds.
-    pub opening: u64,
-    /// The most entries of its journal.
-    pub entries: u64,
-}
 
 /// The report of a daemon that was opened for the drill, and answered by these bytes.
 fn report_of(alloc: Global, daemon: &Daemon, drill: Drill, written: &[u8]) -> Result<Text, NoMemory>
@@ -71,9 +50,24 @@ fn memory_sink(alloc: Global) -> Result<MemSink, NoMemory>
     }
 }
 
-/// Runs a drill: its requests are served on one connection by a new daemon, the daemon's journal is checked, and what
-/// they came to is reported. It may wait.
-pub fn run_drill<R: Threads + Wait + Sync, C: Clock>(
+/// Runs a drill by one session of a new daemon.
+#[derive(Clone, Copy, Drop)]
+pub struct SessionDrill;
+
+impl RunDrill for SessionDrill {
+    fn run_drill<R: Threads + Wait + Sync, C: Clock>(
+        &self,
+        rt: &R,
+        alloc: Global,
+        drill: Drill,
+        clock: &mut C,
+    ) -> Result<Drilled, NoMemory> {
+        drilled(rt, alloc, drill, clock)
+    }
+}
+
+// Serves the requests of a drill, and reports what they came to.
+fn drilled<R: Threads + Wait + Sync, C: Clock>(
     rt: &R,
     alloc: Global,
     drill: Drill,

@@ -14,7 +14,7 @@ pub struct Given {
 
 impl Model for Given {
     ghost use Rattle.std.specs.Prelude.{◌≤◌, drop, vec_len};
-    ghost use Rattle.engine_drill.specs.Source.{Supply};
+    ghost use Rattle.drill_model.specs.Source.{Supply};
 
     ghost Value = { Supply };
 
@@ -37,7 +37,7 @@ impl Given {
 }
 
 impl Source for Given {
-    ghost use Rattle.engine_drill.specs.Source.{full_source};
+    ghost use Rattle.drill_model.specs.Source.{full_source};
 
     ghost gives = { λ s. full_source s.left s.ends };
 

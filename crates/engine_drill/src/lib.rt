@@ -12,6 +12,6 @@ mod making;
 mod reporting;
 mod request;
 
-pub use drilling::{Drill, Drilled, run_drill};
+pub use drilling::SessionDrill;
 pub use given::Given;
 pub use making::requests;

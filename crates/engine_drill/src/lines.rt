@@ -1,6 +1,6 @@
 // The lines of a report.
 ghost use Rattle.std.specs.Prelude.{◌≡◌, ◌≤◌, ◌+◌, ◌^◌, ◌++◌, IfOk, OnOk, length, string_bytes};
-ghost use Rattle.engine_drill.specs.Report as spec;
+ghost use Rattle.drill_model.specs.Report as spec;
 
 use journal_lines::Verdict;
 use std::alloc::{AllocError, Global};

@@ -1,7 +1,7 @@
 // All requests of a drill.
 ghost use Rattle.std.specs.Prelude.{◌≡◌, IfOk};
 ghost use Rattle.std.specs.List.{concat};
-ghost use Rattle.engine_drill.specs.Requests.{drill_requests};
+ghost use Rattle.drill_model.specs.Requests.{drill_requests};
 
 use super::request::request_of;
 use rand_chacha::ChaCha20Rng;

@@ -1,6 +1,6 @@
 // The report of a drill.
 ghost use Rattle.std.specs.Prelude.{◌≡◌, IfOk, string_bytes};
-ghost use Rattle.engine_drill.specs.Report.{report_by};
+ghost use Rattle.drill_model.specs.Report.{report_by};
 
 use super::lines::{put_number, put_statuses, put_verdict};
 use journal_lines::Verdict;

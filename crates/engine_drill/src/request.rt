@@ -1,8 +1,9 @@
 // The request that a word asks for.
 ghost use Rattle.std.specs.Prelude.{◌≡◌, ◌<◌, IfOk, string_bytes};
-ghost use Rattle.engine_drill.specs.Requests.{create_body, post_box, post_create, post_rename, delete_box, request_by, request_of};
+ghost use Rattle.drill_model.specs.Requests.{create_body, post_box, post_create, post_rename, delete_box, request_by, request_of};
 
-use super::deed::{Deed, Program, box_of, deed_of, next_box, program_of};
+use super::deed::{box_of, deed_of, next_box, program_of};
+use drill_model::{Deed, Program};
 use std::alloc::{AllocError, Global};
 
 /// The body of a create.

@@ -1,14 +1,14 @@
 // A line that drills.
 ghost use Rattle.std.specs.Prelude.{◌≡◌, ◌≤◌};
 ghost use Rattle.machine_model.specs.History.{greatest_moment};
-ghost use Rattle.engine_drill.specs.Running as spec;
+ghost use Rattle.drill_model.specs.Running as spec;
 ghost use Rattle.engine_program.specs.Opening.{StartsWithin};
 ghost use Rattle.engine_program.specs.Drilling.{DrillsBy, RunsDrill, TellsDrilled, status_written};
 
 use crate::opening::{opening_by, steps_of};
 use crate::status::status_by;
 use daemon_shared::called_by;
-use engine_drill::{Drill, Drilled, run_drill};
+use drill_model::{Drill, Drilled, RunDrill};
 use engine_line::Line;
 use engine_ports::{Clock, Failed, Sink};
 use engine_serve::OwnClock;
@@ -19,9 +19,10 @@ use std::sync::Wait;
 use std::thread::Threads;
 
 /// Runs a drill by its own clock, of this start and step, or by the handed one.
-fn drill_by<R: Threads + Wait + Sync, C: Clock>(
+fn drill_by<R: Threads + Wait + Sync, C: Clock, G: RunDrill>(
     rt: &R,
     alloc: Global,
+    drills: &G,
     drill: Drill,
     steps: Option<(u64, u64)>,
     clock: &mut C,
@@ -33,9 +34,9 @@ fn drill_by<R: Threads + Wait + Sync, C: Clock>(
     match steps {
         Some((moment, step)) => {
             let mut own = OwnClock { moment, step };
-            run_drill(rt, alloc, drill, &mut own)
+            drills.run_drill(rt, alloc, drill, &mut own)
         }
-        None => run_drill(rt, alloc, drill, clock),
+        None => drills.run_drill(rt, alloc, drill, clock),
     }
 }
 
@@ -61,9 +62,10 @@ fn tell_drilled<K: Sink>(sink: &mut K, drilled: Result<Drilled, NoMemory>) -> u8
 }
 
 /// Runs a drill of so many requests, as the line sets it, and writes its report.
-pub fn run_line_drill<R: Threads + Wait + Sync, K: Sink, C: Clock>(
+pub fn run_line_drill<R: Threads + Wait + Sync, K: Sink, C: Clock, G: RunDrill>(
     rt: &R,
     alloc: Global,
+    drills: &G,
     line: Line,
     requests: u32,
     sink: &mut K,
@@ -81,6 +83,6 @@ pub fn run_line_drill<R: Threads + Wait + Sync, K: Sink, C: Clock>(
         opening,
         entries: u64::from(line.entries),
     };
-    let drilled = drill_by(rt, alloc, drill, steps_of(line.clock), clock);
+    let drilled = drill_by(rt, alloc, drills, drill, steps_of(line.clock), clock);
     tell_drilled(sink, drilled)
 }

@@ -2,6 +2,7 @@
 //! handed to the one top call.
 #![tactic(auto)]
 
+use engine_drill::SessionDrill;
 use engine_ports::{HeldStreams, ReadSource, SystemClock, TcpDoor, WriteSink};
 use engine_program::run_engined;
 use engine_text::Text;
@@ -45,6 +46,7 @@ fn main(rt: HostRuntime) -> ExitCode {
         &mut sink,
         &mut clock,
         &mut door,
+        &SessionDrill,
     );
     drop(held);
     ExitCode::from(status)

@@ -8,9 +8,9 @@ use Rattle.history_replay.specs.Legal.{journal_of, steps_told}
 use Rattle.journal_lines.specs.declared.verdict.Verdict.TheVariants.{Legal}
 use Rattle.daemon_core.specs.Keeping.{history_of}
 use Rattle.daemon_core.specs.Passing.{charter}
-use Rattle.engine_drill.specs.Answers.{counts_of}
-use Rattle.engine_drill.specs.Report.{report_by}
-use Rattle.engine_drill.specs.Running.{charter_by}
+use Rattle.drill_model.specs.Answers.{counts_of}
+use Rattle.drill_model.specs.Report.{report_by}
+use Rattle.drill_model.specs.Running.{charter_by}
 use Rattle.engine_drill.proofs.drilling.report_of.Goals as goal
 
 pub returns : goal.returns

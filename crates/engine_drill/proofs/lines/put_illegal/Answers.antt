@@ -1,6 +1,6 @@
 use Rattle.std.proofs.Common.{codes}
 use Rattle.std.specs.Prelude.{string_bytes}
-use Rattle.engine_drill.specs.Report.{number_line, text_line}
+use Rattle.drill_model.specs.Report.{number_line, text_line}
 use Rattle.engine_drill.proofs.LineLemmas.{added_3}
 use Rattle.engine_drill.proofs.lines.put_illegal.Goals as goal
 

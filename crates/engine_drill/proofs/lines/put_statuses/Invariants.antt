@@ -1,6 +1,6 @@
 use Rattle.std.proofs.Common.{◌≡◌, ◌++◌, take}
 use Rattle.std.specs.Prelude.{string_bytes}
-use Rattle.engine_drill.specs.Report.{status_lines}
+use Rattle.drill_model.specs.Report.{status_lines}
 use Rattle.engine_drill.proofs.lines.put_statuses.Given as goal
 
 abbrev pub invariant-loop-status : goal.invariant-loop-status

@@ -1,6 +1,6 @@
 use Rattle.std.proofs.Common.{◌<◌, ◌^◌, ◌++◌, ap, ◌∙◌, arith, List, ℕ}
 use Rattle.rand_chacha.specs.ChaCha.{ChaCha}
-use Rattle.engine_drill.specs.Requests.{drill_stream, request_of}
+use Rattle.drill_model.specs.Requests.{drill_stream, request_of}
 use Rattle.engine_drill.proofs.MakingLemmas.{next_request, word_made}
 use Rattle.engine_drill.proofs.making.requests.Goals as goal
 

@@ -1,6 +1,6 @@
 use Rattle.std.proofs.Common.{◌≡◌}
 use Rattle.std.specs.List.{concat}
-use Rattle.engine_drill.specs.Requests.{drill_requests}
+use Rattle.drill_model.specs.Requests.{drill_requests}
 use Rattle.engine_drill.proofs.MakingLemmas.{standing}
 use Rattle.engine_drill.proofs.making.requests.Given as goal
 

@@ -1,6 +1,6 @@
 use Rattle.std.proofs.Common.{◌++◌, ℕ, ap, ◌∙◌, codes}
 use Rattle.std.specs.Prelude.{string_bytes}
-use Rattle.engine_drill.specs.Report.{number_line, status_lines, verdict_lines}
+use Rattle.drill_model.specs.Report.{number_line, status_lines, verdict_lines}
 use Rattle.engine_drill.proofs.LineLemmas.{added_5}
 use Rattle.engine_drill.proofs.reporting.report.Goals as goal
 

@@ -1,6 +1,6 @@
 use Rattle.std.proofs.Common.{◌≡◌, ℕ, List, codes, subst}
 use Rattle.std.specs.Prelude.{IfOk, string_bytes, decimal}
-use Rattle.engine_drill.specs.Requests.{bare_end}
+use Rattle.drill_model.specs.Requests.{bare_end}
 use Rattle.engine_drill.proofs.MakingLemmas.{pieces_4}
 use Rattle.engine_drill.proofs.request.post_box.Goals as goal
 

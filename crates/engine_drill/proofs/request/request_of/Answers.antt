@@ -1,8 +1,8 @@
 use Rattle.std.proofs.Common.{◌≡◌, ℕ, subst}
 use Rattle.std.specs.Prelude.{IfOk, string_bytes}
-use Rattle.engine_drill.specs.declared.deed.Deed.{Deed}
-use Rattle.engine_drill.specs.declared.deed.Program.{Program}
-use Rattle.engine_drill.specs.Requests.{box_of, program_of, request_by, request_of}
+use Rattle.drill_model.specs.declared.deed.Deed.{Deed}
+use Rattle.drill_model.specs.declared.deed.Program.{Program}
+use Rattle.drill_model.specs.Requests.{box_of, program_of, request_by, request_of}
 use Rattle.engine_drill.proofs.request.request_of.Goals as goal
 
 pub returns : goal.returns

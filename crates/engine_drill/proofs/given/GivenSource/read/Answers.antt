@@ -1,6 +1,6 @@
 use Rattle.std.proofs.Common.{arith, ◌≡◌, ◌≤◌, ◌+◌, ◌-◌, ◌++◌, ℕ, List, length, take, drop, sym, ap, ◌∙◌, length-append, length-drop}
 use Rattle.std.proofs.lemmas.List.{take-append-drop, take-append-le, take-take, drop-drop, length-take-le, take_rest}
-use Rattle.engine_drill.specs.Source.{Supply}
+use Rattle.drill_model.specs.Source.{Supply}
 use Rattle.engine_drill.proofs.given.GivenSource.read.Goals as goal
 
 -- what is read from a place on is what stands in the front of the buffer, and the rest

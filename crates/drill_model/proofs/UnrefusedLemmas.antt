@@ -19,12 +19,12 @@ use Rattle.session_model.specs.declared.followed.Followed.{Followed}
 use Rattle.session_model.specs.declared.followed.Followed.TheVariants as F
 use Rattle.session_model.specs.Exchange.{Kind, FromItsBytes, ByItsCall, ByItsTicket, OutOfMemory, DroppedForMemory, DroppedAtStop, ByItsTicketEarly, BrokenOffEarly, JournalIsFull, Chunked, TakenOver, HeadIsLost, BreaksWait, Closes, GoesOn, Leaves, flow_by}
 use Rattle.session_model.specs.Session.{Span, EndsAt, EndsBy, Ends, IsSession, ending_of}
-use Rattle.engine_drill.specs.Requests.{drill_word, drill_requests, request_by, deed_of, box_of, program_of}
-use Rattle.engine_drill.specs.declared.deed.Deed.TheVariants.{ListAll}
-use Rattle.engine_drill.specs.declared.deed.Program.TheVariants.{Deaf}
-use Rattle.engine_drill.proofs.SpellingLemmas.{lengths}
-use Rattle.engine_drill.proofs.AskedLemmas.{asked_at, are_read, spelled}
-use Rattle.engine_drill.proofs.ClassLemmas.{IsNoStream, no_stream}
+use Rattle.drill_model.specs.Requests.{drill_word, drill_requests, request_by, deed_of, box_of, program_of}
+use Rattle.drill_model.specs.declared.deed.Deed.TheVariants.{ListAll}
+use Rattle.drill_model.specs.declared.deed.Program.TheVariants.{Deaf}
+use Rattle.drill_model.proofs.SpellingLemmas.{lengths}
+use Rattle.drill_model.proofs.AskedLemmas.{asked_at, are_read, spelled}
+use Rattle.drill_model.proofs.ClassLemmas.{IsNoStream, no_stream}
 
 -- no request was refused or cut short, no journal was full in a takeover, and no stream fell behind
 abbrev pub IsUnrefused : Ending → Type 0

@@ -10,12 +10,12 @@ use Rattle.session_model.specs.declared.ending.Ending.{Ending}
 use Rattle.session_model.specs.declared.ending.Ending.TheVariants as E
 use Rattle.session_model.specs.Guarantee.{Serves}
 use Rattle.daemon_core.specs.Storing.{charter_of, pass_of}
-use Rattle.engine_drill.specs.Source.{full_source, empty_sink}
-use Rattle.engine_drill.specs.Requests.{drill_requests}
-use Rattle.engine_drill.specs.Report.{IsReport}
-use Rattle.engine_drill.specs.declared.drilling.Drill.{Drill}
-use Rattle.engine_drill.specs.declared.drilling.Drilled.{Drilled}
-use Rattle.engine_drill.specs.declared.drilling.Drilled.TheVariants.{Reported, Ended}
+use Rattle.drill_model.specs.Source.{full_source, empty_sink}
+use Rattle.drill_model.specs.Requests.{drill_requests}
+use Rattle.drill_model.specs.Report.{IsReport}
+use Rattle.drill_model.specs.declared.drill.Drill.{Drill}
+use Rattle.drill_model.specs.declared.drill.Drilled.{Drilled}
+use Rattle.drill_model.specs.declared.drill.Drilled.TheVariants.{Reported, Ended}
 
 -- the daemon of a drill
 abbrev pub charter_by : Drill → Charter

@@ -6,7 +6,7 @@ use Rattle.journal_lines.specs.Verdict.{IsVerdict}
 use Rattle.journal_lines.specs.declared.verdict.Verdict.{Verdict}
 use Rattle.journal_lines.specs.declared.verdict.Verdict.TheVariants.{Legal, Illegal, BadLine}
 use Rattle.history_replay.specs.Legal.{journal_of, steps_told}
-use Rattle.engine_drill.specs.Answers.{HaveStatuses, counts_of}
+use Rattle.drill_model.specs.Answers.{HaveStatuses, counts_of}
 
 -- a line: a word and a text, or a word and a number
 abbrev pub text_line : List ℕ → List ℕ → List ℕ

@@ -15,9 +15,9 @@ use Rattle.http_edge.specs.Framing.{framing_of}
 use Rattle.http_edge.specs.Message.{Request}
 use Rattle.http_edge.specs.Spelling.{SpellsBody, Spells}
 use Rattle.http_edge.specs.declared.framing.Framing.TheVariants.{Length}
-use Rattle.engine_drill.specs.Requests.{create_body, bare_end, sized_end}
-use Rattle.engine_drill.specs.declared.deed.Program.{Program}
-use Rattle.engine_drill.specs.declared.deed.Program.TheVariants.{Deaf, Exit, Tick, Flaky}
+use Rattle.drill_model.specs.Requests.{create_body, bare_end, sized_end}
+use Rattle.drill_model.specs.declared.deed.Program.{Program}
+use Rattle.drill_model.specs.declared.deed.Program.TheVariants.{Deaf, Exit, Tick, Flaky}
 
 -- ---- the parts of a request
 

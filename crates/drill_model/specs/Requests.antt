@@ -2,10 +2,10 @@
 use Rattle.std.specs.Prelude.{ℕ, ◌+◌, ◌-◌, ◌/◌, ◌%◌, ◌^◌, List, [], ◌∷◌, ◌++◌, get_or, length, map, codes, decimal}
 use Rattle.std.specs.List.{range_with_len}
 use Rattle.rand_chacha.specs.ChaCha.{word_at, key_of}
-use Rattle.engine_drill.specs.declared.deed.Deed.{Deed}
-use Rattle.engine_drill.specs.declared.deed.Deed.TheVariants.{Create, Start, Stop, Kill, Pause, Unpause, Restart, Rename, Remove, RemoveByForce, ListAll, Inspect}
-use Rattle.engine_drill.specs.declared.deed.Program.{Program}
-use Rattle.engine_drill.specs.declared.deed.Program.TheVariants.{Deaf, Exit, Tick, Flaky}
+use Rattle.drill_model.specs.declared.deed.Deed.{Deed}
+use Rattle.drill_model.specs.declared.deed.Deed.TheVariants.{Create, Start, Stop, Kill, Pause, Unpause, Restart, Rename, Remove, RemoveByForce, ListAll, Inspect}
+use Rattle.drill_model.specs.declared.deed.Program.{Program}
+use Rattle.drill_model.specs.declared.deed.Program.TheVariants.{Deaf, Exit, Tick, Flaky}
 
 -- ---- words
 

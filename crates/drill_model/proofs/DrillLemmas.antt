@@ -17,11 +17,11 @@ use Rattle.session_model.specs.Pass.{PassView}
 use Rattle.session_model.specs.Session.{EndingCause}
 use Rattle.session_model.proofs.CauseLemmas.{causes}
 use Rattle.daemon_core.specs.Storing.{pass_of}
-use Rattle.engine_drill.specs.Source.{Supply, full_source, empty_sink}
-use Rattle.engine_drill.specs.Requests.{drill_requests}
-use Rattle.engine_drill.specs.Running.{Session, Drills}
-use Rattle.engine_drill.specs.declared.drilling.Drilled.{Drilled}
-use Rattle.engine_drill.proofs.UnrefusedLemmas.{IsUnrefused, ends_unrefused}
+use Rattle.drill_model.specs.Source.{Supply, full_source, empty_sink}
+use Rattle.drill_model.specs.Requests.{drill_requests}
+use Rattle.drill_model.specs.Running.{Session, Drills}
+use Rattle.drill_model.specs.declared.drill.Drilled.{Drilled}
+use Rattle.drill_model.proofs.UnrefusedLemmas.{IsUnrefused, ends_unrefused}
 
 -- what was served is the session
 module _ (ch c : Charter) (requests : ℕ) (e : Ending) (t t' : ClockView) (h : List Step) (p : PassView) (from to : Supply) (sink : SinkView) (taken : Store)

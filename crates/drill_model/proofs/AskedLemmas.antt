@@ -6,11 +6,11 @@ use Rattle.std.specs.Fmt.{digits}
 use Rattle.httparse.specs.Grammar.{Field, is_token, is_token_byte}
 use Rattle.http_edge.specs.Message.{Request}
 use Rattle.http_edge.specs.Spelling.{Spells, ReadsRequests}
-use Rattle.engine_drill.specs.Requests.{create_body, bare_end, sized_end, request_by, next_box, deed_of, box_of, program_of, request_of}
-use Rattle.engine_drill.specs.declared.deed.Deed.{Deed}
-use Rattle.engine_drill.specs.declared.deed.Deed.TheVariants.{Create, Start, Stop, Kill, Pause, Unpause, Restart, Rename, Remove, RemoveByForce, ListAll, Inspect}
-use Rattle.engine_drill.specs.declared.deed.Program.{Program}
-use Rattle.engine_drill.proofs.SpellingLemmas.{IsEnd, asked_of, host, sized, bare, sized_by, is_target, target_of, each, spells}
+use Rattle.drill_model.specs.Requests.{create_body, bare_end, sized_end, request_by, next_box, deed_of, box_of, program_of, request_of}
+use Rattle.drill_model.specs.declared.deed.Deed.{Deed}
+use Rattle.drill_model.specs.declared.deed.Deed.TheVariants.{Create, Start, Stop, Kill, Pause, Unpause, Restart, Rename, Remove, RemoveByForce, ListAll, Inspect}
+use Rattle.drill_model.specs.declared.deed.Program.{Program}
+use Rattle.drill_model.proofs.SpellingLemmas.{IsEnd, asked_of, host, sized, bare, sized_by, is_target, target_of, each, spells}
 
 -- ---- one request
 

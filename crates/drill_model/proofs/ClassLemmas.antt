@@ -19,11 +19,11 @@ use Rattle.api_routes.specs.declared.fault.Fault.{Fault}
 use Rattle.api_routes.specs.declared.method.Method.{Method}
 use Rattle.api_routes.specs.declared.route.Route.{Route}
 use Rattle.api_routes.specs.declared.route.Route.TheVariants as to
-use Rattle.engine_drill.specs.declared.deed.Deed.{Deed}
-use Rattle.engine_drill.specs.declared.deed.Deed.TheVariants.{Create, Start, Stop, Kill, Pause, Unpause, Restart, Rename, Remove, RemoveByForce, ListAll, Inspect}
-use Rattle.engine_drill.specs.declared.deed.Program.{Program}
-use Rattle.engine_drill.proofs.SpellingLemmas.{each}
-use Rattle.engine_drill.proofs.AskedLemmas.{asked_by, method_by, target_by}
+use Rattle.drill_model.specs.declared.deed.Deed.{Deed}
+use Rattle.drill_model.specs.declared.deed.Deed.TheVariants.{Create, Start, Stop, Kill, Pause, Unpause, Restart, Rename, Remove, RemoveByForce, ListAll, Inspect}
+use Rattle.drill_model.specs.declared.deed.Program.{Program}
+use Rattle.drill_model.proofs.SpellingLemmas.{each}
+use Rattle.drill_model.proofs.AskedLemmas.{asked_by, method_by, target_by}
 
 -- it is answered at once, or by its call's reply
 abbrev pub IsNoStream : Class → Type 0

@@ -1,0 +1,5 @@
+pub mod SpellingLemmas
+pub mod AskedLemmas
+pub mod ClassLemmas
+pub mod UnrefusedLemmas
+pub mod DrillLemmas

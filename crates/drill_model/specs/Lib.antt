@@ -1,0 +1,5 @@
+pub mod Source
+pub mod Requests
+pub mod Answers
+pub mod Report
+pub mod Running
