@@ -34,20 +34,7 @@ impl Model for Timers {
 fn listed_cmp(a: &DueAction, b: &DueAction) -> Ordering
     ensures { result ≡ listed_order a.now b.now }
 {
-    match a.rank.cmp(&b.rank) {
-        Ordering::Equal => a.number.cmp(&b.number),
-        other => other,
-    }
-}
-
-// By moment, then by rank, then by number.
-fn due_cmp(a: &DueAction, b: &DueAction) -> Ordering
-    ensures { result ≡ due_order a.now b.now }
-{
-    match a.moment.cmp(&b.moment) {
-        Ordering::Equal => listed_cmp(a, b),
-        other => other,
-    }
+    (a.rank, a.number).cmp(&(b.rank, b.number))
 }
 
 // Where a timer of that rank and number stands, or would stand.
@@ -65,7 +52,7 @@ fn due_place(due: &[DueAction], timer: &DueAction) -> Result<usize, usize>
     ensures bound { IsSearchInRange result (length due.now) }
     ensures place { IsFound due_order due.now timer.now result }
 {
-    due.binary_search_by(|d| due_cmp(d, timer))
+    due.binary_search(timer)
 }
 
 impl Timers {

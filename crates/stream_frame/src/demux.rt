@@ -107,7 +107,7 @@ impl Demux {
         ensures items { items_left result ≡ items_of self.old piece.now }
         ensures after { self.new ≡ held_after self.old piece.now }
     {
-        let before = self.same();
+        let before = Demux { ..*self };
         self.pass(piece);
         Pieces {
             demux: before,
@@ -159,16 +159,6 @@ impl Demux {
         if let Next::Payload(kind, missing) = self.next {
             self.next = behind_payload(kind, missing, count);
             self.at = self.at.saturating_add(count as u64);
-        }
-    }
-
-    fn same(&self) -> Demux
-        ensures { result ≡ self.now }
-    {
-        Demux {
-            header: self.header,
-            next: self.next,
-            at: self.at,
         }
     }
 
