@@ -77,11 +77,14 @@ fn are_digits(high: u8, low: u8) -> bool
 fn escapes_well(segment: &[u8]) -> bool
     ensures { result ≡ spec.escapes_well segment.now }
 {
-    match segment {
-        [] => true,
-        [b'%', high, low, rest @ ..] => are_digits(*high, *low) && escapes_well(rest),
-        [b'%', ..] => false,
-        [_, rest @ ..] => escapes_well(rest),
+    let mut left = segment;
+    loop {
+        match left {
+            [] => return true,
+            [b'%', high, low, rest @ ..] if are_digits(*high, *low) => left = rest,
+            [b'%', ..] => return false,
+            [_, rest @ ..] => left = rest,
+        }
     }
 }
 
