@@ -17,14 +17,7 @@ use std::sync::Wait;
 use std::thread::Threads;
 
 /// Runs `engined` with the words after the program's name, and answers its status. What runs a drill is handed in.
-pub fn run_engined<
-    R: Threads + Wait + Sync,
-    S: Source,
-    K: Sink,
-    C: Clock,
-    D: Door,
-    G: RunDrill,
->(
+pub fn run_engined<R: Threads + Wait + Sync, S: Source, K: Sink, C: Clock, D: Door, G: RunDrill>(
     rt: &R,
     alloc: Global,
     words: &[Text],
