@@ -24,9 +24,8 @@ for _ in $(seq 50); do
     curl -s -o /dev/null "http://127.0.0.1:$port/_ping" && break
     sleep 0.1
 done
-# waits get their heads early, so that attached runs work
+# the command line goes by no configuration of its user's
 mkdir "$room/config"
-echo '{"HttpHeaders":{"X-Engine-Early":"wait"}}' > "$room/config/config.json"
 status=0
 DOCKER_CONFIG="$room/config" DOCKER_HOST="tcp://127.0.0.1:$port" DOCKER_API_VERSION=1.43 \
     python3 "$here/command_line.py" || status=1

@@ -37,6 +37,22 @@ scenario("wait_early", SOON + [post("/containers/web/wait", more=EARLY), post("/
          [created(0), answer(204), in_chunks(compact({"StatusCode": 0})), answer(200, compact({"StatusCode": 0})),
           message(404, "No such container: db"), answer(204), answer(204), in_chunks(compact({"StatusCode": 143}), close=True)],
          comings=("pieces=1", "pieces=4096"))
+# or since its client is Docker's own or one on Go's, by how its name begins; and never with a no
+DOCKER, GO, NO = "User-Agent: Docker-Client/20.10.24 (linux)\r\n", "USER-AGENT: go-http-client/1.1\r\n", "X-Engine-Early: No\r\n"
+OVER = answer(200, compact({"StatusCode": 0}))
+
+
+def wait_with(fields):
+    return post("/containers/web/wait", more=fields)
+
+
+scenario("wait_early_by_its_client", SOON + [
+    wait_with(DOCKER), wait_with(GO), wait_with(DOCKER + NO), wait_with(NO + GO), wait_with(EARLY + NO),
+    wait_with("User-Agent: curl/8.5.0 Docker-Client/1\r\n"), wait_with("User-Agent: Docker-Client\r\n"),
+    wait_with("X-User-Agent: Docker-Client/20.10.24\r\n"), post("/containers/db/wait", more=DOCKER),
+    post("/containers/web/start", more=DOCKER), post("/containers/web/stop", more=GO), wait_with(GO + "Connection: close\r\n")],
+    [created(0), answer(204), in_chunks(compact({"StatusCode": 0})), in_chunks(compact({"StatusCode": 0})), *[OVER] * 6,
+     message(404, "No such container: db"), answer(204), answer(204), in_chunks(compact({"StatusCode": 143}), close=True)])
 # volumes of mounts, and standard input that nobody feeds
 BINDS = compact({"Image": "engine/tools", "HostConfig": {"Binds": ["data:/srv:ro", "data:/copy"], "Mounts": [
     {"Type": "volume", "Source": "logs", "Target": "/logs"}]}})

@@ -68,6 +68,9 @@ EARLY_HEAD = ("HTTP/1.1 200 OK\r\nApi-Version: 1.43\r\nContent-Type: application
 EARLY = "X-Engine-Early: wait\r\n"
 scenario("early_wait_broken_off", [create("web", DEAF), START, post("/containers/web/wait", more=EARLY), WAIT],
          [created(0), answer(204), EARLY_HEAD], status=5, words="--stdio", comings=("stop=0", "stop=7"))
+BY_CLIENT = "User-Agent: Docker-Client/28.2.2 (linux)\r\n"
+scenario("early_wait_of_a_client_broken_off", [create("web", DEAF), START, post("/containers/web/wait", more=BY_CLIENT), WAIT],
+         [created(0), answer(204), EARLY_HEAD], status=5, words="--stdio", comings=("stop=0",))
 scenario("early_wait_before_a_start_broken_off", [create("web", ["exit", "3"]),
                                                   post("/containers/web/wait?condition=next-exit", more=EARLY), START],
          [created(0), EARLY_HEAD], status=5, words="--stdio", comings=("stop=0",))
