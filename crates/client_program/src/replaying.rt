@@ -14,8 +14,8 @@ use client_model::Fault;
 use engine_ports::{Sink, Source};
 use engine_text::{NoMemory, Text, Words};
 use history_replay::check;
-use journal_lines::Verdict;
 use itoa::Buffer;
+use journal_lines::Verdict;
 use std::alloc::Global;
 use std::sync::Wait;
 

@@ -1,5 +1,5 @@
 -- The value of a call that a request can make is carried by a line, with what its types give.
-use Rattle.std.proofs.Common.{◌≡◌, ◌<◌, ℕ, ℤ, List, [], ◌∷◌, codes, Bool, true, nat_le, Option, Some, None, refl, arith}
+use Rattle.std.proofs.Common.{◌≡◌, ◌<◌, ◌^◌, ℕ, ℤ, List, [], ◌∷◌, codes, Bool, true, nat_le, Option, Some, None, refl, arith}
 use Rattle.std.specs.Prelude.{IsUtf8, IfSome}
 use Rattle.std.specs.List.{AllByRecursion}
 use Rattle.std.specs.Option.{option_map_or}
@@ -293,7 +293,7 @@ one_sound key n fine w = object-sound 125 (members (one_number key n)) fine (uns
 ended_low : (c : Call) → FitsTypes c → IsWord (ended_ticket c)
 ended_low (Call.Take ticket) w = w
 ended_low (Call.Drop ticket) w = w
-ended_low c w = omega arith
+ended_low c w = let low : 0 < 2 ^ 64 = omega arith in low
 
 pub reply_sound : (c : Call) (r : Reply) → FitsTypes c → ReplyFitsTypes r → fit.IsSound 126 (reply_value c r)
 reply_sound c (Answer status body) w u =

@@ -1,5 +1,5 @@
 -- Which calls a journal has room for.
-use Rattle.std.specs.Prelude.{◌≡◌, ℕ, List, [], ◌∷◌, true, false, None, codes, refl, map}
+use Rattle.std.specs.Prelude.{◌≡◌, [], ◌∷◌, true, false, None, codes, refl, map}
 use Rattle.std.specs.Fmt.{digits}
 use Rattle.rand_chacha.specs.Block.{quarter_round, column_round, diagonal_round, double_rounds, block_word}
 use Rattle.rand_core.specs.Steps.{u32_at}

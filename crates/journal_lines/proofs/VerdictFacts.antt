@@ -1,5 +1,5 @@
 -- What is said of small journals, written out by hand.
-use Rattle.std.specs.Prelude.{◌≡◌, ℕ, zero, suc, ◌-◌, ◌<◌, List, [], ◌∷◌, ◌++◌, get_or, true, codes, refl}
+use Rattle.std.specs.Prelude.{◌≡◌, ℕ, zero, suc, ◌-◌, ◌<◌, ◌^◌, List, [], ◌∷◌, ◌++◌, get_or, true, codes, refl}
 use Rattle.std.proofs.Common.{ap, arith, inl, inr, ◌∙◌}
 use Rattle.std.specs.Fmt.{digits}
 use Rattle.rand_chacha.specs.Block.{quarter_round, column_round, diagonal_round, double_rounds, block_word}
@@ -47,11 +47,11 @@ has_line : (dues moment : ℕ) → dues < 1000 → moment < 2000000000000 → Ha
 has_line dues moment few soon = record {
   sound = refl;
   types = record {
-    conn = omega arith;
-    dues = omega (arith, few);
-    moment = omega (arith, soon);
+    conn = let low : 0 < 2 ^ 32 = omega arith in low;
+    dues = let low : dues < 2 ^ 64 = omega (arith, few) in low;
+    moment = let low : moment < 2 ^ 64 = omega (arith, soon) in low;
     call = IsUtf8-are_ascii web refl;
-    reply = (omega arith, IsUtf8-are_ascii missing refl);
+    reply = (let low : 404 < 2 ^ 16 = omega arith in low, IsUtf8-are_ascii missing refl);
   };
   told = refl;
   dropped = λ e. absurd (cc e);

@@ -9,7 +9,7 @@ pub mod Entry
 pub mod Verdict
 pub mod KeptJournal
 pub mod JournalInside
-mod Object
-mod CreateParts
-mod Rising
-mod Reading
+pub mod Object
+pub mod CreateParts
+pub mod Rising
+pub mod Reading
