@@ -1,5 +1,5 @@
 -- A due step that is made ready is what the least due action does, and may be committed.
-use Rattle.std.proofs.Common.{◌≡◌, IsTrue, ℕ, ◌+◌, ◌==◌, true, ◌<◌, ◌≤◌, List, [], ◌++◌, Option, Some, None, refl, ap, sym, ◌∙◌, subst, arith, length}
+use Rattle.std.proofs.Common.{◌≡◌, IsTrue, ℕ, ◌+◌, ◌==◌, true, ◌<◌, ◌≤◌, List, [], ◌++◌, Option, Some, None, refl, ap, sym, ◌∙◌, subst, arith, find, length}
 use Rattle.engine_text.specs.Id.{id_of}
 use Rattle.engine_text.specs.Scripts.{Program}
 use Rattle.engine_text.specs.declared.container.Container.{Container}
@@ -14,7 +14,7 @@ use Rattle.proc_kernel.specs.Tables.{Entry, process_of, due_at as op_due_at}
 use Rattle.machine_model.specs.State.{State, container_numbered}
 use Rattle.machine_model.specs.Chain.{Effect, with_found, still}
 use Rattle.machine_model.specs.Consistency.{HasOwner, IsConsistent, is_there}
-use Rattle.machine_model.specs.Due.{by_rank, least_due}
+use Rattle.machine_model.specs.Due.{by_rank, least_due, stop_deadline}
 use Rattle.machine_model.specs.Effects.Meet.{step_process}
 use Rattle.machine_model.specs.History.{IsLawful, latest}
 use Rattle.machine_model.specs.Step.{at_moment, step_of}
@@ -28,17 +28,19 @@ use Rattle.machine_effects.specs.ToldCalls.{told_op}
 use Rattle.machine_effects.specs.ToldKill.{told_kill}
 use Rattle.machine_effects.specs.declared.kit.Kit.{Kit}
 use Rattle.machine_effects.proofs.CallToldLemmas.{OwnerStands, op_told, removal_deadline_told, restart_timer_told}
+use Rattle.machine_effects.proofs.DiedToldLemmas.{main_died, stop_deadline_died}
 use Rattle.machine_effects.proofs.KillToldLemmas.{stop_deadline_told}
 use Rattle.machine_effects.proofs.SettleLemmas.{has_number}
 use Rattle.container_machine.specs.DuePlans.{due_plan_effect, BringsDue, FitsDue, HasDueRoom, ServesOwner}
 use Rattle.container_machine.specs.Dues.{due_at, IsForDue, MakesDue}
 use Rattle.container_machine.specs.Parts.{MachineParts}
-use Rattle.container_machine.specs.Plans.{Serves}
+use Rattle.container_machine.specs.RunEnds.{IsEndKit, IsOwnerKit, ServesBy}
 use Rattle.container_machine.specs.declared.due.DuePlan.{DuePlan}
 use Rattle.container_machine.specs.declared.due.PreparedDue.{PreparedDue}
 use Rattle.container_machine.proofs.DueFoundLemmas.{OpStands, due_stands}
 use Rattle.container_machine.proofs.MakeLemmas.{stand_once}
 use Rattle.container_machine.proofs.ReadyLemmas.{few, settles, timely}
+use Rattle.container_machine.proofs.RunEndLemmas.{kill_next, main_next, own_script, script_for, serves_end}
 use Rattle.std.specs.Prelude.{nat_le, false, unwrap_or}
 use Rattle.std.specs.Option.{option_map_or, unwrap_or}
 
@@ -55,47 +57,71 @@ there_is : (o : Option Container) → is_there o ≡ true → (c : Container) ×
 there_is None e = absurd (cc)
 there_is (Some c) e = (c, refl)
 
-stands_with : (o : Owner) (kit : Kit) (t : ℕ) (s : State) → HasOwner s o → ServesOwner o kit s → OwnerStands o kit.script (at_moment t s)
-stands_with (Owner.Container n) kit t s there serves = let c = there_is (container_numbered n s) there in (c.0, c.1, serves.named c.0 c.1)
-stands_with (Owner.Exec n) kit t s there serves = tt
+stands_with : (o : Owner) (s : State) → HasOwner s o → (script : Option Program) × OwnerStands o script s
+stands_with (Owner.Container n) s there = let c = there_is (container_numbered n s) there in (own_script c.0, (c.0, c.1, refl))
+stands_with (Owner.Exec n) s there = (None, tt)
+
+-- at each moment
+stands_at : (o : Owner) (script : Option Program) (t : ℕ) (s : State) → OwnerStands o script s → OwnerStands o script (at_moment t s)
+stands_at (Owner.Container n) script t s h = h
+stands_at (Owner.Exec n) script t s h = tt
+
+-- what is told of the op with the kit's script is what is told with the other
+told_with : (o : Owner) (code : Option ℕ) (s z : State) (kit : Kit) (there : HasOwner s o) → z.containers ≡ s.containers → IsOwnerKit code o s kit → told_op o code kit.script z ≡ told_op o code (stands_with o s there).0 z
+unfolding stands_with there_is
+told_with (Owner.Container n) code s z kit there same of =
+    let c = there_is (container_numbered n s) there in
+    main_next (container_numbered n z) code c.0 kit.script z (ap (λ l. find (λ (d : Container). d.number == n) l) same ∙ c.1) (script_for code n c.0 s kit (of c.0 c.1))
+told_with (Owner.Exec n) code s z kit there same of = refl
+
+-- the kit is what the end of the owner's process wants
+serves_op : (o : Owner) (code : Option ℕ) (t : ℕ) (s : State) (kit : Kit) → HasOwner s o → code ≡ code_at (run_due t) (process_of o s.processes) → IsOwnerKit code o s kit → ServesOwner o kit (at_moment t s)
+serves_op (Owner.Container n) code t s kit there is of =
+    let c = there_is (container_numbered n s) there in
+    let z : State = at_moment t s in
+    serves_end code n c.0.life.goal c.0 c.0 s z kit (step_process run_due (Owner.Container n) z).died (main_died run_due n z code is) (of c.0 c.1) c.1 refl refl refl
+serves_op (Owner.Exec n) code t s kit there is of = tt
 
 pub makes_op : (p : PreparedDue) (d : DueAction) (s : State) (o : Owner) (kit : Kit) (code : Option ℕ) (empty : List Event) → IsConsistent s → least_due s ≡ Some d → d.rank ≡ 0
-    → o ≡ owner_at d.number s → ServesOwner o kit s → ((t : ℕ) → code ≡ code_at (run_due t) (process_of o s.processes))
+    → o ≡ owner_at d.number s → IsOwnerKit code o s kit → ((t : ℕ) → code ≡ code_at (run_due t) (process_of o s.processes))
     → p.moment ≡ d.moment → p.plan ≡ DuePlan.Op o kit → empty ≡ [] → p.events.items ≡ empty ++ told_op o code kit.script (at_moment d.moment s) → MakesDue p d s
-makes_op p d s o kit code empty k least rank is serves code_is moment plan none events =
+makes_op p d s o kit code empty k least rank is of code_is moment plan none events =
     let op : OpStands s d = (due_stands s d k least).0 rank in
     let z : State = at_moment d.moment s in
     let same : op.entry.owner ≡ o = op.is ∙ sym is in
     let there : HasOwner s o = subst (HasOwner s) (sym is) op.owner in
     let effect : step_process run_due o z ≡ due_at d s =
     ap (λ w. step_process run_due w z) (sym same) ∙ (sym (ap (λ q. with_found q (λ (e : Entry). step_process run_due e.owner) z) op.found) ∙ sym (of_rank d 0 s rank)) in
-    let told : (due_at d s).events ≡ told_op o code kit.script z =
+    let stands : (script : Option Program) × OwnerStands o script s = stands_with o s there in
+    let told : (due_at d s).events ≡ told_op o code stands.0 z =
     ap (λ (e : Effect). e.events) (of_rank d 0 s rank)
-    ∙ (op_told d.number op.entry z kit.script code op.found (subst (λ w. OwnerStands w kit.script z) (sym same) (stands_with o kit d.moment s there serves)) (code_is d.moment ∙ ap (λ w. code_at (run_due d.moment) (process_of w s.processes)) (sym same))
-    ∙ ap (λ w. told_op w code kit.script z) same) in
+    ∙ (op_told d.number op.entry z stands.0 code op.found (subst (λ w. OwnerStands w stands.0 z) (sym same) (stands_at o stands.0 d.moment s stands.1)) (code_is d.moment ∙ ap (λ w. code_at (run_due d.moment) (process_of w s.processes)) (sym same))
+    ∙ ap (λ w. told_op w code stands.0 z) same) in
     record {
       moment = moment;
       effect = ap (λ q. due_plan_effect q z) plan ∙ effect;
-      events = one_then empty p.events.items (told_op o code kit.script z) none events ∙ sym told;
-      brings = subst (λ q. BringsDue q d.moment s) (sym plan) (ap (λ w. op_due_at (process_of w s.processes)) is ∙ op.due, serves);
+      events = one_then empty p.events.items (told_op o code kit.script z) none events ∙ (told_with o code s z kit there refl of ∙ sym told);
+      brings = subst (λ q. BringsDue q d.moment s) (sym plan) (ap (λ w. op_due_at (process_of w s.processes)) is ∙ op.due, serves_op o code d.moment s kit there (code_is d.moment) of);
     }
 
 -- ---- deadlines and timers
 
 -- SIGKILL is met
 pub makes_stop_deadline : (p : PreparedDue) (d : DueAction) (s : State) (c : Container) (kit : Kit) (code : Option ℕ) (empty : List Event) → IsConsistent s → d.rank ≡ 1
-    → container_numbered d.number s ≡ Some c → Serves d.number kit s → ((t : ℕ) → code ≡ code_at (signal 9 true t) (process_of (Owner.Container d.number) s.processes))
+    → container_numbered d.number s ≡ Some c → IsEndKit code c.life.goal d.number c s kit → ((t : ℕ) → code ≡ code_at (signal 9 true t) (process_of (Owner.Container d.number) s.processes))
     → p.moment ≡ d.moment → p.plan ≡ DuePlan.StopDeadline d.number kit → empty ≡ [] → p.events.items ≡ empty ++ told_kill 9 code c kit.script (at_moment d.moment s) → MakesDue p d s
-makes_stop_deadline p d s c kit code empty k rank found serves is moment plan none events =
+makes_stop_deadline p d s c kit code empty k rank found of is moment plan none events =
     let z : State = at_moment d.moment s in
     let once = stand_once s k in
     record {
       moment = moment;
       effect = ap (λ q. due_plan_effect q z) plan ∙ sym (of_rank d 1 s rank);
       events = one_then empty p.events.items (told_kill 9 code c kit.script z) none events
-          ∙ (sym (stop_deadline_told d.number z c kit.script code found (serves.named c found) (record { execs = once.execs; processes = once.processes }) (is d.moment))
-          ∙ sym (ap (λ (e : Effect). e.events) (of_rank d 1 s rank)));
-      brings = subst (λ q. BringsDue q d.moment s) (sym plan) serves;
+          ∙ (kill_next 9 code c kit.script z (script_for code d.number c s kit of)
+          ∙ (sym (stop_deadline_told d.number z c (own_script c) code found refl (record { execs = once.execs; processes = once.processes }) (is d.moment))
+          ∙ sym (ap (λ (e : Effect). e.events) (of_rank d 1 s rank))));
+      brings = subst (λ q. BringsDue q d.moment s) (sym plan)
+          (serves_end code d.number c.life.goal c c s z kit (stop_deadline d.number z).died (stop_deadline_died d.number z c code found (is d.moment)) of found refl refl refl);
     }
 
 -- nothing is told of a removal deadline
@@ -137,10 +163,10 @@ restarts_of_number s n k c found =
     let low : c.life.restarts ≤ s.step_count = found_all (λ (x : Container). x.life.restarts ≤ s.step_count) (λ (x : Container). x.number == n) c s.containers found k.counts.restarts in
     omega (arith, low, k.counts.steps)
 
-end_fits : (o : Owner) (kit : Kit) (t : ℕ) (m : Memory) → ServesOwner o kit m.state → IsConsistent m.state → IsMomentOf m.state t → HasEndRoomOf o m → 1 < m.spare → CanEnd o kit (standing t m)
+end_fits : (o : Owner) (kit : Kit) (t : ℕ) (m : Memory) → ServesOwner o kit (at_moment t m.state) → IsConsistent m.state → IsMomentOf m.state t → HasEndRoomOf o m → 1 < m.spare → CanEnd (step_process run_due) o kit (standing t m)
 end_fits (Owner.Container n) kit t m serves k at room spare =
     let most : 0 < m.spare = omega (arith, spare) in
-    (settles n kit t m serves k at.until (record { execs = room.execs; timers = room.timers; removed = room.removed; kept = room.kept; spare = most }), most)
+    (λ ended. settles n kit t m (serves ended) k at.until (record { execs = room.execs; timers = room.timers; removed = room.removed; kept = room.kept; spare = most }), most)
 end_fits (Owner.Exec n) kit t m serves k at room spare = tt
 
 record_fits : (o : Owner) (t : ℕ) (m : Memory) → HasRecordRoom o m → HasRecordRoom o (standing t m)
@@ -156,7 +182,8 @@ fits_due (DuePlan.Op owner kit) t m brings k at room = record {
   end = end_fits owner kit t m brings.1 k at room.end room.spare;
   spare = room.spare;
 }
-fits_due (DuePlan.StopDeadline n kit) t m brings k at room = record { timely = timely t m.state at; fit = settles n kit t m brings k at.until room; spare = room.spare }
+fits_due (DuePlan.StopDeadline n kit) t m brings k at room =
+    record { timely = timely t m.state at; room = room.execs; end = λ ended. settles n kit t m (brings ended) k at.until room; spare = room.spare }
 fits_due (DuePlan.RemovalDeadline n) t m brings k at room = id_of_number m.state n k
 fits_due (DuePlan.RestartTimer n script) t m brings k at room = (
   record { few = few m.state k; pid = omega (arith, k.numbers.next_pid, k.counts.steps); named = brings },

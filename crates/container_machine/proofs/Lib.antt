@@ -15,6 +15,7 @@ pub mod CommitLemmas
 pub mod RemoveLemmas
 pub mod RenameLemmas
 pub mod RestartLemmas
+pub mod RunEndLemmas
 pub mod StartLemmas
 pub mod StopLemmas
 pub mod TakeLemmas

@@ -2,13 +2,12 @@
 use Rattle.std.specs.Option.{option_map_or}
 use Rattle.engine_text.specs.declared.exec.Exec.{Exec}
 use Rattle.machine_model.specs.Consistency.{IsConsistent, AreDistinct}
-use Rattle.machine_effects.specs.Kits.{IsKitOf}
 use Rattle.machine_effects.specs.ToldMeet.{told_deliver}
 use Rattle.machine_effects.specs.declared.kit.Kit.{Kit}
+use Rattle.machine_effects.proofs.DiedToldLemmas.{deliver_died}
 use Rattle.machine_effects.proofs.MeetToldLemmas.{StandOnce}
 use Rattle.container_machine.proofs.KillLemmas.{kill_told}
-use Rattle.std.proofs.Common.{◌≡◌, ℕ, ◌+◌, ◌==◌, ◌<◌, ◌^◌, Bool, true, false, List, [], ◌∷◌, ◌++◌, Option, Some, ap, sym, ◌∙◌, subst, find, map, if◌then◌else◌}
-use Rattle.engine_text.specs.Scripts.{Program}
+use Rattle.std.proofs.Common.{◌≡◌, ℕ, ◌==◌, ◌<◌, ◌^◌, Bool, true, false, List, [], ◌∷◌, ◌++◌, Option, Some, refl, ap, sym, ◌∙◌, subst, find, map, if◌then◌else◌}
 use Rattle.engine_text.specs.declared.container.Container.{Container}
 use Rattle.engine_text.specs.declared.container.Found.{Found}
 use Rattle.engine_text.specs.declared.event.Event.{Event}
@@ -16,7 +15,6 @@ use Rattle.engine_text.specs.declared.owner.Owner.{Owner}
 use Rattle.engine_text.specs.declared.reply.Reply.TheVariants.{Answer}
 use Rattle.engine_text.specs.declared.signal.Signal.{Signal}
 use Rattle.container_table.specs.Reference.{container_by}
-use Rattle.proc_kernel.specs.Catalogue.{program_of}
 use Rattle.proc_kernel.specs.Foretelling.{code_at}
 use Rattle.proc_kernel.specs.Processes.{signal}
 use Rattle.proc_kernel.specs.Tables.{process_of}
@@ -24,11 +22,13 @@ use Rattle.machine_model.specs.State.{State, container_numbered}
 use Rattle.machine_model.specs.EventTexts.{kill_event}
 use Rattle.machine_model.specs.Outcome.{Outcome, at_reference, by_found, refused}
 use Rattle.machine_model.specs.Step.{at_moment}
-use Rattle.machine_model.specs.Calls.Kill.{is_final, kill_running}
+use Rattle.machine_model.specs.Calls.Kill.{deliver, is_final, kill_running}
 use Rattle.container_machine.specs.Calls.Kill.{kill_effect}
 use Rattle.machine_effects.specs.Fit.{AreFew}
 use Rattle.container_machine.specs.Making.{Makes}
-use Rattle.container_machine.specs.Plans.{plan_effect, Brings, Serves}
+use Rattle.container_machine.specs.Plans.{plan_effect, Brings}
+use Rattle.container_machine.specs.RunEnds.{IsEndKit}
+use Rattle.container_machine.proofs.RunEndLemmas.{deliver_next, own_script, script_for, serves_end}
 use Rattle.machine_model.specs.Chain.{Effect}
 use Rattle.container_machine.specs.declared.plan.Plan.{Plan}
 use Rattle.container_machine.specs.declared.prepared.Prepared.{Prepared}
@@ -61,18 +61,6 @@ first_then : (empty one out told : List Event) (e d : Event) → empty ≡ [] �
 first_then empty one out told e d h1 h2 h3 h4 =
     h4 ∙ (ap (λ l. l ++ told) h2 ∙ (ap (λ l. (l ++ e ∷ []) ++ told) h1 ∙ ap (λ x. x ∷ told) h3))
 
-same_words : (c d : Container) → Some c ≡ Some d → program_of c.life.words (c.life.starts + 1) ≡ program_of d.life.words (d.life.starts + 1)
-same_words c d e = let is : c ≡ d = cc in ap (λ (x : Container). program_of x.life.words (x.life.starts + 1)) is
-
--- a kit of the container serves it
-pub serves : (n : ℕ) (s : State) (c : Container) (script : Option Program) (kit : Kit) → container_numbered n s ≡ Some c → script ≡ program_of c.life.words (c.life.starts + 1) → IsKitOf n script s kit → Serves n kit s
-serves n s c script kit found named of = record {
-  named = λ d at. of.script ∙ (named ∙ same_words c d (sym found ∙ at));
-  numbers = of.numbers;
-  empty = of.empty;
-  logs = of.logs;
-}
-
 -- once each, in a consistent state
 pub stand_once : (s : State) → IsConsistent s → StandOnce s
 stand_once s k = record { execs = distinct_behind (map (λ (c : Container). c.number) s.containers) (map (λ (x : Exec). x.number) s.execs) k.names.numbers; processes = k.processes.single }
@@ -81,20 +69,24 @@ stand_once s k = record { execs = distinct_behind (map (λ (c : Container). c.nu
 pub once_at : (t : ℕ) (s : State) → IsConsistent s → StandOnce (at_moment t s)
 once_at t s k = let once = stand_once s k in record { execs = once.execs; processes = once.processes }
 
-pub makes_kill : (p : Prepared) (t : ℕ) (s : State) (c : Container) (sent : Signal) (last : Bool) (script : Option Program) (code : Option ℕ) (kit : Kit) (empty one : List Event) (e : Event)
-    → IsConsistent s → container_numbered c.number s ≡ Some c → sent.number < 32 → last ≡ is_final sent c → script ≡ program_of c.life.words (c.life.starts + 1)
+pub makes_kill : (p : Prepared) (t : ℕ) (s : State) (c : Container) (sent : Signal) (last : Bool) (code : Option ℕ) (kit : Kit) (empty one : List Event) (e : Event)
+    → IsConsistent s → container_numbered c.number s ≡ Some c → sent.number < 32 → last ≡ is_final sent c
     → ((u : ℕ) → code ≡ code_at (signal sent.number last u) (process_of (Owner.Container c.number) s.processes))
-    → p.moment ≡ t → p.plan ≡ Plan.Kill c.number sent last kit → IsKitOf c.number script s kit → p.reply ≡ Answer 204 []
-    → empty ≡ [] → one ≡ empty ++ e ∷ [] → e ≡ kill_event sent.number c t → p.events.items ≡ one ++ told_deliver last code c.number c script (at_moment t s)
+    → p.moment ≡ t → p.plan ≡ Plan.Kill c.number sent last kit → IsEndKit code c.life.goal c.number c s kit → p.reply ≡ Answer 204 []
+    → empty ≡ [] → one ≡ empty ++ e ∷ [] → e ≡ kill_event sent.number c t → p.events.items ≡ one ++ told_deliver last code c.number c kit.script (at_moment t s)
     → Makes p t s (kill_running sent c)
-makes_kill p t s c sent last script code kit empty one e k found low final named is moment plan of reply h1 h2 h3 h4 =
+makes_kill p t s c sent last code kit empty one e k found low final is moment plan of reply h1 h2 h3 h4 =
     let z : State = at_moment t s in
     let same : kill_effect c.number sent last z ≡ kill_effect c.number sent (is_final sent c) z = ap (λ l. kill_effect c.number sent l z) final in
+    let told : told_deliver last code c.number c kit.script z ≡ told_deliver last code c.number c (own_script c) z =
+    deliver_next last code c.number c kit.script z (script_for code c.number c s kit of) in
     record {
       moment = moment;
       effect = ap (λ q. plan_effect q z) plan ∙ same;
       events = first_then empty one p.events.items _ e (kill_event sent.number c t) h1 h2 h3 h4
-          ∙ (sym (kill_told sent last c.number z c script code found named (once_at t s k) (is t)) ∙ ap (λ (x : Effect). x.events) same);
+          ∙ (ap (λ l. kill_event sent.number c t ∷ l) told
+          ∙ (sym (kill_told sent last c.number z c (own_script c) code found refl (once_at t s k) (is t)) ∙ ap (λ (x : Effect). x.events) same));
       reply = reply;
-      brings = subst (λ q. Brings q t s) (sym plan) (serves c.number s c script kit found named of, low);
+      brings = subst (λ q. Brings q t s) (sym plan)
+          (serves_end code c.number c.life.goal c c s z kit (deliver last sent.number c.number z).died (deliver_died last sent.number c.number z c code found (is t)) of found refl refl refl, low);
     }

@@ -1,26 +1,40 @@
 -- A call that is made ready may be committed.
-use Rattle.std.proofs.Common.{ℕ, ◌+◌, ◌<◌, ◌≤◌, ◌^◌, Option, None, arith, length}
+use Rattle.std.proofs.Common.{◌≡◌, ℕ, ◌+◌, ◌<◌, ◌≤◌, ◌^◌, List, Option, None, refl, sym, subst, arith, length}
 use Rattle.engine_text.specs.Scripts.{Program}
 use Rattle.engine_text.specs.declared.call.Call.{Call}
 use Rattle.engine_text.specs.declared.container.Container.{Container}
+use Rattle.engine_text.specs.declared.container.Life.{Life}
+use Rattle.engine_text.specs.declared.container.Removed.{Removed}
+use Rattle.engine_text.specs.declared.exec.Exec.{Exec}
+use Rattle.engine_text.specs.declared.log.KeptLogs.{KeptLogs}
+use Rattle.engine_text.specs.declared.step.DueAction.{DueAction}
+use Rattle.engine_text.specs.declared.ticket.Asked.{Asked}
 use Rattle.engine_text.specs.declared.step.Step.{Step}
 use Rattle.machine_model.proofs.Laws.{IsMomentOf, kept_call, timely_call}
-use Rattle.machine_model.specs.State.{State}
+use Rattle.machine_model.specs.State.{State, change_life}
+use Rattle.machine_model.specs.Calls.Remove.{to_remove}
+use Rattle.machine_model.specs.Tickets.{begun}
 use Rattle.machine_model.specs.Call.{outcome_of}
 use Rattle.machine_model.specs.Consistency.{IsConsistent}
 use Rattle.machine_model.specs.History.{IsLawful, greatest_moment}
 use Rattle.machine_model.specs.Step.{at_moment}
 use Rattle.machine_effects.specs.Fit.{AreFew, AreTimely, CanRemove, CanSettle, IsScriptOf}
 use Rattle.machine_effects.specs.Kits.{IsKitOf}
-use Rattle.machine_effects.specs.Memory.{Memory, HasRoom, standing}
+use Rattle.machine_effects.specs.Halts.{asked_of, mark_of}
+use Rattle.machine_effects.specs.Memory.{Memory, Room, HasRoom, standing}
 use Rattle.machine_effects.specs.Removing.{HasRemovalRoom}
+use Rattle.machine_effects.specs.declared.halting.Halting.{Halting}
 use Rattle.machine_effects.specs.declared.kit.Kit.{Kit}
+use Rattle.machine_effects.specs.declared.marks.Mark.{Mark}
+use Rattle.machine_effects.proofs.HaltLemmas.{timely_begun}
+use Rattle.machine_effects.proofs.SettleLemmas.{few_renew}
 use Rattle.machine_effects.proofs.ListLemmas.{All-imp}
 use Rattle.container_machine.specs.Calls.Start.{CanStart}
 use Rattle.container_machine.proofs.CreateLemmas.{has_new_id, is_above}
 use Rattle.container_machine.specs.Making.{Makes}
 use Rattle.container_machine.specs.Parts.{MachineParts}
-use Rattle.container_machine.specs.Plans.{Brings, Fits, HasRoomFor, Serves}
+use Rattle.container_machine.specs.Plans.{Brings, Fits, HasRoomFor}
+use Rattle.container_machine.specs.RunEnds.{Serves}
 use Rattle.container_machine.specs.Prepared.{asked_by, IsFor}
 use Rattle.container_machine.specs.declared.plan.Plan.{Plan}
 use Rattle.container_machine.specs.declared.prepared.Prepared.{Prepared}
@@ -34,15 +48,39 @@ few s k =
 pub timely : (t : ℕ) (s : State) → IsMomentOf s t → AreTimely (at_moment t s)
 timely t s h = record { clock = h.until; processes = h.times }
 
--- the container's main process may end
-pub settles : (n : ℕ) (kit : Kit) (t : ℕ) (m : Memory) → Serves n kit m.state → IsConsistent m.state → t ≤ greatest_moment → HasRoom m → CanSettle n kit m.room (at_moment t m.state)
-settles n kit t m serves k until room = record {
-  clock = until;
-  launch = record { few = few m.state k; pid = omega (arith, k.numbers.next_pid, k.counts.steps); named = serves.named };
-  remove = record { removed = room.removed; kept = room.kept; numbers = serves.numbers; empty = serves.empty; logs = serves.logs };
-  execs = room.execs;
-  timers = room.timers;
-}
+-- the container's main process may end in a state that has what follows, with this room
+settled : (n : ℕ) (kit : Kit) (room : Room) (z : State) → Serves n kit z → AreFew z.containers → z.next_pid < 2 ^ 63 → z.clock ≤ greatest_moment → (m : Memory) → HasRoom m → m.room ≡ room → z.execs ≡ m.state.execs → z.timers ≡ m.state.timers → z.removed ≡ m.state.removed → z.kept ≡ m.state.kept
+    → CanSettle n kit room z
+settled n kit room z serves starts pid until m h same execs timers removed kept =
+    subst (λ (r : Room). CanSettle n kit r z) same (record {
+      clock = until;
+      launch = record { few = starts; pid = pid; named = serves.named };
+      remove = record {
+        removed = subst (λ (l : List Removed). length l < m.room.removed) (sym removed) h.removed;
+        kept = subst (λ (l : List KeptLogs). length l < m.room.kept) (sym kept) h.kept;
+        numbers = serves.numbers;
+        empty = serves.empty;
+        logs = serves.logs;
+      };
+      execs = subst (λ (l : List Exec). length l ≤ m.room.scratch) (sym execs) h.execs;
+      timers = subst (λ (l : List DueAction). length l < m.room.timers) (sym timers) h.timers;
+    })
+
+-- at a moment
+pub settles : (n : ℕ) (kit : Kit) (t : ℕ) (m : Memory) → Serves n kit (at_moment t m.state) → IsConsistent m.state → t ≤ greatest_moment → HasRoom m → CanSettle n kit m.room (at_moment t m.state)
+settles n kit t m serves k until room =
+    settled n kit m.room (at_moment t m.state) serves (few m.state k) (omega (arith, k.numbers.next_pid, k.counts.steps)) until m room refl refl refl refl refl
+
+-- behind the begin of a ticket, with a mark of its call
+settles_as : (n : ℕ) (kit : Kit) (mark : Life → Life) (connection container : ℕ) (asked : Asked) (t : ℕ) (m : Memory) → Serves n kit (change_life n mark (begun connection container asked (at_moment t m.state)))
+    → ((s : State) → AreFew s.containers → AreFew (change_life n mark s).containers) → IsConsistent m.state → t ≤ greatest_moment → HasRoom m → CanSettle n kit m.room (change_life n mark (begun connection container asked (at_moment t m.state)))
+settles_as n kit mark connection container asked t m serves marks k until room =
+    settled n kit m.room (change_life n mark (begun connection container asked (at_moment t m.state))) serves (marks (begun connection container asked (at_moment t m.state)) (few m.state k))
+    (omega (arith, k.numbers.next_pid, k.counts.steps)) until m room refl refl refl refl refl
+
+few_halted : (halting : Halting) (n : ℕ) (s : State) → AreFew s.containers → AreFew (change_life n (mark_of halting) s).containers
+few_halted Halting.Stop n s h = few_renew n Mark.Stopping s h
+few_halted Halting.Restart n s h = few_renew n Mark.ToRestart s h
 
 -- the container may be removed
 removes : (n : ℕ) (kit : Kit) (t : ℕ) (m : Memory) → IsKitOf n None m.state kit → HasRemovalRoom m → CanRemove n kit m.room (at_moment t m.state)
@@ -71,8 +109,9 @@ fits (Plan.Halt connection n halting sent seconds kit) t m brings k at room = re
   signal = brings.1;
   begin = record { room = room.ticket; number = omega (arith, k.numbers.next_ticket, k.counts.steps) };
   halt = record {
-    timely = timely t m.state at;
-    fit = settles n kit t m brings.0 k at.until room.end;
+    timely = timely_begun connection n (asked_of halting) (at_moment t m.state) (timely t m.state at);
+    execs = room.end.execs;
+    end = λ ended. settles_as n kit (mark_of halting) connection n (asked_of halting) t m (brings.0 ended) (few_halted halting n) k at.until room.end;
     deadline = room.deadline;
     spare = room.end.spare;
   };
@@ -88,7 +127,8 @@ fits (Plan.FeedEnd owner) t m brings k at room = tt
 fits (Plan.Kill n sent last kit) t m brings k at room = record {
   signal = brings.1;
   timely = timely t m.state at;
-  fit = settles n kit t m brings.0 k at.until room;
+  room = room.execs;
+  end = λ ended. settles n kit t m (brings.0 ended) k at.until room;
   spare = room.spare;
 }
 fits (Plan.KillRestarting n sent) t m brings k at room = tt
@@ -98,7 +138,9 @@ fits (Plan.RemoveRestarting n kit) t m brings k at room = removes n kit t m brin
 fits (Plan.RemoveForced connection n kit) t m brings k at room = record {
   begin = record { room = room.ticket; number = omega (arith, k.numbers.next_ticket, k.counts.steps) };
   timely = timely t m.state at;
-  fit = settles n kit t m brings k at.until room.end;
+  room = room.end.execs;
+  timers = room.end.timers;
+  end = λ ended. settles_as n kit to_remove connection n Asked.Remove t m (brings ended) (few_renew n Mark.ToRemove) k at.until room.end;
   spare = room.end.spare;
 }
 fits (Plan.Rename n name) t m brings k at room = brings
@@ -108,7 +150,8 @@ fits (Plan.Start n script) t m brings k at room = starts n script t m brings k r
 fits (Plan.StopRestarting n) t m brings k at room = tt
 fits (Plan.Unpause n kit) t m brings k at room = record {
   timely = timely t m.state at;
-  fit = settles n kit t m brings k at.until room;
+  room = room.execs;
+  end = λ ended. settles n kit t m (brings ended) k at.until room;
   spare = room.spare;
 }
 fits (Plan.VolumeCreate name labels) t m brings k at room = record { free = brings; room = room }

@@ -1,7 +1,6 @@
 -- A removal that is made ready is the removal's outcome.
-use Rattle.std.proofs.Common.{◌≡◌, ℕ, ◌+◌, Bool, true, false, List, [], ◌∷◌, ◌++◌, Option, Some, None, refl, ap, sym, ◌∙◌, subst}
+use Rattle.std.proofs.Common.{◌≡◌, ℕ, ◌<◌, ◌≤◌, Bool, true, false, List, [], ◌∷◌, ◌++◌, Option, Some, None, length, refl, ap, sym, ◌∙◌, subst}
 use Rattle.std.specs.Prelude.{Result, Ok, Err, IfOk}
-use Rattle.engine_text.specs.Scripts.{Program}
 use Rattle.engine_text.specs.declared.container.Container.{Container}
 use Rattle.engine_text.specs.declared.container.Goal.{Goal}
 use Rattle.engine_text.specs.declared.event.Action.{Action}
@@ -10,28 +9,30 @@ use Rattle.engine_text.specs.declared.memory.NoMemory.{NoMemory}
 use Rattle.engine_text.specs.declared.owner.Owner.{Owner}
 use Rattle.engine_text.specs.declared.reply.Reply.TheVariants.{Answer, Begun}
 use Rattle.engine_text.specs.declared.ticket.Asked.{Asked}
-use Rattle.proc_kernel.specs.Catalogue.{program_of}
 use Rattle.proc_kernel.specs.Foretelling.{code_at}
 use Rattle.proc_kernel.specs.Processes.{signal}
 use Rattle.proc_kernel.specs.Tables.{process_of}
-use Rattle.machine_model.specs.Calls.Remove.{kill_to_remove, remove_dead}
+use Rattle.machine_model.specs.Calls.Remove.{kill_to_remove, remove_dead, to_remove}
 use Rattle.machine_model.specs.Consistency.{IsConsistent}
 use Rattle.machine_model.specs.Effects.Cancel.{cancel_restart}
 use Rattle.machine_model.specs.Effects.Destroy.{destroy}
 use Rattle.machine_model.specs.EventTexts.{plain_event}
 use Rattle.machine_model.specs.Outcome.{Outcome, done, message_text}
 use Rattle.machine_model.specs.Refusals.{being_removed}
-use Rattle.machine_model.specs.State.{State, container_numbered, is_live}
+use Rattle.machine_model.specs.State.{State, change_life, container_numbered, is_live}
 use Rattle.machine_model.specs.Step.{at_moment}
 use Rattle.machine_model.specs.Tickets.{begins, begun}
-use Rattle.machine_effects.specs.Fit.{AreTimely, CanRemove, CanSettle}
+use Rattle.machine_effects.specs.Fit.{AreTimely, CanEndAs, CanRemove}
+use Rattle.machine_effects.specs.Marks.{renewed}
 use Rattle.machine_effects.specs.Kits.{IsKitOf}
 use Rattle.machine_effects.specs.Memory.{Room}
 use Rattle.machine_effects.specs.ToldKill.{aimed, told_kill}
 use Rattle.machine_effects.specs.declared.kit.Kit.{Kit}
 use Rattle.machine_effects.proofs.CallToldLemmas.{destroy_told, remove_restarting_told}
 use Rattle.machine_effects.proofs.DiedLemmas.{none_destroy}
-use Rattle.machine_effects.proofs.HaltLemmas.{settle_begun, timely_begun}
+use Rattle.machine_effects.proofs.DiedToldLemmas.{kill_to_remove_died}
+use Rattle.machine_effects.proofs.ToldLemmas.{found_renewed}
+use Rattle.machine_effects.proofs.HaltLemmas.{timely_begun}
 use Rattle.machine_effects.proofs.KillToldLemmas.{kill_begun, kill_to_remove_told, once_begun}
 use Rattle.machine_effects.proofs.SettleLemmas.{remove_alike}
 use Rattle.container_machine.specs.Calls.Remove.{give_up_effect}
@@ -39,7 +40,9 @@ use Rattle.container_machine.specs.Making.{IsAnswer, Makes}
 use Rattle.container_machine.specs.Plans.{plan_effect, Brings}
 use Rattle.container_machine.specs.declared.plan.Plan.{Plan}
 use Rattle.container_machine.specs.declared.prepared.Prepared.{Prepared}
-use Rattle.container_machine.proofs.MakeLemmas.{once_at, serves}
+use Rattle.container_machine.specs.RunEnds.{IsEndKit}
+use Rattle.container_machine.proofs.MakeLemmas.{once_at}
+use Rattle.container_machine.proofs.RunEndLemmas.{kill_next, own_script, script_aimed, serves_end}
 use Rattle.container_machine.proofs.StartLemmas.{made_answer}
 
 -- ---- the effects
@@ -120,26 +123,39 @@ dead_gone (Err e) t s c is h = tt
 pub forced_timely : (connection n : ℕ) (s z : State) → z ≡ begun connection n Asked.Remove s → AreTimely s → AreTimely z
 forced_timely connection n s z is h = subst (λ (y : State). AreTimely y) (sym is) (timely_begun connection n Asked.Remove s h)
 
-pub forced_fit : (connection n : ℕ) (kit : Kit) (room other : Room) (s z : State) → z ≡ begun connection n Asked.Remove s → other ≡ room → CanSettle n kit room s → CanSettle n kit other z
-forced_fit connection n kit room other s z is same h =
-    subst (λ (r : Room). CanSettle n kit r z) (sym same) (subst (λ (y : State). CanSettle n kit room y) (sym is) (settle_begun n kit room connection n Asked.Remove s h))
+pub forced_end : (connection n : ℕ) (kit : Kit) (room other : Room) (s z : State) → z ≡ begun connection n Asked.Remove s → other ≡ room → CanEndAs to_remove (kill_to_remove n) n kit room (begun connection n Asked.Remove s)
+    → CanEndAs to_remove (kill_to_remove n) n kit other z
+forced_end connection n kit room other s z is same h =
+    subst (λ (r : Room). CanEndAs to_remove (kill_to_remove n) n kit r z) (sym same) (subst (λ (y : State). CanEndAs to_remove (kill_to_remove n) n kit room y) (sym is) h)
 
-pub makes_forced : (p : Prepared) (connection t : ℕ) (s : State) (c : Container) (script : Option Program) (code : Option ℕ) (kit : Kit) (empty : List Event)
-    → IsConsistent s → container_numbered c.number s ≡ Some c → script ≡ program_of c.life.words (c.life.starts + 1)
+pub forced_execs : (connection n : ℕ) (room other : Room) (s z : State) → z ≡ begun connection n Asked.Remove s → other ≡ room → length s.execs ≤ room.scratch → length z.execs ≤ other.scratch
+forced_execs connection n room other s z is same h =
+    subst (λ (r : Room). length z.execs ≤ r.scratch) (sym same) (subst (λ (y : State). length y.execs ≤ room.scratch) (sym is) h)
+
+pub forced_timers : (connection n : ℕ) (room other : Room) (s z : State) → z ≡ begun connection n Asked.Remove s → other ≡ room → length s.timers < room.timers → length z.timers < other.timers
+forced_timers connection n room other s z is same h =
+    subst (λ (r : Room). length z.timers < r.timers) (sym same) (subst (λ (y : State). length y.timers < room.timers) (sym is) h)
+
+pub makes_forced : (p : Prepared) (connection t : ℕ) (s : State) (c : Container) (code : Option ℕ) (kit : Kit) (empty : List Event)
+    → IsConsistent s → container_numbered c.number s ≡ Some c
     → ((u : ℕ) → code ≡ code_at (signal 9 true u) (process_of (Owner.Container c.number) s.processes))
-    → p.moment ≡ t → p.plan ≡ Plan.RemoveForced connection c.number kit → IsKitOf c.number script s kit → p.reply ≡ Begun s.next_ticket
-    → empty ≡ [] → p.events.items ≡ empty ++ told_kill 9 code (aimed Goal.Remove c) script (at_moment t s)
+    → p.moment ≡ t → p.plan ≡ Plan.RemoveForced connection c.number kit → IsEndKit code Goal.Remove c.number c s kit → p.reply ≡ Begun s.next_ticket
+    → empty ≡ [] → p.events.items ≡ empty ++ told_kill 9 code (aimed Goal.Remove c) kit.script (at_moment t s)
     → Makes p t s (begins connection c Asked.Remove (kill_to_remove c.number))
-makes_forced p connection t s c script code kit empty k found named is moment plan of reply none events =
+makes_forced p connection t s c code kit empty k found is moment plan of reply none events =
     let z : State = at_moment t s in
-    let y : State = begun connection c.number Asked.Remove z in
-    let told : (kill_to_remove c.number y).events ≡ told_kill 9 code (aimed Goal.Remove c) script z =
-    kill_to_remove_told c.number y c script code found named (once_begun connection c.number Asked.Remove z (once_at t s k)) (is t)
-    ∙ kill_begun connection c.number Asked.Remove 9 code (aimed Goal.Remove c) script z in
+    let n : ℕ = c.number in
+    let y : State = begun connection n Asked.Remove z in
+    let told : (kill_to_remove n y).events ≡ told_kill 9 code (aimed Goal.Remove c) (own_script c) z =
+    kill_to_remove_told n y c (own_script c) code found refl (once_begun connection n Asked.Remove z (once_at t s k)) (is t)
+    ∙ kill_begun connection n Asked.Remove 9 code (aimed Goal.Remove c) (own_script c) z in
     record {
       moment = moment;
       effect = ap (λ q. plan_effect q z) plan;
-      events = events ∙ (ap (λ l. l ++ told_kill 9 code (aimed Goal.Remove c) script z) none ∙ sym told);
+      events = events ∙ (ap (λ l. l ++ told_kill 9 code (aimed Goal.Remove c) kit.script z) none
+          ∙ (kill_next 9 code (aimed Goal.Remove c) kit.script z (script_aimed code Goal.Remove n c s kit of) ∙ sym told));
       reply = reply;
-      brings = subst (λ q. Brings q t s) (sym plan) (serves c.number s c script kit found named of);
+      brings = subst (λ q. Brings q t s) (sym plan)
+          (serves_end code n Goal.Remove c (renewed to_remove c) s (change_life n to_remove y) kit (kill_to_remove n y).died (kill_to_remove_died n y c code found (is t)) of
+          (found_renewed n to_remove y c found) refl refl refl);
     }

@@ -1,5 +1,5 @@
 -- own: what a due step does once whose it is is known, and what that needs.
-use Rattle.std.specs.Prelude.{◌≡◌, ℕ, ◌<◌, ◌≤◌, Some, ⊤}
+use Rattle.std.specs.Prelude.{◌≡◌, ℕ, ◌<◌, ◌≤◌, Some, ⊤, length}
 use Rattle.engine_text.specs.declared.owner.Owner.{Owner}
 use Rattle.engine_text.specs.declared.owner.Owner.TheVariants.{Container as OfContainer, Exec as OfExec}
 use Rattle.proc_kernel.specs.Processes.{run_due}
@@ -9,12 +9,13 @@ use Rattle.machine_model.specs.Chain.{Effect}
 use Rattle.machine_model.specs.Due.{stop_deadline, removal_deadline, restart_timer}
 use Rattle.machine_model.specs.Effects.Meet.{step_process}
 use Rattle.machine_model.specs.History.{greatest_moment}
+use Rattle.machine_model.specs.Step.{at_moment}
 use Rattle.machine_effects.specs.Deadlines.{CanRestart, HasId}
-use Rattle.machine_effects.specs.Fit.{AreTimely, CanLaunch, CanSettle, IsScriptOf}
+use Rattle.machine_effects.specs.Fit.{AreTimely, CanEndBy, CanLaunch, IsScriptOf}
 use Rattle.machine_effects.specs.Memory.{Memory, HasRoom}
 use Rattle.machine_effects.specs.Ops.{CanEnd, HasOpRoom, HasRecordRoom}
 use Rattle.machine_effects.specs.declared.kit.Kit.{Kit}
-use Rattle.container_machine.specs.Plans.{Serves}
+use Rattle.container_machine.specs.RunEnds.{ServesBy}
 use Rattle.container_machine.specs.declared.due.DuePlan.{DuePlan}
 
 -- What the plan does.
@@ -32,13 +33,14 @@ pub record CanRun (owner : Owner) (kit : Kit) (m : Memory) : Type 0 where
   pub clock : m.state.clock ≤ greatest_moment
   pub length : length_at (process_of owner m.state.processes) ≤ m.bytes
   pub kept : HasRecordRoom owner m
-  pub end : CanEnd owner kit m
+  pub end : CanEnd (step_process run_due) owner kit m
   pub spare : 1 < m.spare
 
 -- SIGKILL may be met.
 pub record CanMeet (n : ℕ) (kit : Kit) (m : Memory) : Type 0 where
   pub timely : AreTimely m.state
-  pub fit : CanSettle n kit m.room m.state
+  pub room : length m.state.execs ≤ m.room.scratch
+  pub end : CanEndBy (stop_deadline n) n kit m.room m.state
   pub spare : 0 < m.spare
 
 -- The tables stand as the plan needs them.
@@ -57,15 +59,15 @@ HasDueRoom (DuePlan.RestartTimer n script) m = HasRoom m
 
 -- ---- what it brings
 
--- The memory that the end of the owner's process may want: that of an exec wants none.
+-- What the end of the owner's process wants, where its next op ends it: that of an exec wants nothing.
 abbrev pub ServesOwner : Owner → Kit → State → Type 0
-ServesOwner (OfContainer n) kit s = Serves n kit s
+ServesOwner (OfContainer n) kit s = ServesBy (step_process run_due (OfContainer n)) n kit s
 ServesOwner (OfExec n) kit s = ⊤
 
 -- What the plan brings fits the state, in which it is due at that moment.
 abbrev pub BringsDue : DuePlan → ℕ → State → Type 0
 BringsDue (DuePlan.Op owner kit) t s =
-    (due_at (process_of owner s.processes) ≡ Some t) × ServesOwner owner kit s
-BringsDue (DuePlan.StopDeadline n kit) t s = Serves n kit s
+    (due_at (process_of owner s.processes) ≡ Some t) × ServesOwner owner kit (at_moment t s)
+BringsDue (DuePlan.StopDeadline n kit) t s = ServesBy (stop_deadline n) n kit (at_moment t s)
 BringsDue (DuePlan.RemovalDeadline n) t s = ⊤
 BringsDue (DuePlan.RestartTimer n script) t s = IsScriptOf n script s

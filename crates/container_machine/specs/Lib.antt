@@ -6,5 +6,6 @@ pub mod Making
 pub mod Parts
 pub mod Plans
 pub mod Prepared
+pub mod RunEnds
 pub mod Runs
 pub mod Views

@@ -1,16 +1,19 @@
 -- own: what a prepared call does once its container is found and its status is known, and what that needs.
-use Rattle.std.specs.Prelude.{◌≡◌, ℕ, ◌+◌, ◌<◌, ◌≤◌, [], None, ⊤, length, vec_capacity}
+use Rattle.std.specs.Prelude.{◌≡◌, ℕ, ◌<◌, ◌≤◌, None, ⊤, length}
+use Rattle.engine_text.specs.declared.ticket.Asked.TheVariants as Asked
 use Rattle.machine_model.specs.State.{State}
 use Rattle.machine_model.specs.Chain.{Effect, change, still}
 use Rattle.machine_model.specs.Calls.Create.{add, make_volume, volume_named}
 use Rattle.machine_model.specs.Calls.Feed.{end_input, feed_process}
+use Rattle.machine_model.specs.Calls.Kill.{deliver}
 use Rattle.machine_model.specs.Calls.Pause.{pause}
+use Rattle.machine_model.specs.Calls.Remove.{kill_to_remove, to_remove}
 use Rattle.machine_model.specs.Calls.Restart.{launch_again}
 use Rattle.machine_model.specs.Calls.Take.{end_ticket}
 use Rattle.machine_model.specs.Calls.Volumes.{remove_volume}
 use Rattle.machine_effects.specs.ExecStarts.{CanSpawn, start_effect}
-use Rattle.machine_effects.specs.Fit.{CanRemove, IsScriptOf, exec_numbers, outputs_of}
-use Rattle.machine_effects.specs.Halts.{HasHaltRoom}
+use Rattle.machine_effects.specs.Fit.{CanRemove, IsScriptOf}
+use Rattle.machine_effects.specs.Halts.{HasHaltRoom, asked_of, halted, mark_of}
 use Rattle.machine_effects.specs.Held.{container_in, output_in}
 use Rattle.machine_effects.specs.Kits.{IsKitOf}
 use Rattle.machine_effects.specs.Memory.{Memory, HasRoom}
@@ -18,11 +21,12 @@ use Rattle.machine_effects.specs.NewExecs.{CanAddExec, HasExecRoom, empty_output
 use Rattle.machine_effects.specs.NewVolumes.{CanAdd, HasAddRoom}
 use Rattle.machine_effects.specs.Removing.{HasForceRoom, HasRemovalRoom}
 use Rattle.machine_effects.specs.Tickets.{CanBegin}
-use Rattle.machine_effects.specs.declared.kit.Kit.{Kit}
 use Rattle.machine_model.specs.Effects.Destroy.{destroy}
 use Rattle.machine_model.specs.Effects.Launch.{launch_by_call}
 use Rattle.machine_model.specs.Effects.Meet.{thaw_container}
 use Rattle.machine_model.specs.Names.{holder}
+use Rattle.machine_model.specs.Step.{at_moment}
+use Rattle.machine_model.specs.Tickets.{begun}
 use Rattle.container_machine.specs.Calls.Attach.{attach_effect}
 use Rattle.container_machine.specs.Calls.Create.{IsNew}
 use Rattle.container_machine.specs.Calls.Execs.{add_exec}
@@ -35,6 +39,7 @@ use Rattle.container_machine.specs.Calls.Stop.{CanStop, halt_effect, stop_restar
 use Rattle.container_machine.specs.Calls.Unpause.{CanThaw}
 use Rattle.container_machine.specs.Calls.Volumes.{CanMakeVolume, CanRemoveVolume, HasVolumeRoom}
 use Rattle.container_machine.specs.Calls.Wait.{wait_effect}
+use Rattle.container_machine.specs.RunEnds.{ServesAs, ServesBy}
 use Rattle.container_machine.specs.declared.plan.Plan.{Plan}
 
 -- What the plan does.
@@ -74,12 +79,12 @@ Fits (Plan.ExecCreate x output) m = CanAddExec x output m
 Fits (Plan.ExecStart n script detach) m = CanSpawn m
 Fits (Plan.Feed owner piece) m = 0 < m.spare
 Fits (Plan.FeedEnd owner) m = ⊤
-Fits (Plan.Halt connection n halting sent seconds kit) m = CanStop n sent kit m
-Fits (Plan.Kill n sent last kit) m = CanKill n sent kit m
+Fits (Plan.Halt connection n halting sent seconds kit) m = CanStop connection n halting sent seconds kit m
+Fits (Plan.Kill n sent last kit) m = CanKill n sent last kit m
 Fits (Plan.KillRestarting n sent) m = ⊤
 Fits (Plan.Pause n) m = length m.state.execs ≤ m.room.scratch
 Fits (Plan.Remove n kit) m = CanRemove n kit m.room m.state
-Fits (Plan.RemoveForced connection n kit) m = CanForce n kit m
+Fits (Plan.RemoveForced connection n kit) m = CanForce connection n kit m
 Fits (Plan.RemoveRestarting n kit) m = CanRemove n kit m.room m.state
 Fits (Plan.Rename n name) m = holder name m.state.containers ≡ None
 Fits (Plan.Restart n script) m = CanStart n script m
@@ -118,13 +123,6 @@ HasRoomFor (Plan.VolumeCreate name labels) m = HasVolumeRoom m
 HasRoomFor (Plan.VolumeRemove name) m = ⊤
 HasRoomFor (Plan.Wait connection n until) m = length m.state.tickets < m.room.tickets
 
--- The memory that it brings is what the end of the container's main process may want.
-pub record Serves (n : ℕ) (kit : Kit) (s : State) : Type 0 where
-  pub named : IsScriptOf n kit.script s
-  pub numbers : kit.execs ≡ exec_numbers n s
-  pub empty : kit.logs.items ≡ []
-  pub logs : length (outputs_of n s) + 1 ≤ vec_capacity kit.logs
-
 -- What the plan brings fits the state at that moment.
 abbrev pub Brings : Plan → ℕ → State → Type 0
 Brings Plan.Nothing t s = ⊤
@@ -135,19 +133,21 @@ Brings (Plan.ExecCreate x output) t s = output_in output ≡ empty_output x.numb
 Brings (Plan.ExecStart n script detach) t s = ⊤
 Brings (Plan.Feed owner piece) t s = ⊤
 Brings (Plan.FeedEnd owner) t s = ⊤
-Brings (Plan.Halt connection n halting sent seconds kit) t s = Serves n kit s × (sent.number < 32)
-Brings (Plan.Kill n sent last kit) t s = Serves n kit s × (sent.number < 32)
+Brings (Plan.Halt connection n halting sent seconds kit) t s =
+    ServesAs (mark_of halting) (halted halting seconds sent.number n) n kit (begun connection n (asked_of halting) (at_moment t s))
+    × (sent.number < 32)
+Brings (Plan.Kill n sent last kit) t s = ServesBy (deliver last sent.number n) n kit (at_moment t s) × (sent.number < 32)
 Brings (Plan.KillRestarting n sent) t s = ⊤
 Brings (Plan.Pause n) t s = ⊤
 Brings (Plan.Remove n kit) t s = IsKitOf n None s kit
-Brings (Plan.RemoveForced connection n kit) t s = Serves n kit s
+Brings (Plan.RemoveForced connection n kit) t s = ServesAs to_remove (kill_to_remove n) n kit (begun connection n Asked.Remove (at_moment t s))
 Brings (Plan.RemoveRestarting n kit) t s = IsKitOf n None s kit
 Brings (Plan.Rename n name) t s = holder name s.containers ≡ None
 Brings (Plan.Restart n script) t s = IsScriptOf n script s
 Brings (Plan.RestartRestarting n script) t s = IsScriptOf n script s
 Brings (Plan.Start n script) t s = IsScriptOf n script s
 Brings (Plan.StopRestarting n) t s = ⊤
-Brings (Plan.Unpause n kit) t s = Serves n kit s
+Brings (Plan.Unpause n kit) t s = ServesBy (thaw_container n) n kit (at_moment t s)
 Brings (Plan.VolumeCreate name labels) t s = volume_named name s ≡ None
 Brings (Plan.VolumeRemove name) t s = CanRemoveVolume name s
 Brings (Plan.Wait connection n until) t s = ⊤

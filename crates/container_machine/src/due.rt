@@ -6,11 +6,12 @@ ghost use Rattle.machine_model.specs.Due.{least_due};
 ghost use Rattle.machine_effects.specs.Fit.{died_of};
 ghost use Rattle.machine_effects.specs.Held.{container_in};
 ghost use Rattle.machine_effects.specs.Settled.{deaths};
-ghost use Rattle.container_machine.specs.DuePlans.{due_plan_effect, FitsDue, ServesOwner};
+ghost use Rattle.container_machine.specs.DuePlans.{due_plan_effect, FitsDue};
 ghost use Rattle.container_machine.specs.Dues.{MakesDue};
-ghost use Rattle.container_machine.specs.Plans.{Serves};
+ghost use Rattle.container_machine.specs.RunEnds.{IsOwnerKit};
 
-use engine_text::{DueAction, Event, NoMemory, Numbers, Owner, Script, Signal};
+use super::run_ends::{empty_kit, end_kit};
+use engine_text::{DueAction, Event, NoMemory, Owner, Script, Signal};
 use machine_effects::{Death, Held, Kit, Tables, number_of, tell_launch};
 use proc_kernel::program;
 use std::alloc::Global;
@@ -88,33 +89,23 @@ fn standing(tables: &Tables, number: u64) -> &Held
     }
 }
 
-// The memory that the end of the container's main process may want.
-fn main_kit(tables: &Tables, alloc: Global, number: u64, h: &Held) -> Result<Kit, NoMemory>
-    requires stands { container_numbered number tables.now.state ≡ Some (container_in h.now) }
-    requires kept { IsConsistent tables.now.state }
-    ensures { IfOk result (λ k. Serves number k tables.now.state) }
-{
-    let life = &h.container.life;
-    let script = program(alloc, &life.words, life.starts + 1)?;
-    tables.kit(alloc, number, script)
-}
-
-// The memory that the end of the owner's process may want.
-fn owner_kit(tables: &Tables, alloc: Global, owner: Owner) -> Result<Kit, NoMemory>
+// What the end of the owner's process with that code wants: that of an exec wants nothing.
+fn owner_kit(
+    tables: &Tables,
+    alloc: Global,
+    code: Option<u8>,
+    owner: Owner,
+) -> Result<Kit, NoMemory>
     requires stands { HasOwner tables.now.state owner }
     requires kept { IsConsistent tables.now.state }
-    ensures { IfOk result (λ k. ServesOwner owner k tables.now.state) }
+    ensures { IfOk result (λ k. IsOwnerKit code owner tables.now.state k) }
 {
     match owner {
         Owner::Container(number) => {
             let h = standing(tables, number);
-            main_kit(tables, alloc, number, h)
+            end_kit(tables, alloc, code, h.container.life.goal, number, h)
         }
-        Owner::Exec(_) => Ok(Kit {
-            script: None,
-            logs: Vec::new(alloc),
-            execs: Numbers::new(alloc),
-        }),
+        Owner::Exec(_) => Ok(empty_kit(alloc)),
     }
 }
 
@@ -127,8 +118,8 @@ fn prepare_op(tables: &Tables, alloc: Global, due: DueAction) -> Result<Prepared
 {
     let moment = due.moment;
     let owner = tables.owner_at(due.number);
-    let kit = owner_kit(tables, alloc, owner)?;
     let code = tables.due_code(owner);
+    let kit = owner_kit(tables, alloc, code, owner)?;
     let mut events = Vec::new(alloc);
     tables.tell_op(alloc, owner, code, &kit.script, moment, &mut events)?;
     Ok(PreparedDue {
@@ -152,8 +143,8 @@ fn prepare_stop_deadline(
     let moment = due.moment;
     let number = due.number;
     let h = standing(tables, number);
-    let kit = main_kit(tables, alloc, number, h)?;
     let code = tables.signal_code(number, Signal { number: 9 }, true);
+    let kit = end_kit(tables, alloc, code, h.container.life.goal, number, h)?;
     let mut events = Vec::new(alloc);
     tables.tell_deadline(alloc, code, h, &kit.script, moment, &mut events)?;
     Ok(PreparedDue {

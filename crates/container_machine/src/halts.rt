@@ -12,9 +12,9 @@ ghost use Rattle.container_machine.specs.Making.{Makes};
 
 use super::plan::Plan;
 use super::prepared::Prepared;
+use super::run_ends::end_kit;
 use engine_text::{NoMemory, Reply, Signal};
 use machine_effects::{Death, Halting, Held, Kit, Tables};
-use proc_kernel::program;
 use std::alloc::Global;
 
 /// A ticket is given, and the run is to end.
@@ -28,7 +28,7 @@ pub fn perform(
     seconds: i32,
     kit: Kit,
 ) -> Option<Death>
-    requires { CanStop number sent kit tables.old }
+    requires { CanStop conn number halting sent seconds kit tables.old }
     ensures state { tables.new.state
         ≡ (halt_effect conn number halting seconds sent.number tables.old.state).state }
     ensures died { deaths result
@@ -86,8 +86,8 @@ pub fn prepare(
     let sent = signal_used(signal, h);
     let seconds = seconds_used(wait, h);
     let goal = halting.goal();
-    let script = program(alloc, &h.container.life.words, h.container.life.starts + 1)?;
     let code = tables.signal_code(number, sent, true);
+    let kit = end_kit(tables, alloc, code, goal, number, h)?;
     let mut events = Vec::new(alloc);
     tables.tell_kill(
         alloc,
@@ -95,11 +95,10 @@ pub fn prepare(
         code,
         goal,
         h,
-        &script,
+        &kit.script,
         moment,
         &mut events,
     )?;
-    let kit = tables.kit(alloc, number, script)?;
     let ticket = tables.next_ticket();
     Ok(Prepared {
         moment,

@@ -16,6 +16,7 @@ mod machine;
 mod plan;
 mod prepared;
 mod refusals;
+mod run_ends;
 mod runs;
 mod selection;
 mod streams;

@@ -23,14 +23,15 @@ use Rattle.machine_model.specs.Effects.EndMain.{end_main, die, clear_deadlines, 
 use Rattle.machine_model.specs.Effects.Launch.{launch, launch_by_call, afresh, launch_program, container_room}
 use Rattle.machine_effects.specs.Effects.EndMain.{begun}
 use Rattle.machine_model.specs.Effects.Meet.{by_effect, step_process, stepped, thaw_container, thaw_execs, wake_parts, woken, send, meet_signal, running}
+use Rattle.machine_model.specs.Calls.Kill.{by_hand, deliver}
 use Rattle.machine_model.specs.Calls.Pause.{pause, paused, freeze_process, freeze_execs}
-use Rattle.machine_effects.specs.Fit.{died_of, CanSettle}
+use Rattle.machine_effects.specs.Fit.{died_of, CanEndBy, CanSettle, HasEnded}
 use Rattle.machine_effects.specs.Memory.{Room}
 use Rattle.machine_effects.specs.declared.marks.Mark.{Mark}
 use Rattle.machine_model.proofs.ChainLemmas.{Keeps, keeps_each}
 use Rattle.machine_effects.specs.Outputs.{is_output_of}
 use Rattle.machine_effects.specs.declared.kit.Kit.{Kit}
-use Rattle.machine_effects.proofs.SettleLemmas.{settle_end_exec, settle_renew, settle_processes, launch_alike, remove_alike, tell_still}
+use Rattle.machine_effects.proofs.SettleLemmas.{settle_end_exec, settle_renew, settle_processes, next_alike, remove_alike, tell_still}
 use Rattle.container_table.specs.Lists.{update_first}
 use Rattle.engine_text.specs.Owner.{same_owner}
 use Rattle.engine_text.specs.declared.log.OwnedLog.{OwnedLog}
@@ -179,7 +180,7 @@ settle_put n kit room k stream payload s h =
     let t : State = put_output k stream payload s in
     record {
       clock = h.clock;
-      launch = launch_alike n kit.script s t refl refl h.launch;
+      launch = next_alike n kit.script s t refl refl h.launch;
       remove = remove_alike n kit room s t (record {
         removed = refl;
         kept = refl;
@@ -202,7 +203,7 @@ settle_thaw_execs n kit room s h =
 settle_wake : (n : ℕ) (kit : Kit) (room : Room) → Keeps (CanSettle n kit room) (in_order (wake_parts n))
 settle_wake n kit room s h =
     settle_thaw_execs n kit room _
-    (subst (λ (z : State). CanSettle n kit room (change_life n running z)) (sym (tell_still (plain_event Action.Unpause) n s)) (settle_renew n kit room Mark.Running s h))
+    (subst (λ (z : State). CanSettle n kit room (change_life n running z)) (sym (tell_still (plain_event Action.Unpause) n s)) (settle_renew n kit room Mark.Running (λ l. refl) s h))
 
 pub settle_woken : (n : ℕ) (kit : Kit) (room : Room) (u : Status) → Keeps (CanSettle n kit room) (woken u n)
 settle_woken n kit room Status.Paused s h = settle_wake n kit room s h
@@ -212,6 +213,52 @@ settle_woken n kit room Status.Restarting s h = h
 settle_woken n kit room Status.Removing s h = h
 settle_woken n kit room Status.Exited s h = h
 settle_woken n kit room Status.Dead s h = h
+
+-- ---- what is ready where an effect ends the main process
+
+-- its end is one
+pub main_ended : (effect : ProcessEffect) (code n : ℕ) (s : State) → effect ≡ Ended code → HasEnded (by_effect effect (Owner.Container n) s).died
+main_ended effect code n s is =
+    subst (λ (e : ProcessEffect). HasEnded (by_effect e (Owner.Container n) s).died) (sym is) (subst (λ (d : List Died). HasEnded d) (died_end_main code n s) tt)
+
+-- by a step of it
+pub end_stepped : (f : ℕ → Process → ProcessStep) (n : ℕ) (kit : Kit) (room other : Room) (s z : State) (e : ProcessEffect) → z ≡ stepped f (Owner.Container n) s → e ≡ effect_of (f s.clock) (process_of (Owner.Container n) s.processes) → other ≡ room
+    → CanEndBy (step_process f (Owner.Container n)) n kit room s → CanEndBy (by_effect e (Owner.Container n)) n kit other z
+end_stepped f n kit room other s z e state effect same h ended =
+    subst (λ (r : Room). CanSettle n kit r z) (sym same)
+    (subst (λ (y : State). CanSettle n kit room y) (sym state)
+    (settle_stepped n kit room f (Owner.Container n) s (h
+    (subst (λ (y : State). HasEnded (by_effect (effect_of (f s.clock) (process_of (Owner.Container n) s.processes)) (Owner.Container n) y).died) state
+    (subst (λ (x : ProcessEffect). HasEnded (by_effect x (Owner.Container n) z).died) effect ended)))))
+
+-- by a signal, behind the end of a pause
+pub end_met : (number n : ℕ) (kit : Kit) (room other : Room) (s a : State) (c : Container) → container_numbered n s ≡ Some c → a ≡ (woken c.life.status n s).state → other ≡ room
+    → CanEndBy (meet_signal number n) n kit room s → CanEndBy (send true number n) n kit other a
+end_met number n kit room other s a c found woke same h ended =
+    subst (λ (r : Room). CanSettle n kit r a) (sym same)
+    (subst (λ (y : State). CanSettle n kit room y) (sym woke)
+    (settle_woken n kit room c.life.status s (h (subst (λ (d : List Died). HasEnded d) (died_met number n s a c (send true number n a).died found woke refl) ended))))
+
+-- by the end of a pause
+pub end_thawed : (n : ℕ) (kit : Kit) (room other : Room) (s a : State) → a ≡ (in_order (wake_parts n) s).state → other ≡ room
+    → CanEndBy (thaw_container n) n kit room s → CanEndBy (step_process thaw (Owner.Container n)) n kit other a
+end_thawed n kit room other s a woke same h ended =
+    subst (λ (r : Room). CanSettle n kit r a) (sym same)
+    (subst (λ (y : State). CanSettle n kit room y) (sym woke)
+    (settle_woken n kit room Status.Paused s (h (subst (λ (d : List Died). HasEnded d) (died_thaw n s a (step_process thaw (Owner.Container n) a).died woke refl) ended))))
+
+-- by the last signal of a kill
+pub end_last : (b : Bool) (number n : ℕ) (kit : Kit) (room other : Room) (s a : State) → b ≡ true → a ≡ change_life n by_hand s → other ≡ room
+    → CanEndBy (deliver b number n) n kit room s → CanEndBy (meet_signal number n) n kit other a
+end_last b number n kit room other s a is at same h ended =
+    subst (λ (r : Room). CanSettle n kit r a) (sym same)
+    (subst (λ (y : State). CanSettle n kit room y) (sym at)
+    (settle_renew n kit room Mark.ByHand (λ l. refl) s (h
+    (subst (λ (x : Bool). HasEnded (deliver x number n s).died) (sym is) (subst (λ (y : State). HasEnded (meet_signal number n y).died) at ended)))))
+
+-- by another one
+pub end_other : (b : Bool) (number n : ℕ) (kit : Kit) (room : Room) (s : State) → b ≡ false → CanEndBy (deliver b number n) n kit room s → CanEndBy (send false number n) n kit room s
+end_other b number n kit room s is h ended = h (subst (λ (x : Bool). HasEnded (deliver x number n s).died) (sym is) ended)
 
 pub none_pause : (n : ℕ) (s : State) → [] ≡ (pause n s).died
 none_pause n s =

@@ -11,21 +11,26 @@ use Rattle.engine_text.specs.declared.ticket.Ticket.{Ticket}
 use Rattle.container_table.specs.Lists.{update_first}
 use Rattle.machine_model.specs.Consistency.{is_there}
 use Rattle.machine_model.specs.State.{State, container_numbered, change_life, clear_timer}
-use Rattle.machine_model.specs.Chain.{change, with_found}
+use Rattle.machine_model.specs.Chain.{Died, change, with_found}
+use Rattle.machine_model.specs.EventTexts.{kill_event}
 use Rattle.std.specs.Prelude.{option_map}
-use Rattle.machine_model.specs.Due.{died, timed_out, time_out, restarted}
+use Rattle.machine_model.specs.Due.{died, timed_out, time_out, restarted, stop_deadline}
+use Rattle.machine_model.specs.Effects.Meet.{meet_signal}
 use Rattle.machine_model.specs.Effects.Destroy.{answered}
 use Rattle.machine_model.specs.Outcome.{message_text}
 use Rattle.machine_model.specs.Refusals.{removal_timed_out}
 use Rattle.machine_effects.specs.Deadlines.{HasId, timed_out_at}
-use Rattle.machine_effects.specs.Fit.{CanLaunch}
+use Rattle.machine_effects.specs.Fit.{CanEndBy, CanLaunch, CanSettle, HasEnded}
 use Rattle.machine_effects.specs.Held.{ticket_in, tickets_in, replies_in, answered_by, late_ready, ready_or}
 use Rattle.machine_effects.specs.Marks.{renewed, marked, counted}
+use Rattle.machine_effects.specs.Memory.{Room}
 use Rattle.machine_effects.specs.declared.held.Fate.{Fate}
 use Rattle.machine_effects.specs.declared.held.HeldTicket.{HeldTicket}
+use Rattle.machine_effects.specs.declared.kit.Kit.{Kit}
 use Rattle.machine_effects.specs.declared.marks.Mark.{Mark}
 use Rattle.machine_effects.specs.declared.held.Ready.{Ready}
-use Rattle.machine_effects.proofs.SettleLemmas.{found_updated, has_number, launch_alike, launch_changed}
+use Rattle.machine_effects.proofs.DiedToldLemmas.{behind_event}
+use Rattle.machine_effects.proofs.SettleLemmas.{found_updated, has_number, launch_alike, launch_changed, settle_clear}
 
 -- ---- tickets
 
@@ -112,6 +117,16 @@ launch_timed n script s a b h k can =
     subst (λ (z : State). CanLaunch n script z) (sym k)
     (launch_changed n script restarted (λ l. refl) (λ l. refl) a
     (subst (λ (z : State). CanLaunch n script z) (sym h) (launch_alike n script s (clear_timer 3 n s) refl refl can)))
+
+-- what follows is ready where SIGKILL ends the process
+pub end_deadline : (n : ℕ) (kit : Kit) (room other : Room) (s a : State) → a ≡ clear_timer 1 n s → other ≡ room → CanEndBy (stop_deadline n) n kit room s → CanEndBy (meet_signal 9 n) n kit other a
+end_deadline n kit room other s a at same h ended =
+    let y : State = clear_timer 1 n s in
+    subst (λ (r : Room). CanSettle n kit r a) (sym same)
+    (subst (λ (z : State). CanSettle n kit room z) (sym at)
+    (settle_clear n kit room 1 n s (h
+    (subst (λ (d : List Died). HasEnded d) (sym (behind_event (kill_event 9) n y (λ z. (meet_signal 9 n z).died)))
+    (subst (λ (z : State). HasEnded (meet_signal 9 n z).died) at ended)))))
 
 -- ---- an id stays
 

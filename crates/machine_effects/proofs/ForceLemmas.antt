@@ -25,7 +25,9 @@ use Rattle.machine_model.specs.Effects.Meet.{by_effect, meet_signal, running, se
 use Rattle.machine_model.specs.History.{greatest_moment}
 use Rattle.machine_model.proofs.ChainLemmas.{Keeps, keeps_each, keeps_found, keeps_in_order, meet-clock}
 use Rattle.machine_effects.specs.Marks.{renewed}
+use Rattle.machine_effects.specs.Fit.{CanEndAs, CanEndBy, CanSettle, HasEnded}
 use Rattle.machine_effects.specs.Memory.{Room}
+use Rattle.machine_effects.specs.declared.kit.Kit.{Kit}
 use Rattle.machine_effects.proofs.DiedLemmas.{none_found}
 use Rattle.machine_effects.proofs.SettleLemmas.{fewer, found_updated, tell_still}
 use Rattle.machine_effects.proofs.SiftLemmas.{nil_end}
@@ -197,3 +199,9 @@ forced_died n s a died h1 h2 =
     let none : (tell_of (kill_event 9) n s).died ≡ [] = none_found (container_numbered n s) _ (λ c y. refl) s in
     h2 ∙ (ap (λ y. (meet_signal 9 n y).died) (h1 ∙ ap (change_life n to_remove) (sym (tell_still (kill_event 9) n s)))
     ∙ (sym (nil_end m) ∙ (ap (λ l. m ++ l) (sym (quiet_end (is_live (Owner.Container n) z) n z)) ∙ ap (λ l. l ++ (m ++ last)) (sym none))))
+
+-- what follows is ready where SIGKILL ends the process
+pub end_forced : (n : ℕ) (kit : Kit) (room other : Room) (s a : State) → a ≡ change_life n to_remove s → other ≡ room → CanEndAs to_remove (kill_to_remove n) n kit room s → CanEndBy (meet_signal 9 n) n kit other a
+end_forced n kit room other s a at same h ended =
+    subst (λ (r : Room). CanSettle n kit r a) (sym same)
+    (subst (λ (z : State). CanSettle n kit room z) (sym at) (h (subst (λ (d : List Died). HasEnded d) (forced_died n s a (meet_signal 9 n a).died at refl) ended)))

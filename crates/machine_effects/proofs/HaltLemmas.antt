@@ -5,21 +5,23 @@ use mir.Syntax.{w32}
 use mir.Val.{SFits, of_z, to_z}
 use Rattle.container_table.specs.Lists.{placed}
 use Rattle.container_table.specs.Timers.{cleared, is_listed_before, is_timer, with_timer}
+use Rattle.engine_text.specs.declared.container.Life.{Life}
+use Rattle.engine_text.specs.declared.exec.Exec.{Exec}
 use Rattle.engine_text.specs.declared.step.DueAction.{DueAction}
 use Rattle.engine_text.specs.declared.ticket.Asked.{Asked}
 use Rattle.machine_model.specs.State.{State, change_life, timer_of}
+use Rattle.machine_model.specs.Chain.{Died}
 use Rattle.machine_model.specs.EventTexts.{kill_event}
 use Rattle.machine_model.specs.Effects.Halt.{lesser, set_deadline}
 use Rattle.machine_model.specs.Effects.Meet.{meet_signal}
 use Rattle.machine_model.specs.Tickets.{begun}
-use Rattle.machine_effects.specs.Fit.{AreTimely, CanSettle}
+use Rattle.machine_effects.specs.Fit.{AreTimely, CanEndAs, CanEndBy, CanSettle, HasEnded}
 use Rattle.machine_effects.specs.Halts.{CanHalt, halted, mark_of}
 use Rattle.machine_effects.specs.Memory.{Memory, Room}
 use Rattle.machine_effects.specs.declared.halting.Halting.{Halting}
 use Rattle.machine_effects.specs.declared.kit.Kit.{Kit}
-use Rattle.machine_effects.specs.declared.marks.Mark.{Mark}
 use Rattle.machine_effects.proofs.DiedToldLemmas.{behind_event}
-use Rattle.machine_effects.proofs.SettleLemmas.{fewer, launch_alike, remove_alike, settle_renew, tell_still}
+use Rattle.machine_effects.proofs.SettleLemmas.{fewer, next_alike, remove_alike, tell_still}
 
 -- ---- a timer more
 
@@ -41,7 +43,7 @@ timer_more moment rank n ds =
 pub settle_timers : (n : ℕ) (kit : Kit) (room : Room) (ts : List DueAction) (s : State) → CanSettle n kit room s → length ts < room.timers → CanSettle n kit room (record s { timers = ts })
 settle_timers n kit room ts s h few = record {
   clock = h.clock;
-  launch = launch_alike n kit.script s (record s { timers = ts }) refl refl h.launch;
+  launch = next_alike n kit.script s (record s { timers = ts }) refl refl h.launch;
   remove = remove_alike n kit room s (record s { timers = ts }) (record { removed = refl; kept = refl; numbers = refl; outputs = refl }) h.remove;
   execs = h.execs;
   timers = few;
@@ -53,16 +55,18 @@ settle_timers n kit room ts s h few = record {
 pub set_as : (z : ℤ) (n : ℕ) (s t : State) → SFits w32 z → s ≡ t → set_deadline (to_z w32 (of_z w32 z)) n s ≡ set_deadline z n t
 set_as z n s t fits e = ap (λ k. set_deadline k n s) (to_z-of_z w32 z fits) ∙ ap (set_deadline z n) e
 
-settle_mark : (halting : Halting) (n : ℕ) (kit : Kit) (room : Room) (s : State) → CanSettle n kit room s → CanSettle n kit room (change_life n (mark_of halting) s)
-settle_mark Halting.Stop n kit room s h = settle_renew n kit room Mark.Stopping s h
-settle_mark Halting.Restart n kit room s h = settle_renew n kit room Mark.ToRestart s h
-
-pub settle_deadline : (z : ℤ) (halting : Halting) (n : ℕ) (kit : Kit) (room : Room) (s : State) → CanSettle n kit room s → length s.timers + 1 < room.timers
-    → CanSettle n kit room (set_deadline z n (change_life n (mark_of halting) s))
-settle_deadline (pos k) halting n kit room s h few =
+settle_deadline : (z : ℤ) (n : ℕ) (kit : Kit) (room : Room) (s : State) → CanSettle n kit room s → length s.timers + 1 < room.timers → CanSettle n kit room (set_deadline z n s)
+settle_deadline (pos k) n kit room s h few =
     let more = timer_more (lesser (timer_of 1 n s) (s.clock + 1000 * k)) 1 n s.timers in
-    settle_timers n kit room (with_timer (lesser (timer_of 1 n s) (s.clock + 1000 * k)) 1 n s.timers) (change_life n (mark_of halting) s) (settle_mark halting n kit room s h) (omega (arith, few, more))
-settle_deadline (negsuc k) halting n kit room s h few = settle_mark halting n kit room s h
+    settle_timers n kit room (with_timer (lesser (timer_of 1 n s) (s.clock + 1000 * k)) 1 n s.timers) s h (omega (arith, few, more))
+settle_deadline (negsuc k) n kit room s h few = h
+
+execs_deadline : (z : ℤ) (n : ℕ) (s : State) → (set_deadline z n s).execs ≡ s.execs
+execs_deadline (pos k) n s = refl
+execs_deadline (negsuc k) n s = refl
+
+pub few_execs : (z : ℤ) (halting : Halting) (n : ℕ) (room : Room) (s : State) → length s.execs ≤ room.scratch → length (set_deadline z n (change_life n (mark_of halting) s)).execs ≤ room.scratch
+few_execs z halting n room s few = subst (λ (l : List Exec). length l ≤ room.scratch) (sym (execs_deadline z n (change_life n (mark_of halting) s))) few
 
 pub timely_deadline : (z : ℤ) (halting : Halting) (n : ℕ) (s : State) → AreTimely s → AreTimely (set_deadline z n (change_life n (mark_of halting) s))
 timely_deadline (pos k) halting n s h = record { clock = h.clock; processes = h.processes }
@@ -78,30 +82,27 @@ pub halted_died : (halting : Halting) (z : ℤ) (signal n : ℕ) (s : State) →
 halted_died halting z signal n s =
     sym (behind_event (kill_event signal) n s (λ y. (meet_signal signal n (set_deadline z n (change_life n (mark_of halting) y))).died))
 
--- ---- behind the begin of a ticket
+-- what follows is ready where the signal ends the process
+pub end_halted : (z : ℤ) (halting : Halting) (signal n : ℕ) (kit : Kit) (room : Room) (s : State) → CanEndAs (mark_of halting) (halted halting z signal n) n kit room s → length s.timers + 1 < room.timers
+    → CanEndBy (meet_signal signal n) n kit room (set_deadline z n (change_life n (mark_of halting) s))
+end_halted z halting signal n kit room s h few ended =
+    settle_deadline z n kit room (change_life n (mark_of halting) s) (h (subst (λ (d : List Died). HasEnded d) (halted_died halting z signal n s) ended)) few
 
-pub settle_begun : (n : ℕ) (kit : Kit) (room : Room) (connection container : ℕ) (asked : Asked) (s : State) → CanSettle n kit room s → CanSettle n kit room (begun connection container asked s)
-settle_begun n kit room connection container asked s h = record {
-  clock = h.clock;
-  launch = launch_alike n kit.script s (begun connection container asked s) refl refl h.launch;
-  remove = remove_alike n kit room s (begun connection container asked s) (record { removed = refl; kept = refl; numbers = refl; outputs = refl }) h.remove;
-  execs = h.execs;
-  timers = h.timers;
-}
+-- ---- behind the begin of a ticket
 
 pub timely_begun : (connection container : ℕ) (asked : Asked) (s : State) → AreTimely s → AreTimely (begun connection container asked s)
 timely_begun connection container asked s h = record { clock = h.clock; processes = h.processes }
 
-can_as : (n : ℕ) (kit : Kit) (s : State) (room : Room) (spare : ℕ) (m : Memory) → m.state ≡ s → m.room ≡ room → m.spare ≡ spare → AreTimely s → CanSettle n kit room s → length s.timers + 1 < room.timers → 0 < spare → CanHalt n kit m
-can_as n kit s room spare m state is left timely fit few more = record {
-  timely = subst (λ (z : State). AreTimely z) (sym state) timely;
-  fit = subst (λ (r : Room). CanSettle n kit r m.state) (sym is) (subst (λ (z : State). CanSettle n kit room z) (sym state) fit);
-  deadline = subst (λ (r : Room). length m.state.timers + 1 < r.timers) (sym is) (subst (λ (z : State). length z.timers + 1 < room.timers) (sym state) few);
-  spare = subst (λ k. 0 < k) (sym left) more;
-}
-
 -- the run may be ended behind it too
-pub halt_begun : (n : ℕ) (kit : Kit) (connection container : ℕ) (asked : Asked) (m a : Memory) → a.state ≡ begun connection container asked m.state → a.room ≡ m.room → a.spare ≡ m.spare → CanHalt n kit m → CanHalt n kit a
-halt_begun n kit connection container asked m a state room spare h =
-    can_as n kit (begun connection container asked m.state) m.room m.spare a state room spare
-    (timely_begun connection container asked m.state h.timely) (settle_begun n kit m.room connection container asked m.state h.fit) h.deadline h.spare
+pub halt_begun : (halting : Halting) (z : ℤ) (signal n : ℕ) (kit : Kit) (connection container : ℕ) (asked : Asked) (m a : Memory) → a.state ≡ begun connection container asked m.state → a.room ≡ m.room → a.spare ≡ m.spare
+    → CanHalt halting z signal n kit (record m { state = begun connection container asked m.state }) → CanHalt halting z signal n kit a
+halt_begun halting z signal n kit connection container asked m a state room spare h =
+    let y : State = begun connection container asked m.state in
+    record {
+      timely = subst (λ (s : State). AreTimely s) (sym state) h.timely;
+      execs = subst (λ (r : Room). length a.state.execs ≤ r.scratch) (sym room) (subst (λ (s : State). length s.execs ≤ m.room.scratch) (sym state) h.execs);
+      end = subst (λ (r : Room). CanEndAs (mark_of halting) (halted halting z signal n) n kit r a.state) (sym room)
+          (subst (λ (s : State). CanEndAs (mark_of halting) (halted halting z signal n) n kit m.room s) (sym state) h.end);
+      deadline = subst (λ (r : Room). length a.state.timers + 1 < r.timers) (sym room) (subst (λ (s : State). length s.timers + 1 < m.room.timers) (sym state) h.deadline);
+      spare = subst (λ k. 0 < k) (sym spare) h.spare;
+    }

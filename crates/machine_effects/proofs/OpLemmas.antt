@@ -1,17 +1,19 @@
 -- What an op leaves for what follows it.
-use Rattle.std.proofs.Common.{◌≡◌, ℕ, ◌<◌, List, sym, ap, subst}
+use Rattle.std.proofs.Common.{◌≡◌, ℕ, ◌<◌, List, refl, sym, ap, subst}
 use Rattle.engine_text.specs.declared.container.Container.{Container}
 use Rattle.engine_text.specs.declared.log.OwnedLog.{OwnedLog}
 use Rattle.engine_text.specs.declared.owner.Owner.{Owner}
+use Rattle.engine_text.specs.declared.script.Effect.{Effect}
 use Rattle.proc_kernel.specs.Processes.{run_due}
+use Rattle.proc_kernel.specs.Tables.{effect_of, process_of}
 use Rattle.machine_model.specs.State.{State}
-use Rattle.machine_model.specs.Effects.Meet.{stepped}
+use Rattle.machine_model.specs.Effects.Meet.{by_effect, step_process, stepped}
 use Rattle.machine_effects.specs.Fit.{CanSettle}
 use Rattle.machine_effects.specs.Memory.{Memory, Room}
 use Rattle.machine_effects.specs.Ops.{HasRecordRoom, CanEnd}
 use Rattle.machine_effects.specs.Rooms.{FitsLog, FitsOutput}
 use Rattle.machine_effects.specs.declared.kit.Kit.{Kit}
-use Rattle.machine_effects.proofs.DiedLemmas.{settle_stepped}
+use Rattle.machine_effects.proofs.DiedLemmas.{end_stepped, main_ended}
 
 pub record_stepped : (o p : Owner) (m k : Memory) → k.state ≡ stepped run_due p m.state → k.logs ≡ m.logs → k.outputs ≡ m.outputs → HasRecordRoom o m → HasRecordRoom o k
 record_stepped (Owner.Container n) p m k state logs outputs h =
@@ -21,9 +23,16 @@ record_stepped (Owner.Exec n) p m k state logs outputs h =
     subst (λ (l : List ℕ). FitsOutput n k.state.outputs l) (sym outputs)
     (subst (λ (os : List OwnedLog). FitsOutput n os m.outputs) (sym (ap (λ (s : State). s.outputs) state)) h)
 
-pub end_stepped : (o p : Owner) (kit : Kit) (m k : Memory) → k.state ≡ stepped run_due p m.state → k.room ≡ m.room → 0 < k.spare → CanEnd o kit m → CanEnd o kit k
-end_stepped (Owner.Container n) p kit m k state room spare h = (
-  subst (λ (r : Room). CanSettle n kit r k.state) (sym room) (subst (λ (s : State). CanSettle n kit m.room s) (sym state) (settle_stepped n kit m.room run_due p m.state h.0)),
-  spare,
-)
-end_stepped (Owner.Exec n) p kit m k state room spare h = tt
+pub end_run : (o : Owner) (kit : Kit) (e : Effect) (m k : Memory) → k.state ≡ stepped run_due o m.state → e ≡ effect_of (run_due m.state.clock) (process_of o m.state.processes) → k.room ≡ m.room → 0 < k.spare
+    → CanEnd (step_process run_due) o kit m → CanEnd (by_effect e) o kit k
+end_run (Owner.Container n) kit e m k state effect room spare h = (end_stepped run_due n kit m.room k.room m.state k.state e state effect room h.0, spare)
+end_run (Owner.Exec n) kit e m k state effect room spare h = tt
+
+-- where it has ended, its end is ready
+pub end_known : (o : Owner) (kit : Kit) (code : ℕ) (e : Effect) (m : Memory) → e ≡ Effect.Ended code → CanEnd (by_effect e) o kit m → CanEnd (by_effect (Effect.Ended code)) o kit m
+end_known o kit code e m is h = subst (λ (x : Effect). CanEnd (by_effect x) o kit m) is h
+
+pub end_main_known : (o : Owner) (n : ℕ) (kit : Kit) (code : ℕ) (m : Memory) → o ≡ Owner.Container n → CanEnd (by_effect (Effect.Ended code)) o kit m → CanSettle n kit m.room m.state × (0 < m.spare)
+end_main_known o n kit code m is h =
+    let at : CanEnd (by_effect (Effect.Ended code)) (Owner.Container n) kit m = subst (λ (x : Owner). CanEnd (by_effect (Effect.Ended code)) x kit m) is h in
+    (at.0 (main_ended (Effect.Ended code) code n m.state refl), at.1)

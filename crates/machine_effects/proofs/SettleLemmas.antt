@@ -29,7 +29,7 @@ use Rattle.machine_model.specs.Effects.Launch.{launch, launch_by_call, launch_pr
 use Rattle.machine_model.proofs.ChainLemmas.{Keeps, keeps_each}
 use Rattle.machine_effects.specs.Memory.{Room}
 use Rattle.machine_effects.specs.Marks.{marked, renewed}
-use Rattle.machine_effects.specs.Fit.{AreFew, CanLaunch, CanRemove, CanSettle, exec_numbers, outputs_of}
+use Rattle.machine_effects.specs.Fit.{AreFew, CanLaunch, CanLaunchNext, CanRemove, CanSettle, HasGoal, exec_numbers, next_script, outputs_of}
 use Rattle.machine_effects.specs.Outputs.{is_output_of}
 use Rattle.machine_effects.specs.declared.kit.Kit.{Kit}
 use Rattle.machine_effects.specs.Effects.EndMain.{begun, followed, goal_effect, concluded}
@@ -98,6 +98,22 @@ named_by f ws st script (Some d) named c e =
     ap (λ w. program_of w (d.life.starts + 1)) (sym (ws d.life)) ∙ ap (λ k. program_of (f d.life).words (k + 1)) (sym (st d.life)) in
     first ∙ (second ∙ ap (λ (x : Container). program_of x.life.words (x.life.starts + 1)) is)
 
+next_kept : (g : Goal) (f : Life → Life) (d : Container) → (f d.life).words ≡ d.life.words → (f d.life).starts ≡ d.life.starts → next_script g d ≡ next_script g (renewed f d)
+next_kept Goal.Remove f d ws st = refl
+next_kept Goal.Stop f d ws st = refl
+next_kept Goal.Restart f d ws st = ap (λ w. program_of w (d.life.starts + 1)) (sym ws) ∙ ap (λ k. program_of (f d.life).words (k + 1)) (sym st)
+next_kept Goal.None f d ws st = refl
+
+next_by : (f : Life → Life) → ((l : Life) → (f l).words ≡ l.words) → ((l : Life) → (f l).starts ≡ l.starts) → ((l : Life) → (f l).goal ≡ l.goal) → (script : Option Program) (o : Option Container) → ((c : Container) → o ≡ Some c → script ≡ next_script c.life.goal c)
+    → (c : Container) → option_map (renewed f) o ≡ Some c → script ≡ next_script c.life.goal c
+next_by f ws st gl script None named c e = absurd (cc)
+next_by f ws st gl script (Some d) named c e =
+    let is : renewed f d ≡ c = cc in
+    let first : script ≡ next_script d.life.goal d = named d refl in
+    let second : next_script d.life.goal d ≡ next_script (f d.life).goal (renewed f d) =
+    next_kept d.life.goal f d (ws d.life) (st d.life) ∙ ap (λ g. next_script g (renewed f d)) (sym (gl d.life)) in
+    first ∙ (second ∙ ap (λ (x : Container). next_script x.life.goal x) is)
+
 -- ---- what a removal finds
 
 -- two states with the same execs by number, the same outputs by owner, and as many removals
@@ -119,6 +135,13 @@ remove_alike n kit room s t a h = record {
 -- the same containers, processes apart
 pub launch_alike : (n : ℕ) (script : Option Program) (s t : State) → t.containers ≡ s.containers → t.next_pid ≡ s.next_pid → CanLaunch n script s → CanLaunch n script t
 launch_alike n script s t cs pid h = record {
+  few = subst (λ (l : List Container). AreFew l) (sym cs) h.few;
+  pid = subst (λ k. k < 2 ^ 63) (sym pid) h.pid;
+  named = λ c at. h.named c (ap (find (λ (d : Container). d.number == n)) (sym cs) ∙ at);
+}
+
+pub next_alike : (n : ℕ) (script : Option Program) (s t : State) → t.containers ≡ s.containers → t.next_pid ≡ s.next_pid → CanLaunchNext n script s → CanLaunchNext n script t
+next_alike n script s t cs pid h = record {
   few = subst (λ (l : List Container). AreFew l) (sym cs) h.few;
   pid = subst (λ k. k < 2 ^ 63) (sym pid) h.pid;
   named = λ c at. h.named c (ap (find (λ (d : Container). d.number == n)) (sym cs) ∙ at);
@@ -167,11 +190,18 @@ alike_exec_ended n k code s =
       outputs = ap length (filter_same_test (is_output_of n (change_exec k (exec_ended code) s).execs) (is_output_of n s.execs) (λ o. is_output_by n s.execs (change_exec k (exec_ended code) s).execs o names) s.outputs);
     }
 
+few_changed : (n : ℕ) (f : Life → Life) → ((l : Life) → (f l).starts ≡ l.starts) → (s : State) → AreFew s.containers → AreFew (change_life n f s).containers
+few_changed n f st s few =
+    All_updated (λ (c : Container). c.life.starts < 2 ^ 63) (λ (c : Container). c.life.starts < 2 ^ 63) (λ (c : Container). c.number == n) (renewed f)
+    (λ c p. subst (λ k. k < 2 ^ 63) (sym (st c.life)) p) (λ c p. p) s.containers few
+
+pub few_renew : (n : ℕ) (m : Mark) (s : State) → AreFew s.containers → AreFew (change_life n (marked m) s).containers
+few_renew n m s few = few_changed n (marked m) (mark_starts m) s few
+
 -- a change of the life that leaves its words and its starts
 pub launch_changed : (n : ℕ) (script : Option Program) (f : Life → Life) → ((l : Life) → (f l).words ≡ l.words) → ((l : Life) → (f l).starts ≡ l.starts) → (s : State) → CanLaunch n script s → CanLaunch n script (change_life n f s)
 launch_changed n script f ws st s h = record {
-  few = All_updated (λ (c : Container). c.life.starts < 2 ^ 63) (λ (c : Container). c.life.starts < 2 ^ 63) (λ (c : Container). c.number == n) (renewed f)
-      (λ c p. subst (λ k. k < 2 ^ 63) (sym (st c.life)) p) (λ c p. p) s.containers h.few;
+  few = few_changed n f st s h.few;
   pid = h.pid;
   named = λ c e. named_by f ws st script (container_numbered n s) h.named c (sym (found_updated (λ (d : Container). d.number == n) (renewed f) s.containers (λ d. refl)) ∙ e);
 }
@@ -179,11 +209,19 @@ launch_changed n script f ws st s h = record {
 pub launch_renew : (n : ℕ) (script : Option Program) (m : Mark) (s : State) → CanLaunch n script s → CanLaunch n script (change_life n (marked m) s)
 launch_renew n script m s h = launch_changed n script (marked m) (mark_words m) (mark_starts m) s h
 
--- a mark of the container
-pub settle_renew : (n : ℕ) (kit : Kit) (room : Room) (m : Mark) (s : State) → CanSettle n kit room s → CanSettle n kit room (change_life n (marked m) s)
-settle_renew n kit room m s h = record {
+-- so does one that leaves its goal too
+next_renew : (n : ℕ) (script : Option Program) (m : Mark) → ((l : Life) → (marked m l).goal ≡ l.goal) → (s : State) → CanLaunchNext n script s → CanLaunchNext n script (change_life n (marked m) s)
+next_renew n script m gl s h = record {
+  few = few_renew n m s h.few;
+  pid = h.pid;
+  named = λ c e. next_by (marked m) (mark_words m) (mark_starts m) gl script (container_numbered n s) h.named c (sym (found_updated (λ (d : Container). d.number == n) (renewed (marked m)) s.containers (λ d. refl)) ∙ e);
+}
+
+-- a mark of the container that leaves its goal
+pub settle_renew : (n : ℕ) (kit : Kit) (room : Room) (m : Mark) → ((l : Life) → (marked m l).goal ≡ l.goal) → (s : State) → CanSettle n kit room s → CanSettle n kit room (change_life n (marked m) s)
+settle_renew n kit room m gl s h = record {
   clock = h.clock;
-  launch = launch_renew n kit.script m s h.launch;
+  launch = next_renew n kit.script m gl s h.launch;
   remove = remove_alike n kit room s (change_life n (marked m) s) (record { removed = refl; kept = refl; numbers = refl; outputs = refl }) h.remove;
   execs = h.execs;
   timers = h.timers;
@@ -194,7 +232,7 @@ settle_exec n kit room k code s h =
     let t : State = change_exec k (exec_ended code) (drop_process (Owner.Exec k) s) in
     record {
       clock = h.clock;
-      launch = launch_alike n kit.script s t refl refl h.launch;
+      launch = next_alike n kit.script s t refl refl h.launch;
       remove = remove_alike n kit room s t (alike_exec_ended n k code s) h.remove;
       execs = subst (λ j. j ≤ room.scratch) (sym (length_updated (λ (x : Exec). x.number == k) (exec_ended code) s.execs)) h.execs;
       timers = h.timers;
@@ -217,7 +255,7 @@ settle_end_execs n kit room s h = keeps_each (CanSettle n kit room) _ (λ (x : E
 pub settle_processes : (n : ℕ) (kit : Kit) (room : Room) (es : List Entry) (s : State) → CanSettle n kit room s → CanSettle n kit room (record s { processes = es })
 settle_processes n kit room es s h = record {
   clock = h.clock;
-  launch = launch_alike n kit.script s (record s { processes = es }) refl refl h.launch;
+  launch = next_alike n kit.script s (record s { processes = es }) refl refl h.launch;
   remove = remove_alike n kit room s (record s { processes = es }) (record { removed = refl; kept = refl; numbers = refl; outputs = refl }) h.remove;
   execs = h.execs;
   timers = h.timers;
@@ -225,7 +263,7 @@ settle_processes n kit room es s h = record {
 
 pub settle_die : (n : ℕ) (kit : Kit) (room : Room) (code : ℕ) → Keeps (CanSettle n kit room) (die code n)
 settle_die n kit room code s h =
-    settle_renew n kit room (Mark.Ended code s.clock) (drop_process (Owner.Container n) s)
+    settle_renew n kit room (Mark.Ended code s.clock) (λ l. refl) (drop_process (Owner.Container n) s)
     (settle_processes n kit room (drop_process (Owner.Container n) s).processes s h)
 
 fewer_either : (b : Bool) (x : DueAction) (xs ys : List DueAction) → length ys ≤ length xs → length (if b then xs else x ∷ ys) ≤ suc (length xs)
@@ -239,7 +277,7 @@ fewer p (x ∷ xs) = fewer_either (p x) x xs (remove_first p xs) (fewer p xs)
 pub settle_clear : (n : ℕ) (kit : Kit) (room : Room) (rank k : ℕ) (s : State) → CanSettle n kit room s → CanSettle n kit room (clear_timer rank k s)
 settle_clear n kit room rank k s h = record {
   clock = h.clock;
-  launch = launch_alike n kit.script s (clear_timer rank k s) refl refl h.launch;
+  launch = next_alike n kit.script s (clear_timer rank k s) refl refl h.launch;
   remove = remove_alike n kit room s (clear_timer rank k s) (record { removed = refl; kept = refl; numbers = refl; outputs = refl }) h.remove;
   execs = h.execs;
   timers = omega (arith, h.timers, fewer (is_timer rank k) s.timers);
@@ -253,6 +291,17 @@ settle_ended n kit room code s a b d h first second third =
     (subst P (sym second) (settle_die n kit room code a (subst P (sym first) (settle_end_execs n kit room s h))))))
 
 -- ---- launch
+
+-- where the goal is a restart, the script of the end is that of a launch
+pub launch_next : (n : ℕ) (script : Option Program) (s : State) → HasGoal Goal.Restart n s → CanLaunchNext n script s → CanLaunch n script s
+launch_next n script s goal h = record { few = h.few; pid = h.pid; named = λ c at. h.named c at ∙ ap (λ g. next_script g c) (goal c at) }
+
+-- the goal of the container that was found
+pub has_goal : (n : ℕ) (s : State) (c : Container) → container_numbered n s ≡ Some c → HasGoal c.life.goal n s
+has_goal n s c found d at =
+    let same : Some c ≡ Some d = sym found ∙ at in
+    let is : c ≡ d = cc in
+    ap (λ (x : Container). x.life.goal) (sym is)
 
 none_of : (o : Option Container) (s : State) (c : Container) → o ≡ Some c → program_of c.life.words (c.life.starts + 1) ≡ None
     → (with_found o (λ (c : Container). launch_program (program_of c.life.words (c.life.starts + 1)) c) s).state ≡ s

@@ -3,6 +3,8 @@ use Rattle.std.specs.Prelude.{◌≡◌, ℕ, ◌+◌, ◌<◌, ◌≤◌, ◌^�
 use Rattle.std.specs.List.{AllByRecursion}
 use Rattle.engine_text.specs.Scripts.{Program}
 use Rattle.engine_text.specs.declared.container.Container.{Container}
+use Rattle.engine_text.specs.declared.container.Goal.{Goal}
+use Rattle.engine_text.specs.declared.container.Life.{Life}
 use Rattle.engine_text.specs.declared.log.OwnedLog.{OwnedLog}
 use Rattle.engine_text.specs.declared.owner.Owner.TheVariants.{Exec as OfExec}
 use Rattle.engine_text.specs.declared.script.Effect.{Effect as ProcessEffect}
@@ -10,7 +12,7 @@ use Rattle.engine_text.specs.declared.script.Effect.TheVariants.{Lives, Wrote, E
 use Rattle.proc_kernel.specs.Catalogue.{program_of}
 use Rattle.proc_kernel.specs.Processes.{thaw}
 use Rattle.proc_kernel.specs.Times.{IsTimely}
-use Rattle.machine_model.specs.State.{State, container_numbered, execs_of}
+use Rattle.machine_model.specs.State.{State, change_life, container_numbered, execs_of}
 use Rattle.machine_model.specs.Chain.{Effect, Died}
 use Rattle.machine_model.specs.Calls.Pause.{freeze_process}
 use Rattle.machine_model.specs.Effects.EndMain.{end_exec}
@@ -73,6 +75,27 @@ pub record CanLaunch (n : ℕ) (script : Option Program) (s : State) : Type 0 wh
   pub pid : s.next_pid < 2 ^ 63
   pub named : IsScriptOf n script s
 
+-- The script that the end of the container's run wants: that of its words at its next start where its goal is a restart, else none.
+abbrev pub next_script : Goal → Container → Option Program
+next_script Goal.Remove c = None
+next_script Goal.Stop c = None
+next_script Goal.Restart c = program_of c.life.words (c.life.starts + 1)
+next_script Goal.None c = None
+
+-- The script is the one that the end of the container's run wants.
+abbrev pub IsNextScript : ℕ → Option Program → State → Type 0
+IsNextScript n script s = (c : Container) → container_numbered n s ≡ Some c → script ≡ next_script c.life.goal c
+
+-- The container may be launched with this script where the end of its run wants that.
+pub record CanLaunchNext (n : ℕ) (script : Option Program) (s : State) : Type 0 where
+  pub few : AreFew s.containers
+  pub pid : s.next_pid < 2 ^ 63
+  pub named : IsNextScript n script s
+
+-- The container has that goal.
+abbrev pub HasGoal : Goal → ℕ → State → Type 0
+HasGoal goal n s = (c : Container) → container_numbered n s ≡ Some c → c.life.goal ≡ goal
+
 -- The container may be removed, the kit having what is kept of it.
 pub record CanRemove (n : ℕ) (kit : Kit) (room : Room) (s : State) : Type 0 where
   pub removed : length s.removed < room.removed
@@ -84,10 +107,23 @@ pub record CanRemove (n : ℕ) (kit : Kit) (room : Room) (s : State) : Type 0 wh
 -- The container's main process may end, and what follows has its room.
 pub record CanSettle (n : ℕ) (kit : Kit) (room : Room) (s : State) : Type 0 where
   pub clock : s.clock ≤ greatest_moment
-  pub launch : CanLaunch n kit.script s
+  pub launch : CanLaunchNext n kit.script s
   pub remove : CanRemove n kit room s
   pub execs : length s.execs ≤ room.scratch
   pub timers : length s.timers < room.timers
+
+-- A main process has ended.
+abbrev pub HasEnded : List Died → Type 0
+HasEnded [] = ⊥
+HasEnded (d ∷ ds) = ⊤
+
+-- Where the effect ends the container's main process, the kit has what follows.
+abbrev pub CanEndBy : (State → Effect) → ℕ → Kit → Room → State → Type 0
+CanEndBy e n kit room s = HasEnded (e s).died → CanSettle n kit room s
+
+-- The same with the life that the effect gives the container before that end.
+abbrev pub CanEndAs : (Life → Life) → (State → Effect) → ℕ → Kit → Room → State → Type 0
+CanEndAs mark e n kit room s = HasEnded (e s).died → CanSettle n kit room (change_life n mark s)
 
 -- Whose main process ended with which code.
 abbrev pub died_of : ℕ → Option ℕ → List Died

@@ -1,5 +1,5 @@
 -- own: a stop or a restart of a container that lives, by its number, with the seconds and the signal that are used.
-use Rattle.std.specs.Prelude.{ℕ, ℤ, ◌+◌, ◌<◌, length}
+use Rattle.std.specs.Prelude.{ℕ, ℤ, ◌+◌, ◌<◌, ◌≤◌, length}
 use Rattle.engine_text.specs.declared.container.Goal.{Goal}
 use Rattle.engine_text.specs.declared.container.Life.{Life}
 use Rattle.engine_text.specs.declared.ticket.Asked.{Asked}
@@ -10,7 +10,7 @@ use Rattle.machine_model.specs.Calls.Stop.{stopping}
 use Rattle.machine_model.specs.EventTexts.{kill_event}
 use Rattle.machine_model.specs.Effects.Halt.{set_deadline}
 use Rattle.machine_model.specs.Effects.Meet.{meet_signal}
-use Rattle.machine_effects.specs.Fit.{AreTimely, CanSettle}
+use Rattle.machine_effects.specs.Fit.{AreTimely, CanEndAs}
 use Rattle.machine_effects.specs.Memory.{Memory, HasRoom}
 use Rattle.machine_effects.specs.declared.kit.Kit.{Kit}
 use Rattle.machine_effects.specs.declared.halting.Halting.{Halting}
@@ -37,10 +37,11 @@ halted halting seconds signal n =
     (and_then (renew n (mark_of halting))
     (and_then (change (set_deadline seconds n)) (meet_signal signal n)))
 
--- The run may be ended, and there is room for a deadline before its end.
-pub record CanHalt (n : ℕ) (kit : Kit) (m : Memory) : Type 0 where
+-- The run may be ended, and there is room for a deadline before its end; with the marks of the call the kit has what follows.
+pub record CanHalt (halting : Halting) (seconds : ℤ) (signal n : ℕ) (kit : Kit) (m : Memory) : Type 0 where
   pub timely : AreTimely m.state
-  pub fit : CanSettle n kit m.room m.state
+  pub execs : length m.state.execs ≤ m.room.scratch
+  pub end : CanEndAs (mark_of halting) (halted halting seconds signal n) n kit m.room m.state
   pub deadline : length m.state.timers + 1 < m.room.timers
   pub spare : 0 < m.spare
 

@@ -4,7 +4,8 @@ use Rattle.engine_text.specs.declared.owner.Owner.{Owner}
 use Rattle.engine_text.specs.declared.owner.Owner.TheVariants.{Container as OfContainer, Exec as OfExec}
 use Rattle.proc_kernel.specs.Tables.{length_at, process_of}
 use Rattle.machine_model.specs.State.{State, is_live}
-use Rattle.machine_effects.specs.Fit.{CanSettle}
+use Rattle.machine_model.specs.Chain.{Effect}
+use Rattle.machine_effects.specs.Fit.{CanEndBy}
 use Rattle.machine_effects.specs.Memory.{Memory}
 use Rattle.machine_effects.specs.Rooms.{FitsLog, FitsOutput}
 use Rattle.machine_effects.specs.declared.kit.Kit.{Kit}
@@ -14,10 +15,10 @@ abbrev pub HasRecordRoom : Owner → Memory → Type 0
 HasRecordRoom (OfContainer n) m = FitsLog n m.state.containers m.logs
 HasRecordRoom (OfExec n) m = FitsOutput n m.state.outputs m.outputs
 
--- The owner's process may end.
-abbrev pub CanEnd : Owner → Kit → Memory → Type 0
-CanEnd (OfContainer n) kit m = CanSettle n kit m.room m.state × (0 < m.spare)
-CanEnd (OfExec n) kit m = ⊤
+-- Where the effect ends the owner's process, what follows is ready.
+abbrev pub CanEnd : (Owner → State → Effect) → Owner → Kit → Memory → Type 0
+CanEnd e (OfContainer n) kit m = CanEndBy (e (OfContainer n)) n kit m.room m.state × (0 < m.spare)
+CanEnd e (OfExec n) kit m = ⊤
 
 -- Of the container and the exec with that number the one whose process lives.
 abbrev pub owner_at : ℕ → State → Owner

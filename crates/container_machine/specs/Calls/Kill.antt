@@ -1,12 +1,12 @@
 -- own: what a kill does once its container is found.
-use Rattle.std.specs.Prelude.{ℕ, ◌<◌, Bool}
+use Rattle.std.specs.Prelude.{ℕ, ◌<◌, ◌≤◌, Bool, length}
 use Rattle.engine_text.specs.declared.signal.Signal.{Signal}
 use Rattle.machine_model.specs.State.{State}
 use Rattle.machine_model.specs.Chain.{Effect, and_then, tell_of}
 use Rattle.machine_model.specs.EventTexts.{kill_event}
 use Rattle.machine_model.specs.Calls.Kill.{deliver}
 use Rattle.machine_model.specs.Effects.Cancel.{cancel_restart}
-use Rattle.machine_effects.specs.Fit.{AreTimely, CanSettle}
+use Rattle.machine_effects.specs.Fit.{AreTimely, CanEndBy}
 use Rattle.machine_effects.specs.Memory.{Memory}
 use Rattle.machine_effects.specs.declared.kit.Kit.{Kit}
 
@@ -19,8 +19,9 @@ abbrev pub kill_restarting_effect : ℕ → Signal → State → Effect
 kill_restarting_effect n sent = and_then (tell_of (kill_event sent.number) n) (cancel_restart n)
 
 -- What it needs.
-pub record CanKill (n : ℕ) (sent : Signal) (kit : Kit) (m : Memory) : Type 0 where
+pub record CanKill (n : ℕ) (sent : Signal) (last : Bool) (kit : Kit) (m : Memory) : Type 0 where
   pub signal : sent.number < 32
   pub timely : AreTimely m.state
-  pub fit : CanSettle n kit m.room m.state
+  pub room : length m.state.execs ≤ m.room.scratch
+  pub end : CanEndBy (deliver last sent.number n) n kit m.room m.state
   pub spare : 0 < m.spare

@@ -23,7 +23,7 @@ abbrev pub stop_restarting_effect : ℕ → State → Effect
 stop_restarting_effect n = and_then (cancel_restart n) (tell_of (plain_event Action.Stop) n)
 
 -- What the first needs.
-pub record CanStop (n : ℕ) (sent : Signal) (kit : Kit) (m : Memory) : Type 0 where
+pub record CanStop (connection n : ℕ) (halting : Halting) (sent : Signal) (seconds : ℤ) (kit : Kit) (m : Memory) : Type 0 where
   pub signal : sent.number < 32
   pub begin : CanBegin m
-  pub halt : CanHalt n kit m
+  pub halt : CanHalt halting seconds sent.number n kit (record m { state = begun connection n (asked_of halting) m.state })

@@ -13,9 +13,9 @@ use crate::lookup::{Looked, look};
 use crate::plan::Plan;
 use crate::prepared::Prepared;
 use crate::refusals::{being_removed, dead, not_running, restarting};
+use crate::run_ends::end_kit;
 use engine_text::{NoMemory, Reply, Signal, Status, Text};
 use machine_effects::{Death, Held, Kit, Tables, add, kill_event};
-use proc_kernel::program;
 use std::alloc::Global;
 
 /// The signal is delivered to a container that runs or is paused.
@@ -26,7 +26,7 @@ pub fn perform(
     last: bool,
     kit: Kit,
 ) -> Option<Death>
-    requires { CanKill number sent kit tables.old }
+    requires { CanKill number sent last kit tables.old }
     ensures state { tables.new.state ≡ (kill_effect number sent last tables.old.state).state }
     ensures died { deaths result ≡ (kill_effect number sent last tables.old.state).died }
     ensures room { tables.new.room ≡ tables.old.room }
@@ -69,14 +69,13 @@ fn prepare_running(
 {
     let number = h.container.number;
     let last = is_final(sent, h);
-    let script = program(alloc, &h.container.life.words, h.container.life.starts + 1)?;
     let code = tables.signal_code(number, sent, last);
+    let kit = end_kit(tables, alloc, code, h.container.life.goal, number, h)?;
     let mut events = Vec::new(alloc);
     let event = kill_event(alloc, sent.number, &h.container, moment)?;
     add(&mut events, event)?;
-    tables.tell_delivered(alloc, last, code, h, &script, moment, &mut events)?;
+    tables.tell_delivered(alloc, last, code, h, &kit.script, moment, &mut events)?;
     let body = Text::new(alloc);
-    let kit = tables.kit(alloc, number, script)?;
     Ok(Prepared {
         moment,
         reply: Reply::Answer { status: 204, body },

@@ -20,9 +20,9 @@ use crate::lookup::{Looked, look};
 use crate::plan::Plan;
 use crate::prepared::Prepared;
 use crate::refusals::{being_removed, running_removal};
+use crate::run_ends::end_kit;
 use engine_text::{Action, Asked, Goal, NoMemory, Owner, Reply, Signal, Status, Text};
 use machine_effects::{Death, Held, Kit, Tables, add, plain_event};
-use proc_kernel::program;
 use std::alloc::Global;
 
 /// The container is gone.
@@ -48,7 +48,7 @@ pub fn perform_given_up(tables: &mut Tables, number: u64, kit: Kit)
 
 /// A ticket is given, and the container is to be removed.
 pub fn perform_forced(tables: &mut Tables, conn: u32, number: u64, kit: Kit) -> Option<Death>
-    requires { CanForce number kit tables.old }
+    requires { CanForce conn number kit tables.old }
     ensures state { tables.new.state ≡ (force_effect conn number tables.old.state).state }
     ensures died { deaths result ≡ (force_effect conn number tables.old.state).died }
     ensures room { tables.new.room ≡ tables.old.room }
@@ -140,8 +140,8 @@ fn prepare_forced(
         (spec.kill_to_remove h.now.container.number))) }
 {
     let number = h.container.number;
-    let script = program(alloc, &h.container.life.words, h.container.life.starts + 1)?;
     let code = tables.signal_code(number, Signal { number: 9 }, true);
+    let kit = end_kit(tables, alloc, code, Goal::Remove, number, h)?;
     let mut events = Vec::new(alloc);
     tables.tell_kill(
         alloc,
@@ -149,11 +149,10 @@ fn prepare_forced(
         code,
         Goal::Remove,
         h,
-        &script,
+        &kit.script,
         moment,
         &mut events,
     )?;
-    let kit = tables.kit(alloc, number, script)?;
     let ticket = tables.next_ticket();
     Ok(Prepared {
         moment,

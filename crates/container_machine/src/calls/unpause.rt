@@ -17,9 +17,9 @@ use crate::lookup::{Looked, look};
 use crate::plan::Plan;
 use crate::prepared::Prepared;
 use crate::refusals::not_paused;
+use crate::run_ends::end_kit;
 use engine_text::{NoMemory, Reply, Status, Text};
 use machine_effects::{Death, Held, Kit, Tables};
-use proc_kernel::program;
 use std::alloc::Global;
 
 /// The container goes on.
@@ -51,12 +51,11 @@ fn prepare_paused(
         (λ p. Makes p moment tables.now.state (done (thaw_container h.now.container.number))) }
 {
     let number = h.container.number;
-    let script = program(alloc, &h.container.life.words, h.container.life.starts + 1)?;
     let code = tables.woken_code(number);
+    let kit = end_kit(tables, alloc, code, h.container.life.goal, number, h)?;
     let mut events = Vec::new(alloc);
-    tables.tell_unpause(alloc, code, h, &script, moment, &mut events)?;
+    tables.tell_unpause(alloc, code, h, &kit.script, moment, &mut events)?;
     let body = Text::new(alloc);
-    let kit = tables.kit(alloc, number, script)?;
     Ok(Prepared {
         moment,
         reply: Reply::Answer { status: 204, body },

@@ -1,7 +1,7 @@
 // The signal of a kill.
-ghost use Rattle.std.specs.Prelude.{◌≡◌, ◌<◌};
+ghost use Rattle.std.specs.Prelude.{◌≡◌, ◌<◌, ◌≤◌, length};
 ghost use Rattle.machine_model.specs.Calls.Kill.{deliver};
-ghost use Rattle.machine_effects.specs.Fit.{AreTimely, CanSettle, died_of};
+ghost use Rattle.machine_effects.specs.Fit.{AreTimely, CanEndBy, died_of};
 
 use crate::kit::Kit;
 use crate::marks::Mark;
@@ -13,7 +13,9 @@ impl Tables {
     pub fn deliver(&mut self, last: bool, sent: Signal, number: u64, kit: Kit) -> Option<u8>
         requires signal { sent.number < 32 }
         requires timely { AreTimely self.old.state }
-        requires fit { CanSettle number kit self.old.room self.old.state }
+        requires room { length self.old.state.execs ≤ self.old.room.scratch }
+        requires end { CanEndBy (deliver last sent.number number) number kit self.old.room
+            self.old.state }
         requires spare { 0 < self.old.spare }
         ensures state { self.new.state ≡ (deliver last sent.number number self.old.state).state }
         ensures died { died_of number result

@@ -1,9 +1,9 @@
 // What deadlines and timers do.
-ghost use Rattle.std.specs.Prelude.{◌≡◌, ◌<◌};
+ghost use Rattle.std.specs.Prelude.{◌≡◌, ◌<◌, ◌≤◌, length};
 ghost use Rattle.machine_model.specs.Due.{stop_deadline, removal_deadline, restart_timer, restarted};
 ghost use Rattle.machine_model.specs.State.{change_life};
 ghost use Rattle.machine_effects.specs.Deadlines.{HasId, CanRestart, timed_out_at};
-ghost use Rattle.machine_effects.specs.Fit.{AreTimely, CanLaunch, CanSettle, died_of};
+ghost use Rattle.machine_effects.specs.Fit.{AreTimely, CanLaunch, CanEndBy, died_of};
 
 use crate::held::Fate;
 use crate::kit::Kit;
@@ -15,7 +15,8 @@ impl Tables {
     /// The stop deadline has come: SIGKILL is met.
     pub fn stop_deadline(&mut self, number: u64, kit: Kit) -> Option<u8>
         requires timely { AreTimely self.old.state }
-        requires fit { CanSettle number kit self.old.room self.old.state }
+        requires room { length self.old.state.execs ≤ self.old.room.scratch }
+        requires end { CanEndBy (stop_deadline number) number kit self.old.room self.old.state }
         requires spare { 0 < self.old.spare }
         ensures state { self.new.state ≡ (stop_deadline number self.old.state).state }
         ensures died { died_of number result ≡ (stop_deadline number self.old.state).died }

@@ -4,7 +4,7 @@ ghost use Rattle.machine_model.specs.Effects.EndMain.{end_exec, end_execs, die, 
 ghost use Rattle.machine_model.specs.History.{greatest_moment};
 ghost use Rattle.restart_policy.specs.declared.decision.Decision.TheVariants.{Again};
 ghost use Rattle.machine_effects.specs.Effects.EndMain.{followed, goal_effect, concluded};
-ghost use Rattle.machine_effects.specs.Fit.{CanSettle};
+ghost use Rattle.machine_effects.specs.Fit.{CanSettle, HasGoal};
 
 use crate::kit::Kit;
 use crate::lives;
@@ -94,6 +94,7 @@ impl Tables {
     // What the goal wants.
     fn by_goal(&mut self, goal: Goal, number: u64, kit: Kit)
         requires fit { CanSettle number kit self.old.room self.old.state }
+        requires goal { HasGoal goal number self.old.state }
         requires spare { 0 < self.old.spare }
         ensures state { self.new.state ≡ (goal_effect goal number self.old.state).state }
         ensures room { self.new.room ≡ self.old.room }

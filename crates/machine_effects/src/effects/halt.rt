@@ -49,7 +49,7 @@ impl Tables {
         kit: Kit,
     ) -> Option<u8>
         requires signal { sent.number < 32 }
-        requires may { CanHalt number kit self.old }
+        requires may { CanHalt halting seconds sent.number number kit self.old }
         ensures state { self.new.state
             ≡ (halted halting seconds sent.number number self.old.state).state }
         ensures died { died_of number result

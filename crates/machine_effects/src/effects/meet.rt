@@ -4,7 +4,7 @@ ghost use Rattle.engine_text.specs.declared.owner.Owner as owners;
 ghost use Rattle.proc_kernel.specs.Processes.{thaw};
 ghost use Rattle.machine_model.specs.Chain.{in_order};
 ghost use Rattle.machine_model.specs.Effects.Meet.{step_process, by_effect, thaw_execs, send, woken, wake_parts, thaw_container, meet_signal};
-ghost use Rattle.machine_effects.specs.Fit.{AreTimely, IsQuiet, CanSettle, died_of};
+ghost use Rattle.machine_effects.specs.Fit.{AreTimely, IsQuiet, CanEndBy, died_of};
 
 use crate::kit::Kit;
 use crate::marks::Mark;
@@ -61,7 +61,8 @@ impl Tables {
     // What a step of a main process does beyond the process, which wrote nothing; its code where it ended.
     fn main_effect(&mut self, effect: Effect, number: u64, kit: Kit) -> Option<u8>
         requires quiet { IsQuiet effect }
-        requires fit { CanSettle number kit self.old.room self.old.state }
+        requires end { CanEndBy (by_effect effect (owners.Owner.Container number)) number kit
+            self.old.room self.old.state }
         requires spare { 0 < self.old.spare }
         ensures state { self.new.state
             ≡ (by_effect effect (owners.Owner.Container number) self.old.state).state }
@@ -83,7 +84,8 @@ impl Tables {
     pub fn send(&mut self, sent: Signal, thaws: bool, number: u64, kit: Kit) -> Option<u8>
         requires signal { sent.number < 32 }
         requires timely { AreTimely self.old.state }
-        requires fit { CanSettle number kit self.old.room self.old.state }
+        requires end { CanEndBy (send thaws sent.number number) number kit self.old.room
+            self.old.state }
         requires spare { 0 < self.old.spare }
         ensures state { self.new.state ≡ (send thaws sent.number number self.old.state).state }
         ensures died { died_of number result ≡ (send thaws sent.number number self.old.state).died }
@@ -129,7 +131,8 @@ impl Tables {
     // The container's main process goes on.
     fn thaw_main(&mut self, number: u64, kit: Kit) -> Option<u8>
         requires timely { AreTimely self.old.state }
-        requires fit { CanSettle number kit self.old.room self.old.state }
+        requires end { CanEndBy (step_process thaw (owners.Owner.Container number)) number kit
+            self.old.room self.old.state }
         requires spare { 0 < self.old.spare }
         ensures state { self.new.state
             ≡ (step_process thaw (owners.Owner.Container number) self.old.state).state }
@@ -144,7 +147,8 @@ impl Tables {
     /// The end of a pause; the code of the main process, if what waited for it ended it.
     pub fn thaw_container(&mut self, number: u64, kit: Kit) -> Option<u8>
         requires timely { AreTimely self.old.state }
-        requires fit { CanSettle number kit self.old.room self.old.state }
+        requires room { length self.old.state.execs ≤ self.old.room.scratch }
+        requires end { CanEndBy (thaw_container number) number kit self.old.room self.old.state }
         requires spare { 0 < self.old.spare }
         ensures state { self.new.state ≡ (thaw_container number self.old.state).state }
         ensures died { died_of number result ≡ (thaw_container number self.old.state).died }
@@ -158,7 +162,9 @@ impl Tables {
     pub fn meet_signal(&mut self, sent: Signal, number: u64, kit: Kit) -> Option<u8>
         requires signal { sent.number < 32 }
         requires timely { AreTimely self.old.state }
-        requires fit { CanSettle number kit self.old.room self.old.state }
+        requires room { length self.old.state.execs ≤ self.old.room.scratch }
+        requires end { CanEndBy (meet_signal sent.number number) number kit self.old.room
+            self.old.state }
         requires spare { 0 < self.old.spare }
         ensures state { self.new.state ≡ (meet_signal sent.number number self.old.state).state }
         ensures died { died_of number result

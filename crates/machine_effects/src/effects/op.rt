@@ -1,5 +1,6 @@
 // The next op of a process.
 ghost use Rattle.std.specs.Prelude.{◌≡◌, ℕ, ◌+◌, ◌<◌, ◌≤◌, Some};
+ghost use Rattle.engine_text.specs.declared.script.Effect as effects;
 ghost use Rattle.proc_kernel.specs.Processes.{run_due};
 ghost use Rattle.proc_kernel.specs.Tables.{due_at, length_at, process_of};
 ghost use Rattle.machine_model.specs.State.{owner_number};
@@ -26,7 +27,7 @@ impl Tables {
 
     // The owner's process has ended with that code.
     fn end_owner(&mut self, owner: Owner, code: u8, kit: Kit) -> Option<u8>
-        requires { CanEnd owner kit self.old }
+        requires { CanEnd (by_effect (effects.Effect.Ended code)) owner kit self.old }
         ensures state { self.new.state ≡ (end_of owner code self.old.state).state }
         ensures died { died_of (owner_number owner) result
             ≡ (end_of owner code self.old.state).died }
@@ -47,7 +48,7 @@ impl Tables {
     // What a step of the owner's process does beyond the process.
     fn owner_effect(&mut self, effect: Effect, owner: Owner, kit: Kit) -> Option<u8>
         requires kept { HasRecordRoom owner self.old }
-        requires end { CanEnd owner kit self.old }
+        requires end { CanEnd (by_effect effect) owner kit self.old }
         ensures state { self.new.state ≡ (by_effect effect owner self.old.state).state }
         ensures died { died_of (owner_number owner) result
             ≡ (by_effect effect owner self.old.state).died }
@@ -70,7 +71,7 @@ impl Tables {
         requires clock { self.old.state.clock ≤ 9000000000000 }
         requires length { length_at (process_of owner self.old.state.processes) ≤ self.old.bytes }
         requires kept { HasRecordRoom owner self.old }
-        requires end { CanEnd owner kit self.old }
+        requires end { CanEnd (step_process run_due) owner kit self.old }
         requires spare { 1 < self.old.spare }
         ensures state { self.new.state ≡ (step_process run_due owner self.old.state).state }
         ensures died { died_of (owner_number owner) result

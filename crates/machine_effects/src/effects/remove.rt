@@ -1,10 +1,10 @@
 // The forced removal of a container that lives.
 ghost use Rattle.std.specs.Prelude.{◌≡◌, ◌<◌, ◌≤◌, length, OnOk};
 ghost use Rattle.engine_text.specs.declared.owner.Owner as owners;
-ghost use Rattle.machine_model.specs.Calls.Remove.{if_it_lives, kill_to_remove};
+ghost use Rattle.machine_model.specs.Calls.Remove.{if_it_lives, kill_to_remove, to_remove};
 ghost use Rattle.machine_model.specs.History.{greatest_moment};
 ghost use Rattle.machine_model.specs.State.{is_live};
-ghost use Rattle.machine_effects.specs.Fit.{AreTimely, CanSettle, died_of};
+ghost use Rattle.machine_effects.specs.Fit.{AreTimely, CanEndAs, died_of};
 ghost use Rattle.machine_effects.specs.Removing.{HasForceRoom};
 
 use crate::kit::Kit;
@@ -42,7 +42,10 @@ impl Tables {
     /// The container is to be removed: SIGKILL is met.
     pub fn kill_to_remove(&mut self, number: u64, kit: Kit) -> Option<u8>
         requires timely { AreTimely self.old.state }
-        requires fit { CanSettle number kit self.old.room self.old.state }
+        requires room { length self.old.state.execs ≤ self.old.room.scratch }
+        requires timers { length self.old.state.timers < self.old.room.timers }
+        requires end { CanEndAs to_remove (kill_to_remove number) number kit self.old.room
+            self.old.state }
         requires spare { 0 < self.old.spare }
         ensures state { self.new.state ≡ (kill_to_remove number self.old.state).state }
         ensures died { died_of number result ≡ (kill_to_remove number self.old.state).died }

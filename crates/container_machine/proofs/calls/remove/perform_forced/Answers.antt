@@ -1,10 +1,17 @@
-use Rattle.container_machine.proofs.RemoveLemmas.{forced_fit, forced_timely}
+use Rattle.container_machine.proofs.RemoveLemmas.{forced_end, forced_execs, forced_timely, forced_timers}
 use Rattle.container_machine.proofs.calls.remove.perform_forced.Goals as goal
 
 pub kill_to_remove-requires-clause-timely : goal.kill_to_remove-requires-clause-timely
 kill_to_remove-requires-clause-timely c = forced_timely c.args.conn c.args.number c.args.tables.now.state c.begin_ticket.new.self.state c.begin_ticket.ensures.state c.requires.timely
 
-pub kill_to_remove-requires-clause-fit : goal.kill_to_remove-requires-clause-fit
-kill_to_remove-requires-clause-fit c =
-    forced_fit c.args.conn c.args.number c.args.kit c.args.tables.now.room c.begin_ticket.new.self.room c.args.tables.now.state c.begin_ticket.new.self.state
-    c.begin_ticket.ensures.state c.begin_ticket.ensures.room c.requires.fit
+pub kill_to_remove-requires-clause-room : goal.kill_to_remove-requires-clause-room
+kill_to_remove-requires-clause-room c =
+    forced_execs c.args.conn c.args.number c.args.tables.now.room c.begin_ticket.new.self.room c.args.tables.now.state c.begin_ticket.new.self.state c.begin_ticket.ensures.state c.begin_ticket.ensures.room c.requires.room
+
+pub kill_to_remove-requires-clause-timers : goal.kill_to_remove-requires-clause-timers
+kill_to_remove-requires-clause-timers c =
+    forced_timers c.args.conn c.args.number c.args.tables.now.room c.begin_ticket.new.self.room c.args.tables.now.state c.begin_ticket.new.self.state c.begin_ticket.ensures.state c.begin_ticket.ensures.room c.requires.timers
+
+pub kill_to_remove-requires-clause-end : goal.kill_to_remove-requires-clause-end
+kill_to_remove-requires-clause-end c =
+    forced_end c.args.conn c.args.number c.args.kit c.args.tables.now.room c.begin_ticket.new.self.room c.args.tables.now.state c.begin_ticket.new.self.state c.begin_ticket.ensures.state c.begin_ticket.ensures.room c.requires.end

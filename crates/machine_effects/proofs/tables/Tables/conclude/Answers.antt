@@ -1,7 +1,10 @@
 use Rattle.std.proofs.Common.{sym}
 use Rattle.machine_effects.specs.Held.{container_in}
-use Rattle.machine_effects.proofs.SettleLemmas.{concluded_is}
+use Rattle.machine_effects.proofs.SettleLemmas.{concluded_is, has_goal}
 use Rattle.machine_effects.proofs.tables.Tables.conclude.Goals as goal
+
+pub by_goal-requires-clause-goal : goal.by_goal-requires-clause-goal
+by_goal-requires-clause-goal c = has_goal c.args.number c.args.self.now.state (container_in c.in-Some.h.now) (sym c.in-Some.ensures)
 
 pub returns-in_default-status : goal.returns-in_default-status
 returns-in_default-status c = record {
