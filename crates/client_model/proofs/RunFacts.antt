@@ -1,6 +1,6 @@
 -- Whole runs: what is written, and the status (own).
-use Rattle.std.proofs.Common.{◌≡◌, ℕ, List, [], ◌∷◌, ◌++◌, Bool, true, false, Option, Some, None, codes, refl}
-use Rattle.std.specs.Prelude.{length}
+use Rattle.std.proofs.Common.{◌≡◌, ℕ, List, [], ◌∷◌, ◌++◌, Bool, true, false, Option, Some, None, codes, refl, ap}
+use Rattle.std.specs.Prelude.{length, map, nat_lt, if◌then◌else◌}
 use Rattle.std.specs.Str.{is_utf8, chars}
 use Rattle.std.specs.Fmt.{digits}
 use Rattle.std.specs.Float.Numeral.{scan_numeral}
@@ -20,7 +20,12 @@ use Rattle.journal_lines.specs.declared.verdict.Verdict.{Verdict}
 use Rattle.journal_lines.specs.declared.verdict.Verdict.TheVariants.{Legal, Illegal, BadLine}
 use Rattle.response_reader.specs.Answers.{Answer, NoHead, Answered}
 use Rattle.client_model.specs.Client.{Result, client_result}
-use Rattle.client_model.specs.Faults.{status_of}
+use Rattle.client_model.specs.Lines.{command_names}
+use Rattle.client_model.specs.Plans.{cut_fault}
+use Rattle.client_model.specs.Streams.{is_unfit}
+use Rattle.client_model.specs.declared.showing.Showing.TheVariants.{Demuxed}
+use Rattle.client_model.specs.Usage.{usages}
+use Rattle.client_model.specs.Faults.{status_of, fault_line}
 use Rattle.client_model.specs.declared.fault.Fault.TheVariants as F
 use Rattle.client_model.proofs.LineFacts.{words_of, address}
 
@@ -97,8 +102,20 @@ link_failed = refl
 
 -- words that are no line
 no_line : result_of (codes "top web") []
-    ≡ ended [] (codes "usage: dockc ADDR create|run|start|pause|unpause|stop|restart|kill|rm|rename|ps|inspect|version|logs|attach|exec|wait|events|watch|volume|journal|replay [OPTIONS] [WORD..]\n") 2
+    ≡ ended [] (codes "usage: dockc ADDR create|run|start|pause|unpause|stop|restart|kill|rm|rename|ps|inspect|version|logs|attach|exec|wait|events|watch|volume|journal|replay [OPTIONS] [WORD..] (ADDR is 127.0.0.1:PORT)\n") 2
 no_line = refl
+
+-- no line of a command that there is
+no_stop : result_of (codes "stop -t web") [] ≡ ended [] (codes "usage: dockc ADDR stop [-t N] REF (ADDR is 127.0.0.1:PORT)\n") 2
+no_stop = refl
+
+-- each command has its usage
+usages_named : map (λ row. row.0) usages ≡ command_names
+usages_named = refl
+
+-- where no connection can be made, the address is told
+no_connection : fault_line (address ∷ words_of (codes "ps")) F.Link ≡ codes "dockc: can't connect to the daemon at 127.0.0.1:2375\n"
+no_connection = refl
 
 -- ---- streams
 
@@ -117,6 +134,20 @@ cut_in_payload = refl
 
 no_stream : result_of (codes "logs web") (of_form ChunkedFrames (5 ∷ 0 ∷ 0 ∷ 0 ∷ 0 ∷ 0 ∷ 0 ∷ 1 ∷ 33 ∷ []) true ∷ []) ≡ ended [] no_answer 123
 no_stream = refl
+
+-- of a body that is kept 64 MiB are taken, and not one byte more
+long_enough : (body : List ℕ) → length body ≡ 67108864 → cut_fault body ≡ F.Answer
+long_enough body is = ap (λ n. if nat_lt 67108864 n then F.TooLong else F.Answer) is
+
+too_long : (body : List ℕ) → length body ≡ 67108865 → cut_fault body ≡ F.TooLong
+too_long body is = ap (λ n. if nat_lt 67108864 n then F.TooLong else F.Answer) is
+
+-- of frames those up to the first wrong byte
+wrong_there : is_unfit Demuxed (1 ∷ 0 ∷ 0 ∷ 0 ∷ 0 ∷ 0 ∷ 0 ∷ 1 ∷ 97 ∷ 3 ∷ []) ≡ true
+wrong_there = refl
+
+right_so_far : is_unfit Demuxed (1 ∷ 0 ∷ 0 ∷ 0 ∷ 0 ∷ 0 ∷ 0 ∷ 1 ∷ 97 ∷ 2 ∷ []) ≡ false
+right_so_far = refl
 
 -- whole frames of a body that was cut
 cut_body : result_of (codes "logs web") (of_form ChunkedFrames (2 ∷ 0 ∷ 0 ∷ 0 ∷ 0 ∷ 0 ∷ 0 ∷ 1 ∷ 33 ∷ []) false ∷ [])

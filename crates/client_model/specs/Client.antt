@@ -6,7 +6,7 @@ use Rattle.journal_lines.specs.declared.verdict.Verdict.{Verdict}
 use Rattle.response_reader.specs.Answers.{Answer}
 use Rattle.client_model.specs.Faults.{status_of, fault_line}
 use Rattle.client_model.specs.Plans.{Plan, Ends, Asks, Judges, Written, Asked, Ending, Done, Fails, nothing, joined, fails}
-use Rattle.client_model.specs.Lines.{line_of, command_names}
+use Rattle.client_model.specs.Lines.{line_of}
 use Rattle.client_model.specs.Commands.Create.{create_plan}
 use Rattle.client_model.specs.Commands.Run.{run_plan}
 use Rattle.client_model.specs.Commands.Start.{start_plan}
@@ -65,7 +65,7 @@ plan_of command.VolumeList = volume_list_plan
 plan_of command.Journal = journal_plan
 plan_of (command.Replay seed moment) = replay_plan seed moment
 
--- words that are no line have the usage line alone
+-- words that are no line have a usage line alone
 abbrev pub plan_for : List (List ℕ) → Plan
 plan_for words = option_map_or (λ line. plan_of line.command) (line_of words) (fails F.Words)
 
@@ -105,9 +105,9 @@ abbrev pub status_at : Ending → ℕ
 status_at (Done status) = status
 status_at (Fails fault) = status_of fault
 
-abbrev pub line_at : Ending → List ℕ
-line_at (Done status) = []
-line_at (Fails fault) = fault_line command_names fault
+abbrev pub line_at : List (List ℕ) → Ending → List ℕ
+line_at words (Done status) = []
+line_at words (Fails fault) = fault_line words fault
 
 -- standard output, standard error, and the status
 pub record Result : Type 0 where
@@ -115,11 +115,11 @@ pub record Result : Type 0 where
   pub err : List ℕ
   pub status : ℕ
 
-abbrev pub result_at : Written → Ending → Result
-result_at w ending = record { out = w.out; err = w.err ++ line_at ending; status = status_at ending }
+abbrev pub result_at : List (List ℕ) → Written → Ending → Result
+result_at words w ending = record { out = w.out; err = w.err ++ line_at words ending; status = status_at ending }
 
 -- the result of these words, by the verdict on standard input where they ask for one, and by the answers, one to each
 -- request; none while an answer hasn't come
 abbrev pub client_result : List (List ℕ) → Option Verdict → List Answer → Option Result
 client_result words verdict answers =
-    let said = said_by (plan_for words) verdict answers in option_map (result_at said.written) said.end
+    let said = said_by (plan_for words) verdict answers in option_map (result_at words said.written) said.end

@@ -1,6 +1,7 @@
 -- The statuses and the lines of faults (own).
 use Rattle.std.specs.Prelude.{ℕ, List, [], ◌++◌, codes}
-use Rattle.std.specs.List.{join_with_byte}
+use Rattle.client_model.specs.Lines.{address_in}
+use Rattle.client_model.specs.Usage.{usage_line}
 use Rattle.client_model.specs.declared.fault.Fault.{Fault}
 use Rattle.client_model.specs.declared.fault.Fault.TheVariants as F
 
@@ -13,6 +14,7 @@ status_of F.Errors = 122
 status_of F.Answer = 123
 status_of F.NoCode = 123
 status_of F.EventsGone = 123
+status_of F.TooLong = 123
 status_of F.NoMemory = 124
 status_of (F.Refused message) = 125
 status_of F.Link = 125
@@ -22,21 +24,17 @@ status_of F.Connection = 125
 abbrev pub own_line : List ℕ → List ℕ
 own_line text = codes "dockc: " ++ text ++ codes "\n"
 
--- how a line is written, with the names of the table's commands
-abbrev pub usage_line : List (List ℕ) → List ℕ
-usage_line names =
-    codes "usage: dockc ADDR " ++ join_with_byte 124 names ++ codes " [OPTIONS] [WORD..]\n"
-
--- what is told on standard error: a refusal's message alone, and nothing where standard error is what failed
+-- what is told on standard error, of these words: a refusal's message alone, and nothing where standard error is what failed
 abbrev pub fault_line : List (List ℕ) → Fault → List ℕ
-fault_line names F.Words = usage_line names
-fault_line names F.Input = own_line (codes "standard input can't be read")
-fault_line names F.Output = own_line (codes "standard output can't be written")
-fault_line names F.Errors = []
-fault_line names F.Answer = own_line (codes "the answer isn't one of the Engine API's")
-fault_line names F.NoCode = own_line (codes "the exec has no exit code")
-fault_line names F.EventsGone = own_line (codes "the first events are no longer kept")
-fault_line names F.NoMemory = own_line (codes "out of memory")
-fault_line names (F.Refused message) = message ++ codes "\n"
-fault_line names F.Link = own_line (codes "can't connect to the daemon")
-fault_line names F.Connection = own_line (codes "the connection to the daemon failed")
+fault_line words F.Words = usage_line words
+fault_line words F.Input = own_line (codes "standard input can't be read")
+fault_line words F.Output = own_line (codes "standard output can't be written")
+fault_line words F.Errors = []
+fault_line words F.Answer = own_line (codes "the answer isn't one of the Engine API's")
+fault_line words F.NoCode = own_line (codes "the exec has no exit code")
+fault_line words F.EventsGone = own_line (codes "the first events are no longer kept")
+fault_line words F.TooLong = own_line (codes "the answer has more than 67108864 bytes")
+fault_line words F.NoMemory = own_line (codes "out of memory")
+fault_line words (F.Refused message) = message ++ codes "\n"
+fault_line words F.Link = own_line (codes "can't connect to the daemon at " ++ address_in words)
+fault_line words F.Connection = own_line (codes "the connection to the daemon failed")

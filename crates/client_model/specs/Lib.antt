@@ -1,10 +1,11 @@
 pub mod Words
 pub mod Requests
 pub mod Bodies
-pub mod Faults
 pub mod Plans
 pub mod Streams
 pub mod Commands
 pub mod Lines
+pub mod Usage
+pub mod Faults
 pub mod Client
 pub mod Runs

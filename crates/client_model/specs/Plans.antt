@@ -1,5 +1,5 @@
 -- What a command does, step by step: what it writes, what it asks, and how it goes on by the answer (own).
-use Rattle.std.specs.Prelude.{ℕ, nat_lt, List, [], ◌∷◌, ◌++◌, Bool, false, Option, Some, None, codes, if◌then◌else◌}
+use Rattle.std.specs.Prelude.{ℕ, nat_lt, List, [], ◌∷◌, ◌++◌, length, Bool, false, Option, Some, None, codes, if◌then◌else◌}
 use Rattle.std.specs.Option.{option_map_or}
 use Rattle.http_edge.specs.Message.{Request}
 use Rattle.http_edge.specs.declared.head.Head.{Head}
@@ -9,16 +9,19 @@ use Rattle.response_reader.specs.Answers.{Answer, NoHead, Answered}
 use Rattle.client_model.specs.Bodies.{message_in}
 use Rattle.client_model.specs.declared.fault.Fault.{Fault}
 use Rattle.client_model.specs.declared.fault.Fault.TheVariants as F
+use Rattle.client_model.specs.declared.showing.Showing.{Showing}
+use Rattle.client_model.specs.declared.showing.Showing.TheVariants.{Kept}
 
 -- what is written to standard output and to standard error
 pub record Written : Type 0 where
   pub out : List ℕ
   pub err : List ℕ
 
--- a request, and whether standard input follows it
+-- a request, whether standard input follows it, and what is done with its answer's body as it comes
 pub record Asked : Type 0 where
   pub request : Request
   pub input : Bool
+  pub showing : Showing
 
 -- how a command ends: with a status, or by a fault
 pub data Ending : Type 0 where
@@ -74,25 +77,42 @@ fails fault = Ends nothing (Fails fault)
 abbrev pub goes_on : {A : Type 0} → (A → Plan) → Option A → Plan
 goes_on next read = option_map_or next read (fails F.Answer)
 
--- ---- asking
+-- ---- bodies that are kept
 
--- what is read where the body came whole
-abbrev pub if_whole : {A : Type 0} → Bool → Option A → Option A
-if_whole whole read = if whole then read else None
+-- the most bytes of a body that are kept: 64 MiB. own: so that no answer takes more memory
+abbrev pub most_kept : ℕ
+most_kept = 67108864
+
+abbrev pub is_too_long : List ℕ → Bool
+is_too_long body = nat_lt most_kept (length body)
+
+-- what a body comes to that is kept and wasn't read to its end
+abbrev pub cut_fault : List ℕ → Fault
+cut_fault body = if is_too_long body then F.TooLong else F.Answer
+
+-- it goes on by what is read of a whole body
+abbrev pub reads : {A : Type 0} → (List ℕ → Option A) → (A → Plan) → List ℕ → Bool → Plan
+reads read next body whole = if whole then goes_on next (read body) else fails (cut_fault body)
+
+-- by a message: the request was refused
+abbrev pub refuses : List ℕ → Bool → Plan
+refuses = reads message_in (λ message. fails (F.Refused message))
+
+-- ---- asking
 
 -- An answer without a head isn't one of this API's. One with a status of 400 or more refuses, by a body that tells a
 -- message. By another it goes on.
 abbrev pub by_answer : (Head → List ℕ → Bool → Plan) → Answer → Plan
 by_answer next NoHead = fails F.Answer
-by_answer next (Answered h body whole) =
-    if nat_lt h.status 400 then next h body whole
-    else goes_on (λ message. fails (F.Refused message)) (if_whole whole (message_in body))
+by_answer next (Answered h body whole) = if nat_lt h.status 400 then next h body whole else refuses body whole
+
+-- a request whose answer's body is kept
+abbrev pub kept : Request → Asked
+kept request = record { request = request; input = false; showing = Kept }
 
 -- it asks, and goes on by what is read of the answer's body
 abbrev pub asks : {A : Type 0} → Request → (List ℕ → Option A) → (A → Plan) → Plan
-asks request read next =
-    Asks nothing (record { request = request; input = false })
-    (by_answer (λ h body whole. goes_on next (if_whole whole (read body))))
+asks request read next = Asks nothing (kept request) (by_answer (λ h body whole. reads read next body whole))
 
 -- it asks, and prints this
 abbrev pub asks_and_prints : Request → List ℕ → Plan

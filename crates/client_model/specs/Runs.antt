@@ -6,14 +6,18 @@ use Rattle.engine_ports.specs.Source.{SourceView, SourceGave, SourceEnded}
 use Rattle.engine_ports.specs.Sink.{SinkView, SinkTook, IsFront}
 use Rattle.engine_ports.specs.Link.{LinkView, Wire, others}
 use Rattle.journal_lines.specs.declared.verdict.Verdict.{Verdict}
-use Rattle.response_reader.specs.Answers.{Answer, IsAnswer, TellsSoFar, TellsAll}
+use Rattle.http_edge.specs.declared.head.Head.{Head}
+use Rattle.response_reader.specs.Answers.{Answer, NoHead, Answered, IsAnswer, TellsSoFar, TellsAll}
 use Rattle.client_model.specs.Requests.{request_bytes}
 use Rattle.client_model.specs.Faults.{status_of, fault_line}
 use Rattle.client_model.specs.Plans.{Plan, Judges, Written, nothing, Asked, Ending, Fails}
-use Rattle.client_model.specs.Lines.{command_names, address_in}
+use Rattle.client_model.specs.Lines.{address_in}
+use Rattle.client_model.specs.Streams.{is_unfit}
 use Rattle.client_model.specs.Client.{Said, plan_for, said_by, IsJudged, status_at, line_at}
 use Rattle.client_model.specs.declared.fault.Fault.{Fault}
 use Rattle.client_model.specs.declared.fault.Fault.TheVariants as F
+use Rattle.client_model.specs.declared.showing.Showing.{Showing}
+use Rattle.client_model.specs.declared.showing.Showing.TheVariants.{Kept}
 
 -- what a client has outside: its link, standard input, output and error
 pub record Outside : Type 0 where
@@ -37,11 +41,30 @@ pub record Exchange : Type 0 where
 abbrev pub has_ended : Exchange → Bool
 has_ended x = nat_lt x.came.source.ends x.left.source.ends
 
--- each gave this answer
-abbrev pub AreAnswered : List Exchange → List Answer → Type 0
-AreAnswered [] [] = ⊤
-AreAnswered (x ∷ xs) (answer ∷ answers) = IsAnswer x.given (has_ended x) answer × AreAnswered xs answers
-AreAnswered xs answers = ⊥
+-- how the body of an answer is taken: that of a refusal is kept
+abbrev pub taken_as : Showing → Head → Showing
+taken_as showing h = if nat_lt h.status 400 then showing else Kept
+
+-- so much of an answer shows that its body can't be taken
+abbrev pub shows_unfit : Showing → Answer → Bool
+shows_unfit showing NoHead = false
+shows_unfit showing (Answered h body whole) = is_unfit (taken_as showing h) body
+
+-- the bytes of a connection, whose source gave its end or not, were read as this answer: to its end; or, where its body can't
+-- be taken, as far as it came
+abbrev pub ReadSo : Bool → List ℕ → Bool → Answer → Type 0
+ReadSo false bytes ended answer = IsAnswer bytes ended answer
+ReadSo true bytes ended answer = TellsSoFar bytes answer
+
+abbrev pub IsRead : Showing → List ℕ → Bool → Answer → Type 0
+IsRead showing bytes ended answer = ReadSo (shows_unfit showing answer) bytes ended answer
+
+-- what each gave was read as this answer to what was asked
+abbrev pub AreAnswered : List Exchange → List Asked → List Answer → Type 0
+AreAnswered [] [] [] = ⊤
+AreAnswered (x ∷ xs) (asked ∷ more) (answer ∷ answers) =
+    IsRead asked.showing x.given (has_ended x) answer × AreAnswered xs more answers
+AreAnswered xs asked answers = ⊥
 
 -- what a connection is sent: a request, and then maybe all that standard input gives
 abbrev pub sent_by : List ℕ → Asked → List ℕ
@@ -115,7 +138,7 @@ WroteLine v part line v' = (part ≡ line) ⊎ (IsFront part line × Rose v.faul
 -- was asked
 pub record AreWhole (plan : Plan) (verdict : Option Verdict) (input : List ℕ) (xs : List Exchange) (answers : List Answer) (asked : List Asked) : Type 0 where
   pub judged : IsJudged plan input verdict
-  pub answered : AreAnswered xs answers
+  pub answered : AreAnswered xs asked answers
   pub sent : map (λ x. x.sent) xs ≡ map (sent_by input) asked
 
 -- all that was asked was sent and answered, and all that is said was written
@@ -135,7 +158,7 @@ pub record IsEnded (words : List (List ℕ)) (status : ℕ) (o o' : Outside) : T
   pub input_read : InputStands (asks_input (plan_for words) said.asked) false [] input o.input o'.input
   pub out : SinkTook o.out said.written.out o'.out
   pub err : SinkTook o.err (said.written.err ++ part) o'.err
-  pub line : WroteLine o.err part (line_at ending) o'.err
+  pub line : WroteLine o.err part (line_at words ending) o'.err
   pub status_is : status ≡ status_at ending
 
 -- ---- a call that a fault of the outside, or want of memory, breaks off
@@ -194,11 +217,12 @@ pub record BreaksBehind (plan : Plan) (fault : Fault) (c : Course) (o o' : Outsi
   pub unfailed : (fault ≡ F.NoMemory) ⊎ IsUnfailed c.said.end
   pub cause : CauseBehind fault c (said_sooner plan c.verdict answers) more o o'
 
--- why it breaks off within an exchange, by what was said before it and in it: its connection failed, and all that came of the
--- answer is counted, and all was written; the input behind its request failed; an output failed to which something was to be
--- written that was said in it; or memory was refused, where nothing was
+-- why it breaks off within an exchange, by what was said before it and in it: its connection failed, all that came of the
+-- answer is counted and could be taken, and all was written; the input behind its request failed; an output failed to which
+-- something was to be written that was said in it; or memory was refused, where nothing was
 abbrev pub CauseWithin : Fault → Exchange → Answer → Asked → Course → Written → Outside → Outside → Type 0
-CauseWithin F.Connection x answer now c sooner o o' = HasFailed x × TellsAll x.given answer × (c.wrote ≡ c.said.written)
+CauseWithin F.Connection x answer now c sooner o o' =
+    HasFailed x × TellsAll x.given answer × (shows_unfit now.showing answer ≡ false) × (c.wrote ≡ c.said.written)
 CauseWithin F.Input x answer now c sooner o o' = (now.input ≡ true) × Rose o.input.faults o'.input.faults
 CauseWithin F.Output x answer now c sooner o o' = Rose o.out.faults o'.out.faults × ¬ (c.said.written.out ≡ sooner.out)
 CauseWithin F.Errors x answer now c sooner o o' = Rose o.err.faults o'.err.faults × ¬ (c.said.written.err ≡ sooner.err)
@@ -237,7 +261,7 @@ pub record IsBrokenOff (words : List (List ℕ)) (status : ℕ) (o o' : Outside)
   pub fronts : AreFronts course.wrote course.said.written
   pub out : SinkTook o.out course.wrote.out o'.out
   pub err : SinkTook o.err (course.wrote.err ++ part) o'.err
-  pub line : WroteLine o.err part (fault_line command_names fault) o'.err
+  pub line : WroteLine o.err part (fault_line words fault) o'.err
   pub status_is : status ≡ status_of fault
 
 -- what one call says

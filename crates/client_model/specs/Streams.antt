@@ -8,20 +8,15 @@ use Rattle.engine_text.specs.Texts.{same_bytes}
 use Rattle.engine_text.specs.declared.event.Event.{Event}
 use Rattle.engine_text.specs.declared.script.Stream.TheVariants.{Stdout, Stderr}
 use Rattle.stream_frame.specs.Frames.{Part, payload_of}
-use Rattle.stream_frame.specs.Demuxing.{Rest, Header, Held, Item}
+use Rattle.stream_frame.specs.Demuxing.{Rest, Header, Faulted, Held, Item}
 use Rattle.stream_frame.specs.Steps.{items_of, held_after}
 use Rattle.api_json.specs.Event.{event_of, event_line_text, if_there}
 use Rattle.api_json.specs.EventRules.{attributes_fit}
 use Rattle.machine_model.specs.History.{greatest_moment}
-use Rattle.client_model.specs.Plans.{Plan, Asks, Written, nothing, to_out, writes, fails, by_answer}
+use Rattle.client_model.specs.Plans.{Plan, Asks, Written, nothing, to_out, writes, is_too_long, fails, by_answer}
 use Rattle.client_model.specs.declared.fault.Fault.TheVariants as F
-
--- it asks, and writes what the body shows as far as it came; standard input may follow the request; it goes on behind
--- a body that came whole and ends where it may
-abbrev pub streams : (List ℕ → Written) → (List ℕ → Bool) → Request → Bool → Plan → Plan
-streams shows may_end request input next =
-    Asks nothing (record { request = request; input = input })
-    (by_answer (λ h body whole. writes (shows body) (if whole && may_end body then next else fails F.Answer)))
+use Rattle.client_model.specs.declared.showing.Showing.{Showing}
+use Rattle.client_model.specs.declared.showing.Showing.TheVariants.{Kept, Copied, Demuxed}
 
 -- ---- frames
 
@@ -49,19 +44,46 @@ is_border rest = false
 abbrev pub ends_frames : List ℕ → Bool
 ends_frames body = is_border (held_after unread body).rest
 
+-- a byte came that no stream of frames has there
+abbrev pub is_wrong : Rest → Bool
+is_wrong (Faulted fault) = true
+is_wrong rest = false
+
+-- ---- bodies, by what is done with them as they come
+
+-- what is shown of a body: nothing of one that is kept, all of one that is copied, and the payloads of frames
+abbrev pub shows : Showing → List ℕ → Written
+shows Kept body = nothing
+shows Copied body = to_out body
+shows Demuxed body = payloads_of body
+
+-- where a body may end: frames behind a whole one, and any other anywhere
+abbrev pub may_end : Showing → List ℕ → Bool
+may_end Kept body = true
+may_end Copied body = true
+may_end Demuxed body = ends_frames body
+
+-- so much of a body shows that it can't be taken: it is longer than what is kept, or a byte of it is wrong in its frames
+abbrev pub is_unfit : Showing → List ℕ → Bool
+is_unfit Kept body = is_too_long body
+is_unfit Copied body = false
+is_unfit Demuxed body = is_wrong (held_after unread body).rest
+
+-- it asks, and writes what the body shows as far as it came; standard input may follow the request; it goes on behind
+-- a body that came whole and ends where it may
+abbrev pub streams : Showing → Request → Bool → Plan → Plan
+streams showing request input next =
+    Asks nothing (record { request = request; input = input; showing = showing })
+    (by_answer (λ h body whole.
+    writes (shows showing body) (if whole && may_end showing body then next else fails F.Answer)))
+
 -- it asks, writes the payloads of the answer's frames, and goes on behind them
 abbrev pub follows : Request → Bool → Plan → Plan
-follows = streams payloads_of ends_frames
-
--- ---- texts
-
--- a text may end anywhere
-abbrev pub ends_text : List ℕ → Bool
-ends_text body = true
+follows = streams Demuxed
 
 -- it asks, and writes the answer's body
 abbrev pub copies : Request → Plan → Plan
-copies request next = streams to_out ends_text request false next
+copies request next = streams Copied request false next
 
 -- ---- events
 

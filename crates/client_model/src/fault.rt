@@ -18,6 +18,8 @@ pub enum Fault {
     NoCode,
     /// The first events are kept no more.
     EventsGone,
+    /// A body has more bytes than are kept.
+    TooLong,
     /// Memory was refused.
     NoMemory,
     /// The daemon refused a request, with this message.

@@ -4,9 +4,11 @@
 mod command;
 mod fault;
 mod manner;
+mod showing;
 mod words;
 
 pub use command::{Command, Line, NewContainer, Restart};
 pub use fault::Fault;
 pub use manner::Manner;
+pub use showing::Showing;
 pub use words::{Kind, Split};

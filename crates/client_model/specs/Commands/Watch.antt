@@ -1,11 +1,10 @@
 -- `watch UNTIL` (own: what the events from the first on tell of each container; Docker Engine API v1.43, SystemEvents).
-use Rattle.std.specs.Prelude.{ℕ, zero, suc, List, ◌++◌, map, codes, decimal, Bool, false, Option, Some, None, if◌then◌else◌}
-use Rattle.engine_text.specs.declared.event.Event.{Event}
+use Rattle.std.specs.Prelude.{ℕ, zero, suc, List, ◌++◌, map, codes, decimal, Bool, Option, Some, None, if◌then◌else◌}
 use Rattle.engine_text.specs.declared.event.FoldRow.{FoldRow}
 use Rattle.event_ring.specs.Fold.{fold_of}
 use Rattle.response_reader.specs.Heads.{first_in}
 use Rattle.client_model.specs.Words.{one_word}
-use Rattle.client_model.specs.Plans.{Plan, Asks, nothing, fails, by_answer, goes_on, if_whole, prints_all, done}
+use Rattle.client_model.specs.Plans.{Plan, Asks, nothing, fails, kept, by_answer, reads, prints_all, done}
 use Rattle.client_model.specs.Streams.{events_in}
 use Rattle.client_model.specs.Commands.Events.{events_request}
 use Rattle.client_model.specs.declared.fault.Fault.TheVariants as F
@@ -28,12 +27,11 @@ row_line r =
     ++ decimal r.code
 
 -- it prints a line of each container of which the events tell, by the number of their first
-abbrev pub watched : Option ℕ → Option (List Event) → Plan
-watched None events = fails F.Answer
-watched (Some zero) events = goes_on (λ es. prints_all (map row_line (fold_of es)) done) events
-watched (Some (suc n)) events = fails F.EventsGone
+abbrev pub watched : Option ℕ → List ℕ → Bool → Plan
+watched None body whole = fails F.Answer
+watched (Some zero) body whole = reads events_in (λ es. prints_all (map row_line (fold_of es)) done) body whole
+watched (Some (suc n)) body whole = fails F.EventsGone
 
 abbrev pub watch_plan : List ℕ → Plan
 watch_plan until =
-    Asks nothing (record { request = events_request (codes "0") until; input = false })
-    (by_answer (λ h body whole. watched (first_in h.form) (if_whole whole (events_in body))))
+    Asks nothing (kept (events_request (codes "0") until)) (by_answer (λ h body whole. watched (first_in h.form) body whole))
