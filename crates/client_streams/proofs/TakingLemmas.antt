@@ -1,12 +1,12 @@
 -- A body that is taken piece by piece.
-use Rattle.std.proofs.Common.{◌≡◌, ℕ, List, [], ◌∷◌, ◌++◌, refl, sym, ap}
+use Rattle.std.proofs.Common.{◌≡◌, ℕ, List, [], ◌∷◌, ◌++◌, false, refl, sym, ap}
 use Rattle.client_model.specs.Plans.{nothing, joined}
 use Rattle.stream_frame.specs.Demuxing.{Rest, Header, Payload, Faulted, ended_of}
 use Rattle.stream_frame.specs.declared.fault.Ended.{Ended}
-use Rattle.client_model.specs.Streams.{unread, is_border}
-use Rattle.client_streams.specs.Taking.{taken, shows, adds, after, may_end, ends_by, is_whole}
-use Rattle.client_streams.specs.declared.taker.Showing.{Showing}
-use Rattle.client_streams.specs.declared.taker.Showing.TheVariants.{Kept, Copied, Demuxed}
+use Rattle.client_model.specs.Streams.{unread, is_border, is_wrong, shows, may_end, is_unfit}
+use Rattle.client_streams.specs.Taking.{taken, adds, after, ends_by, is_whole, unfit_by, is_faulted}
+use Rattle.client_model.specs.declared.showing.Showing.{Showing}
+use Rattle.client_model.specs.declared.showing.Showing.TheVariants.{Kept, Copied, Demuxed}
 use Rattle.client_streams.proofs.FrameLemmas.{pieces_joined, held_on}
 
 pub nothing_shown : (showing : Showing) → nothing ≡ shows showing []
@@ -35,3 +35,20 @@ border_so (Header []) ended is = ap is_whole is
 border_so (Header (b ∷ part)) ended is = ap is_whole is
 border_so (Payload kind missing) ended is = ap is_whole is
 border_so (Faulted fault) ended is = ap is_whole is
+
+pub wrong_so : (rest : Rest) (ended : Ended) → ended ≡ ended_of rest → is_faulted ended ≡ is_wrong rest
+wrong_so (Header []) ended is = ap is_faulted is
+wrong_so (Header (b ∷ part)) ended is = ap is_faulted is
+wrong_so (Payload kind missing) ended is = ap is_faulted is
+wrong_so (Faulted fault) ended is = ap is_faulted is
+
+pub unfit_so : (showing : Showing) (body : List ℕ) → unfit_by (taken showing body) ≡ is_unfit showing body
+unfit_so Kept body = refl
+unfit_so Copied body = refl
+unfit_so Demuxed body = refl
+
+-- before the first byte of a body nothing shows that
+pub fit_first : (showing : Showing) → is_unfit showing [] ≡ false
+fit_first Kept = refl
+fit_first Copied = refl
+fit_first Demuxed = refl

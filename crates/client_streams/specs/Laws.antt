@@ -4,9 +4,9 @@ use Rattle.engine_text.specs.declared.script.Stream.TheVariants.{Stdout, Stderr}
 use Rattle.stream_frame.specs.Frames.{Part, frames_of, AreParts, payload_of}
 use Rattle.stream_frame.specs.Demuxing.{AreBytes}
 use Rattle.client_model.specs.Plans.{Written, joined}
-use Rattle.client_model.specs.Streams.{payloads_of, ends_frames}
-use Rattle.client_streams.specs.Taking.{taken, shows, adds, after, may_end, ends_by}
-use Rattle.client_streams.specs.declared.taker.Showing.{Showing}
+use Rattle.client_model.specs.Streams.{payloads_of, ends_frames, shows, may_end, is_unfit}
+use Rattle.client_streams.specs.Taking.{taken, adds, after, ends_by, unfit_by}
+use Rattle.client_model.specs.declared.showing.Showing.{Showing}
 
 -- behind a piece more, what was taken is the longer body, and what was written is what that shows
 abbrev pub Pieces : Type 0
@@ -14,9 +14,10 @@ Pieces = (showing : Showing) (body piece : List ℕ)
     → (after (taken showing body) piece ≡ taken showing (body ++ piece))
     × (joined (shows showing body) (adds (taken showing body) piece) ≡ shows showing (body ++ piece))
 
--- behind a body it is told whether that may end
+-- behind a body it is told whether that may end, and whether so much shows that it can't be taken
 abbrev pub Ends : Type 0
-Ends = (showing : Showing) (body : List ℕ) → ends_by (taken showing body) ≡ may_end showing body
+Ends = (showing : Showing) (body : List ℕ)
+    → (ends_by (taken showing body) ≡ may_end showing body) × (unfit_by (taken showing body) ≡ is_unfit showing body)
 
 -- what parts carry for standard output, and for standard error
 abbrev pub carried_by : List Part → Written

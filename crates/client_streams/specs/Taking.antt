@@ -4,14 +4,14 @@ use Rattle.stream_frame.specs.Demuxing.{Held}
 use Rattle.stream_frame.specs.Steps.{held_after}
 use Rattle.stream_frame.specs.declared.fault.Ended.{Ended}
 use Rattle.stream_frame.specs.declared.fault.Ended.TheVariants as ended
-use Rattle.client_model.specs.Plans.{Written, nothing, to_out}
-use Rattle.client_model.specs.Streams.{unread, payloads_of, is_border, ends_text, ends_frames}
+use Rattle.client_model.specs.Plans.{Written, nothing, to_out, is_too_long}
+use Rattle.client_model.specs.Streams.{unread, is_border, is_wrong}
 use Rattle.client_model.specs.declared.fault.Fault.{Fault}
 use Rattle.client_model.specs.declared.fault.Fault.TheVariants as F
 use Rattle.client_streams.specs.Outputs.{IfUnwritten}
 use Rattle.client_streams.specs.Writing.{piece_written}
-use Rattle.client_streams.specs.declared.taker.Showing.{Showing}
-use Rattle.client_streams.specs.declared.taker.Showing.TheVariants.{Kept, Copied, Demuxed}
+use Rattle.client_model.specs.declared.showing.Showing.{Showing}
+use Rattle.client_model.specs.declared.showing.Showing.TheVariants.{Kept, Copied, Demuxed}
 
 -- how a body is shown, the body where it is kept, and where its frames stand
 pub record Taken : Type 0 where
@@ -27,12 +27,6 @@ abbrev pub taken : Showing → List ℕ → Taken
 taken Kept body = taken_by Kept body unread
 taken Copied body = taken_by Copied [] unread
 taken Demuxed body = taken_by Demuxed [] (held_after unread body)
-
--- what is shown of a body
-abbrev pub shows : Showing → List ℕ → Written
-shows Kept body = nothing
-shows Copied body = to_out body
-shows Demuxed body = payloads_of body
 
 -- what a piece adds, by how it is shown and where the frames stand
 abbrev pub adds_by : Showing → Held → List ℕ → Written
@@ -57,13 +51,7 @@ after_by Demuxed kept demux piece = taken_by Demuxed kept (held_after demux piec
 abbrev pub after : Taken → List ℕ → Taken
 after t piece = after_by t.showing t.kept t.demux piece
 
--- where a body may end
-abbrev pub may_end : Showing → List ℕ → Bool
-may_end Kept = ends_text
-may_end Copied = ends_text
-may_end Demuxed = ends_frames
-
--- by where the frames stand
+-- whether a body may end there, by where its frames stand
 abbrev pub ends_at : Showing → Held → Bool
 ends_at Kept demux = true
 ends_at Copied demux = true
@@ -76,3 +64,17 @@ ends_by t = ends_at t.showing t.demux
 abbrev pub is_whole : Ended → Bool
 is_whole ended.Whole = true
 is_whole other = false
+
+-- whether so much shows that it can't be taken, by what is kept and by where the frames stand
+abbrev pub unfit_at : Showing → List ℕ → Held → Bool
+unfit_at Kept kept demux = is_too_long kept
+unfit_at Copied kept demux = false
+unfit_at Demuxed kept demux = is_wrong demux.rest
+
+abbrev pub unfit_by : Taken → Bool
+unfit_by t = unfit_at t.showing t.kept t.demux
+
+-- a stream of frames ended at a wrong byte
+abbrev pub is_faulted : Ended → Bool
+is_faulted (ended.Faulted fault) = true
+is_faulted other = false

@@ -6,7 +6,7 @@ pub fn law_pieces()
     ensures { Pieces }
 {}
 
-/// Whether a body may end is told by what stands behind its pieces.
+/// Whether a body may end, and whether it can't be taken, is told by what stands behind its pieces.
 pub fn law_ends()
     ensures { Ends }
 {}

@@ -3,7 +3,9 @@
 
 mod frames;
 mod laws;
+mod limit;
 mod taker;
 
 pub use laws::{law_ends, law_frames, law_pieces};
-pub use taker::{Showing, Taker};
+pub use limit::cut_fault;
+pub use taker::Taker;

@@ -3,26 +3,16 @@ ghost use Rattle.std.specs.Prelude.{◌≡◌, ◌<◌, ◌++◌, [], length, If
 ghost use Rattle.engine_ports.specs.Sink.{SinkView};
 ghost use Rattle.client_model.specs.Plans.{Written, nothing, to_out};
 ghost use Rattle.client_streams.specs.Outputs.{Outputs, outputs, WritesBoth, IfUnwritten};
-ghost use Rattle.client_streams.specs.Taking.{IfUntaken, taken, adds, after, ends_by, is_whole};
-ghost use Rattle.client_streams.specs.declared.taker.Showing.TheVariants.{Kept};
+ghost use Rattle.client_streams.specs.Taking.{IfUntaken, taken, adds, after, ends_by, is_whole, unfit_by, is_faulted};
+ghost use Rattle.client_model.specs.declared.showing.Showing.TheVariants.{Kept};
 
 use crate::frames::write_frames;
-use client_model::Fault;
+use crate::limit::is_too_long;
+use client_model::{Fault, Showing};
 use engine_ports::Sink;
 use std::alloc::Global;
 use std::marker::Model;
 use stream_frame::{Demux, Ended};
-
-/// How a body is shown.
-#[derive(Clone, Copy, Debug, PartialEq, Eq)]
-pub enum Showing {
-    /// It is kept, and not shown.
-    Kept,
-    /// It goes to standard output.
-    Copied,
-    /// The payloads of its frames go to standard output and standard error.
-    Demuxed,
-}
 
 /// Takes a body as it comes.
 #[derive(Drop)]
@@ -97,6 +87,29 @@ impl Taker {
             Showing::Copied => true,
             Showing::Demuxed => is_whole(self.demux.end()),
         }
+    }
+
+    /// Whether so much shows that the body can't be taken: it is longer than what is kept, or a byte came that no frame has
+    /// there.
+    #[tactic(auto, using(crate::proofs::TakingLemmas::wrong_so))]
+    pub fn is_unfit(&self) -> bool
+        ensures { result ≡ unfit_by self.now }
+    {
+        match self.showing {
+            Showing::Kept => is_too_long(&self.kept),
+            Showing::Copied => false,
+            Showing::Demuxed => is_faulted(self.demux.end()),
+        }
+    }
+}
+
+/// Whether a stream ended at a wrong byte.
+fn is_faulted(ended: Ended) -> bool
+    ensures { result ≡ is_faulted ended }
+{
+    match ended {
+        Ended::Faulted(_) => true,
+        Ended::Whole | Ended::CutHeader(_) | Ended::CutPayload(_) => false,
     }
 }
 
