@@ -10,9 +10,10 @@ use Rattle.journal_lines.specs.declared.verdict.Verdict.TheVariants.{Legal, Ille
 use Rattle.engine_text.specs.declared.event.Event.{Event}
 use Rattle.event_ring.specs.Fold.{fold_of}
 use Rattle.json_laws.specs.Pairs.{AreWordsUtf8}
-use Rattle.client_model.specs.Bodies.{id_in, status_code_in, container_lines_in, volume_names_in, message_in}
-use Rattle.client_model.specs.Plans.{Plan, nothing, to_out, prints, prints_all, done, ends, fails, goes_on, if_whole, by_answer, asks}
-use Rattle.client_model.specs.Streams.{payloads_of, ends_frames, ends_text, events_in, follows}
+use Rattle.client_model.specs.Bodies.{id_in, status_code_in, container_lines_in, volume_names_in}
+use Rattle.client_model.specs.Plans.{Plan, nothing, prints, prints_all, done, ends, fails, refuses, kept, by_answer, asks}
+use Rattle.client_model.specs.Streams.{events_in, follows}
+use Rattle.client_model.specs.declared.showing.Showing.TheVariants.{Kept, Copied, Demuxed}
 use Rattle.client_model.specs.Client.{plan_of}
 use Rattle.client_model.specs.Commands.Container.{create_request}
 use Rattle.client_model.specs.Commands.Run.{run_plan, removes}
@@ -44,14 +45,14 @@ use Rattle.client_model.specs.declared.command.Command.{Command}
 use Rattle.client_model.specs.declared.command.Command.TheVariants as command
 use Rattle.client_model.specs.declared.fault.Fault.TheVariants as F
 use Rattle.client_calls.specs.Classes as class
-use Rattle.client_calls.specs.Table.{Entry, alone, fed, body_by, any_body, frames, once, then_by, run_calls, exec_calls, calls_of}
+use Rattle.client_calls.specs.Table.{Entry, alone, fed, if_whole, body_by, any_body, frames, once, then_by, run_calls, exec_calls, calls_of}
 use Rattle.client_calls.proofs.CommandTexts.{IsContainer, HasTexts}
 use Rattle.client_calls.proofs.ByteLemmas.{utf8-bytes}
 use Rattle.client_calls.proofs.IdLemmas.{id-bytes}
 use Rattle.client_calls.proofs.ClassLemmas.{literal, start-class, pause-class, unpause-class, stop-class, restart-class, kill-class, remove-class, rename-class, inspect-class, wait-class}
 use Rattle.client_calls.proofs.StreamClassLemmas.{logs-class, attach-class, exec-start-class, exec-inspect-class, events-class, journal-class, list-class, version-class, volume-inspect-class, volume-remove-class, volume-list-class}
 use Rattle.client_calls.proofs.BodyClassLemmas.{create-class, exec-create-class, volume-create-class}
-use Rattle.client_calls.proofs.PlanLemmas.{entries, AsksNone, all-printed, asked-first, asks-calls, streams-calls, none-behind, asks-once, streams-once, refused, same-entry}
+use Rattle.client_calls.proofs.PlanLemmas.{entries, AsksNone, all-printed, asked-first, asks-calls, streams-calls, none-behind, asks-once, streams-once, read-goes, refused, same-entry}
 
 -- ---- run
 
@@ -89,7 +90,7 @@ waited remove id verdict bytes =
 attached : (input remove : Bool) (id : List ℕ) (verdict : Option Verdict) → All IsByte id → (answers : List Answer)
     → entries (attaches input remove id) verdict answers ≡ attach_calls input remove id answers
 attached input remove id verdict bytes =
-    streams-calls payloads_of ends_frames (attach_request id input) input (waits remove id) verdict (class.attach id input)
+    streams-calls Demuxed (attach_request id input) input (waits remove id) verdict (class.attach id input)
     (wait_calls remove id) (attach-class id input bytes) (waited remove id verdict bytes)
 
 started : (input remove : Bool) (id : List ℕ) (verdict : Option Verdict) → All IsByte id → (answers : List Answer)
@@ -128,7 +129,7 @@ execute_calls input id = then_by (fed input (class.exec_start id)) frames (λ st
 executed : (input : Bool) (id : List ℕ) (verdict : Option Verdict) → All IsByte id → (answers : List Answer)
     → entries (executes input id) verdict answers ≡ execute_calls input id answers
 executed input id verdict bytes =
-    streams-calls payloads_of ends_frames (exec_start_request id) input (inspects id) verdict (class.exec_start id)
+    streams-calls Demuxed (exec_start_request id) input (inspects id) verdict (class.exec_start id)
     (λ answers. once (class.exec_inspect id)) (exec-start-class id bytes) (inspected id verdict bytes)
 
 exec-calls : (target : List ℕ) (words : List (List ℕ)) (input : Bool) (verdict : Option Verdict) → IsUtf8 target → AreWordsUtf8 words
@@ -140,18 +141,24 @@ exec-calls target words input verdict t w =
 -- ---- watch
 
 -- its events are shown, or it fails
-watched-none : (first : Option ℕ) (events : Option (List Event)) → AsksNone (watched first events)
-watched-none None events verdict answers = refl
-watched-none (Some zero) None verdict answers = refl
-watched-none (Some zero) (Some es) verdict answers = all-printed (map row_line (fold_of es)) verdict answers
-watched-none (Some (suc n)) events verdict answers = refl
+watched-none : (first : Option ℕ) (body : List ℕ) (whole : Bool) → AsksNone (watched first body whole)
+watched-none None body whole verdict answers = refl
+watched-none (Some zero) body whole verdict answers =
+    read-goes events_in (λ es. prints_all (map row_line (fold_of es)) done) body whole verdict answers (λ es. [])
+    (λ es same. all-printed (map row_line (fold_of es)) verdict answers)
+    ∙ none (if_whole whole (events_in body))
+  where
+    none : (o : Option (List Event)) → option_map_or (λ es. []) o [] ≡ []
+    none None = refl
+    none (Some es) = refl
+watched-none (Some (suc n)) body whole verdict answers = refl
 
-watch-on : (answer : Answer) → AsksNone (by_answer (λ h body whole. watched (first_in h.form) (if_whole whole (events_in body))) answer)
+watch-on : (answer : Answer) → AsksNone (by_answer (λ h body whole. watched (first_in h.form) body whole) answer)
 watch-on NoHead verdict answers = refl
 watch-on (Answered h body whole) verdict answers = by (nat_lt h.status 400)
   where
-    by : (t : Bool) → entries (cond t (watched (first_in h.form) (if_whole whole (events_in body))) (goes_on (λ message. fails (F.Refused message)) (if_whole whole (message_in body)))) verdict answers ≡ []
-    by true = watched-none (first_in h.form) (if_whole whole (events_in body)) verdict answers
+    by : (t : Bool) → entries (cond t (watched (first_in h.form) body whole) (refuses body whole)) verdict answers ≡ []
+    by true = watched-none (first_in h.form) body whole verdict answers
     by false = refused whole body verdict answers
 
 -- nothing is read to go on by
@@ -161,9 +168,9 @@ nothing_read answer = None
 watch-calls : (until : List ℕ) (verdict : Option Verdict) → IsUtf8 until → (answers : List Answer)
     → entries (watch_plan until) verdict answers ≡ once (class.events (codes "0") until)
 watch-calls until verdict utf8 answers =
-    asked-first nothing (record { request = events_request (codes "0") until; input = false })
-    (by_answer (λ h body whole. watched (first_in h.form) (if_whole whole (events_in body)))) verdict (alone (class.events (codes "0") until))
-    nothing_read (λ x answers. []) (same-entry (events_request (codes "0") until) false (class.events (codes "0") until) (events-class (codes "0") until (literal (codes "0") refl) utf8)) (λ answer answers. watch-on answer verdict answers) answers
+    asked-first nothing (kept (events_request (codes "0") until))
+    (by_answer (λ h body whole. watched (first_in h.form) body whole)) verdict (alone (class.events (codes "0") until))
+    nothing_read (λ x answers. []) (same-entry (events_request (codes "0") until) false Kept (class.events (codes "0") until) (events-class (codes "0") until (literal (codes "0") refl) utf8)) (λ answer answers. watch-on answer verdict answers) answers
     ∙ none-behind (class.events (codes "0") until) nothing_read answers
 
 -- ---- replay
@@ -212,17 +219,17 @@ plan-calls (command.Inspect target) h verdict =
 plan-calls command.Version h verdict =
     asks-once version_request Some (λ body. prints body done) verdict class.version version-class (λ body v a. refl)
 plan-calls (command.Logs target follow) h verdict =
-    streams-once payloads_of ends_frames (logs_request target follow) done verdict (class.logs target follow)
+    streams-once Demuxed (logs_request target follow) done verdict (class.logs target follow)
     (logs-class target follow (utf8-bytes target h)) (λ v a. refl)
 plan-calls (command.Attach target) h verdict =
-    streams-once payloads_of ends_frames (attach_request target false) done verdict (class.attach target false)
+    streams-once Demuxed (attach_request target false) done verdict (class.attach target false)
     (attach-class target false (utf8-bytes target h)) (λ v a. refl)
 plan-calls (command.Exec target words input) h verdict = exec-calls target words input verdict h.0 h.1
 plan-calls (command.Wait target) h verdict =
     asks-once (wait_request target) status_code_in (λ code. prints (decimal code) done) verdict (class.wait target)
     (wait-class target (utf8-bytes target h)) (λ code v a. refl)
 plan-calls (command.Events since until) h verdict =
-    streams-once to_out ends_text (events_request since until) done verdict (class.events since until)
+    streams-once Copied (events_request since until) done verdict (class.events since until)
     (events-class since until h.0 h.1) (λ v a. refl)
 plan-calls (command.Watch until) h verdict = watch-calls until verdict h
 plan-calls (command.VolumeCreate name) h verdict =
@@ -236,5 +243,5 @@ plan-calls (command.VolumeRemove name) h verdict =
 plan-calls command.VolumeList h verdict =
     asks-once volume_list_request volume_names_in (λ names. prints_all names done) verdict class.volume_list volume-list-class all-printed
 plan-calls command.Journal h verdict =
-    streams-once to_out ends_text journal_request done verdict class.journal journal-class (λ v a. refl)
+    streams-once Copied journal_request done verdict class.journal journal-class (λ v a. refl)
 plan-calls (command.Replay seed moment) h verdict = replay-none seed moment verdict

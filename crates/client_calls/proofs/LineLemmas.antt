@@ -30,7 +30,7 @@ use Rattle.client_model.specs.declared.fault.Fault.TheVariants as F
 use Rattle.client_calls.specs.Table.{calls_of, calls_for}
 use Rattle.client_calls.proofs.CommandTexts.{IsContainer, HasTexts}
 use Rattle.client_model.specs.Runs.{Exchange, AreAnswered, LacksVerdict, BreaksBehind, BreaksWithin}
-use Rattle.client_calls.specs.Laws.{entries_of, AsksCalls, EndsByCalls, AreToldSoFar, BreaksOffByCalls}
+use Rattle.client_calls.specs.Laws.{entries_of, AsksCalls, EndsByCalls, AreAnsweredFirst, AreToldSoFar, BreaksOffByCalls}
 use Rattle.engine_text.specs.Words.{AreUtf8}
 use Rattle.client_calls.proofs.JsonByteLemmas.{map-good}
 use Rattle.client_calls.proofs.WordLemmas.{Gives, gives-none, gives-one, gives-two, gives-behind, AreValues, value-good, container-good}
@@ -199,16 +199,19 @@ pub breaks-off-by-calls : (words : List (List ℕ)) → AreUtf8 words → Breaks
 breaks-off-by-calls words texts status o o' run = by run.breaks
   where
     by : LacksVerdict (plan_for words) run.fault run.course o o' ⊎ (BreaksBehind (plan_for words) run.fault run.course o o' ⊎ BreaksWithin (plan_for words) run.fault run.course o o')
-        → (answers : List Answer) × (AreAnswered run.course.xs answers ⊎ AreToldSoFar run.course.xs answers) × (entries_of run.course.said.asked ≡ calls_for words answers)
+        → (answers : List Answer) × (AreAnsweredFirst run.course.xs run.course.said.asked answers ⊎ AreToldSoFar run.course.xs run.course.said.asked answers) × (entries_of run.course.said.asked ≡ calls_for words answers)
     by (inl b) = (
       [],
-      inl (subst (λ (xs : List Exchange). AreAnswered xs []) (sym b.unasked) tt),
+      inl ([], run.course.said.asked, refl, subst (λ (xs : List Exchange). AreAnswered xs [] []) (sym b.unasked) tt),
       ap (λ said. entries_of said.asked) b.says ∙ asks-calls words texts None [],
     )
-    by (inr (inl b)) =
-        (b.answers, inl b.whole.answered, ap (λ said. entries_of said.asked) b.says ∙ asks-calls words texts run.course.verdict b.answers)
+    by (inr (inl b)) = (
+      b.answers,
+      inl (b.done, b.more, b.asked, b.whole.answered),
+      ap (λ said. entries_of said.asked) b.says ∙ asks-calls words texts run.course.verdict b.answers,
+    )
     by (inr (inr b)) = (
       b.answers ++ b.answer ∷ [],
-      inr (b.before, b.last, b.answers, b.answer, b.xs_are, refl, b.whole.answered, b.tells),
+      inr (b.before, b.last, b.answers, b.answer, b.xs_are, refl, (b.done, b.now ∷ b.more, b.asked, b.whole.answered), b.tells),
       ap (λ said. entries_of said.asked) b.says ∙ asks-calls words texts run.course.verdict (b.answers ++ b.answer ∷ []),
     )

@@ -7,12 +7,14 @@ use Rattle.journal_lines.specs.declared.verdict.Verdict.{Verdict}
 use Rattle.response_reader.specs.Answers.{Answer, NoHead, Answered}
 use Rattle.api_routes.specs.Class.{class_of, or_refusal}
 use Rattle.client_model.specs.Bodies.{message_in}
-use Rattle.client_model.specs.Plans.{Plan, Ends, Asks, Judges, Written, Asked, nothing, to_out, writes, prints_all, done, fails, goes_on, if_whole, by_answer, asks}
-use Rattle.client_model.specs.Streams.{streams}
+use Rattle.client_model.specs.Plans.{Plan, Ends, Asks, Judges, Written, Asked, nothing, to_out, writes, prints_all, done, fails, goes_on, reads, refuses, kept, by_answer, asks}
+use Rattle.client_model.specs.Streams.{shows, may_end, streams}
+use Rattle.client_model.specs.declared.showing.Showing.{Showing}
+use Rattle.client_model.specs.declared.showing.Showing.TheVariants.{Kept}
 use Rattle.client_model.specs.Client.{said_by}
 use Rattle.client_model.specs.declared.fault.Fault.TheVariants as F
 use Rattle.client_calls.specs.Classes as class
-use Rattle.client_calls.specs.Table.{Entry, alone, fed, body_by, then_by, once}
+use Rattle.client_calls.specs.Table.{Entry, alone, fed, if_whole, body_by, then_by, once}
 use Rattle.client_calls.specs.Laws.{entry_of, entries_of}
 
 -- what a plan asks, as the daemon classifies it
@@ -50,39 +52,40 @@ asked-first w asked next verdict entry read after same on (answer ∷ answers) =
     ap (λ e. e ∷ entries (next answer) verdict answers) same ∙ ap (λ rest. entry ∷ rest) (on answer answers)
 
 -- a request of this meaning
-pub same-entry : (request : Request) (input : Bool) (says : class.Meaning) → class_of request ≡ or_refusal says
-    → entry_of (record { request = request; input = input }) ≡ fed input says
-same-entry request input says same = ap (λ c. record { class = c; input = input }) same
+pub same-entry : (request : Request) (input : Bool) (showing : Showing) (says : class.Meaning) → class_of request ≡ or_refusal says
+    → entry_of (record { request = request; input = input; showing = showing }) ≡ fed input says
+same-entry request input showing says same = ap (λ c. record { class = c; input = input }) same
+
+-- what is read of a body
+pub read-goes : {A : Type 0} (read : List ℕ → Option A) (next : A → Plan) (body : List ℕ) (whole : Bool) (verdict : Option Verdict) (answers : List Answer) (after : A → List Entry)
+    → ((x : A) → read body ≡ Some x → entries (next x) verdict answers ≡ after x)
+    → entries (reads read next body whole) verdict answers ≡ option_map_or after (if_whole whole (read body)) []
+read-goes {A = A} read next body true verdict answers after on = found (read body) refl
+  where
+    found : (o : Option A) → read body ≡ o → entries (goes_on next o) verdict answers ≡ option_map_or after o []
+    found None same = refl
+    found (Some x) same = on x same
+read-goes read next body false verdict answers after on = refl
 
 -- a refusal ends the command
-pub refused : (whole : Bool) (body : List ℕ) (verdict : Option Verdict) (answers : List Answer)
-    → entries (goes_on (λ message. fails (F.Refused message)) (if_whole whole (message_in body))) verdict answers ≡ []
-refused false body verdict answers = refl
-refused true body verdict answers = by (message_in body)
+pub refused : (whole : Bool) (body : List ℕ) (verdict : Option Verdict) (answers : List Answer) → entries (refuses body whole) verdict answers ≡ []
+refused whole body verdict answers =
+    read-goes message_in (λ message. fails (F.Refused message)) body whole verdict answers (λ message. []) (λ message same. refl)
+    ∙ none (if_whole whole (message_in body))
   where
-    by : (o : Option (List ℕ)) → entries (goes_on (λ message. fails (F.Refused message)) o) verdict answers ≡ []
-    by None = refl
-    by (Some message) = refl
+    none : (o : Option (List ℕ)) → option_map_or (λ message. []) o [] ≡ []
+    none None = refl
+    none (Some message) = refl
 
 body-goes-by : {A : Type 0} (read : List ℕ → Option A) (next : A → Plan) (verdict : Option Verdict) (after : A → List Answer → List Entry)
     → ((x : A) (body : List ℕ) → read body ≡ Some x → (answers : List Answer) → entries (next x) verdict answers ≡ after x answers)
-    → GoesBy (by_answer (λ h body whole. goes_on next (if_whole whole (read body)))) verdict (body_by read) after
+    → GoesBy (by_answer (λ h body whole. reads read next body whole)) verdict (body_by read) after
 body-goes-by {A = A} read next verdict after on NoHead answers = refl
 body-goes-by {A = A} read next verdict after on (Answered h body whole) answers = by (nat_lt h.status 400)
   where
-    found : (o : Option A) → read body ≡ o
-        → entries (goes_on next o) verdict answers ≡ option_map_or (λ x. after x answers) o []
-    found None same = refl
-    found (Some x) same = on x body same answers
-
-    by_whole : (whole : Bool) → entries (goes_on next (if_whole whole (read body))) verdict answers
-        ≡ option_map_or (λ x. after x answers) (if_whole whole (read body)) []
-    by_whole true = found (read body) refl
-    by_whole false = refl
-
-    by : (t : Bool) → entries (cond t (goes_on next (if_whole whole (read body))) (goes_on (λ message. fails (F.Refused message)) (if_whole whole (message_in body)))) verdict answers
+    by : (t : Bool) → entries (cond t (reads read next body whole) (refuses body whole)) verdict answers
         ≡ option_map_or (λ x. after x answers) (cond t (if_whole whole (read body)) None) []
-    by true = by_whole whole
+    by true = read-goes read next body whole verdict answers (λ x. after x answers) (λ x same. on x body same answers)
     by false = refused whole body verdict answers
 
 -- it asks, and goes on by what is read of the body
@@ -91,42 +94,43 @@ pub asks-calls : {A : Type 0} (request : Request) (read : List ℕ → Option A)
     → ((x : A) (body : List ℕ) → read body ≡ Some x → (answers : List Answer) → entries (next x) verdict answers ≡ after x answers)
     → (answers : List Answer) → entries (asks request read next) verdict answers ≡ then_by (alone says) (body_by read) after answers
 asks-calls request read next verdict says after same on =
-    asked-first nothing (record { request = request; input = false }) (by_answer (λ h body whole. goes_on next (if_whole whole (read body))))
-    verdict (alone says) (body_by read) after (same-entry request false says same) (body-goes-by read next verdict after on)
+    asked-first nothing (kept request) (by_answer (λ h body whole. reads read next body whole))
+    verdict (alone says) (body_by read) after (same-entry request false Kept says same) (body-goes-by read next verdict after on)
 
 -- what a whole body is, where it ends where it may
 abbrev pub if_ended : (List ℕ → Bool) → List ℕ → Option (List ℕ)
 if_ended may_end body = cond (may_end body) (Some body) None
 
-stream-goes-by : (shows : List ℕ → Written) (may_end : List ℕ → Bool) (next : Plan) (verdict : Option Verdict) (after : List Answer → List Entry)
+stream-goes-by : (showing : Showing) (next : Plan) (verdict : Option Verdict) (after : List Answer → List Entry)
     → ((answers : List Answer) → entries next verdict answers ≡ after answers)
-    → GoesBy (by_answer (λ h body whole. writes (shows body) (cond (whole && may_end body) next (fails F.Answer)))) verdict (body_by (if_ended may_end)) (λ body. after)
-stream-goes-by shows may_end next verdict after on NoHead answers = refl
-stream-goes-by shows may_end next verdict after on (Answered h body whole) answers = by (nat_lt h.status 400)
+    → GoesBy (by_answer (λ h body whole. writes (shows showing body) (cond (whole && may_end showing body) next (fails F.Answer)))) verdict
+    (body_by (if_ended (may_end showing))) (λ body. after)
+stream-goes-by showing next verdict after on NoHead answers = refl
+stream-goes-by showing next verdict after on (Answered h body whole) answers = by (nat_lt h.status 400)
   where
     behind : (t : Bool) → entries (cond t next (fails F.Answer)) verdict answers ≡ option_map_or (λ x. after answers) (cond t (Some body) None) []
     behind true = on answers
     behind false = refl
 
-    by_whole : (whole : Bool) → entries (cond (whole && may_end body) next (fails F.Answer)) verdict answers
-        ≡ option_map_or (λ x. after answers) (if_whole whole (if_ended may_end body)) []
-    by_whole true = behind (may_end body)
+    by_whole : (whole : Bool) → entries (cond (whole && may_end showing body) next (fails F.Answer)) verdict answers
+        ≡ option_map_or (λ x. after answers) (if_whole whole (if_ended (may_end showing) body)) []
+    by_whole true = behind (may_end showing body)
     by_whole false = refl
 
-    by : (t : Bool) → entries (cond t (writes (shows body) (cond (whole && may_end body) next (fails F.Answer))) (goes_on (λ message. fails (F.Refused message)) (if_whole whole (message_in body)))) verdict answers
-        ≡ option_map_or (λ x. after answers) (cond t (if_whole whole (if_ended may_end body)) None) []
-    by true = writes-asks (shows body) (cond (whole && may_end body) next (fails F.Answer)) verdict answers ∙ by_whole whole
+    by : (t : Bool) → entries (cond t (writes (shows showing body) (cond (whole && may_end showing body) next (fails F.Answer))) (refuses body whole)) verdict answers
+        ≡ option_map_or (λ x. after answers) (cond t (if_whole whole (if_ended (may_end showing) body)) None) []
+    by true = writes-asks (shows showing body) (cond (whole && may_end showing body) next (fails F.Answer)) verdict answers ∙ by_whole whole
     by false = refused whole body verdict answers
 
 -- it asks, writes what comes, and goes on behind it
-pub streams-calls : (shows : List ℕ → Written) (may_end : List ℕ → Bool) (request : Request) (input : Bool) (next : Plan) (verdict : Option Verdict)
+pub streams-calls : (showing : Showing) (request : Request) (input : Bool) (next : Plan) (verdict : Option Verdict)
     (says : class.Meaning) (after : List Answer → List Entry) → class_of request ≡ or_refusal says
     → ((answers : List Answer) → entries next verdict answers ≡ after answers)
-    → (answers : List Answer) → entries (streams shows may_end request input next) verdict answers ≡ then_by (fed input says) (body_by (if_ended may_end)) (λ body. after) answers
-streams-calls shows may_end request input next verdict says after same on =
-    asked-first nothing (record { request = request; input = input })
-    (by_answer (λ h body whole. writes (shows body) (cond (whole && may_end body) next (fails F.Answer))))
-    verdict (fed input says) (body_by (if_ended may_end)) (λ body. after) (same-entry request input says same) (stream-goes-by shows may_end next verdict after on)
+    → (answers : List Answer) → entries (streams showing request input next) verdict answers ≡ then_by (fed input says) (body_by (if_ended (may_end showing))) (λ body. after) answers
+streams-calls showing request input next verdict says after same on =
+    asked-first nothing (record { request = request; input = input; showing = showing })
+    (by_answer (λ h body whole. writes (shows showing body) (cond (whole && may_end showing body) next (fails F.Answer))))
+    verdict (fed input says) (body_by (if_ended (may_end showing))) (λ body. after) (same-entry request input showing says same) (stream-goes-by showing next verdict after on)
 
 -- ---- one request
 
@@ -145,8 +149,8 @@ pub asks-once : {A : Type 0} (request : Request) (read : List ℕ → Option A) 
 asks-once request read next verdict says same none answers =
     asks-calls request read next verdict says (λ x answers. []) same (λ x body found. none x verdict) answers ∙ none-behind says (body_by read) answers
 
-pub streams-once : (shows : List ℕ → Written) (may_end : List ℕ → Bool) (request : Request) (next : Plan) (verdict : Option Verdict)
+pub streams-once : (showing : Showing) (request : Request) (next : Plan) (verdict : Option Verdict)
     (says : class.Meaning) → class_of request ≡ or_refusal says → AsksNone next
-    → (answers : List Answer) → entries (streams shows may_end request false next) verdict answers ≡ once says
-streams-once shows may_end request next verdict says same none answers =
-    streams-calls shows may_end request false next verdict says (λ answers. []) same (none verdict) answers ∙ none-behind says (body_by (if_ended may_end)) answers
+    → (answers : List Answer) → entries (streams showing request false next) verdict answers ≡ once says
+streams-once showing request next verdict says same none answers =
+    streams-calls showing request false next verdict says (λ answers. []) same (none verdict) answers ∙ none-behind says (body_by (if_ended (may_end showing))) answers

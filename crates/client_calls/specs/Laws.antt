@@ -34,14 +34,21 @@ abbrev pub EndsByCalls : List (List ℕ) → Type 0
 EndsByCalls words = (status : ℕ) (o o' : Outside) (run : IsEnded words status o o')
     → entries_of run.said.asked ≡ calls_for words run.answers
 
--- each but the last gave its answer, and the last tells at least so much of one
-abbrev pub AreToldSoFar : List Exchange → List Answer → Type 0
-AreToldSoFar xs answers =
+-- each gave its answer to what was asked first
+abbrev pub AreAnsweredFirst : List Exchange → List Asked → List Answer → Type 0
+AreAnsweredFirst xs asked answers =
+    (done : List Asked) × (more : List Asked) × (asked ≡ done ++ more) × AreAnswered xs done answers
+
+-- each but the last did, and the last tells at least so much of one
+abbrev pub AreToldSoFar : List Exchange → List Asked → List Answer → Type 0
+AreToldSoFar xs asked answers =
     (before : List Exchange) × (last : Exchange) × (whole : List Answer) × (answer : Answer)
-    × (xs ≡ before ++ last ∷ []) × (answers ≡ whole ++ answer ∷ []) × AreAnswered before whole × TellsSoFar last.given answer
+    × (xs ≡ before ++ last ∷ []) × (answers ≡ whole ++ answer ∷ [])
+    × AreAnsweredFirst before asked whole × TellsSoFar last.given answer
 
 -- and so did one that was broken off, as far as they had come
 abbrev pub BreaksOffByCalls : List (List ℕ) → Type 0
 BreaksOffByCalls words = (status : ℕ) (o o' : Outside) (run : IsBrokenOff words status o o')
-    → (answers : List Answer) × (AreAnswered run.course.xs answers ⊎ AreToldSoFar run.course.xs answers)
+    → (answers : List Answer)
+    × (AreAnsweredFirst run.course.xs run.course.said.asked answers ⊎ AreToldSoFar run.course.xs run.course.said.asked answers)
     × (entries_of run.course.said.asked ≡ calls_for words answers)

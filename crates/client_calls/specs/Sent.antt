@@ -6,10 +6,10 @@ use Rattle.http_edge.specs.Message.{Request}
 use Rattle.http_edge.specs.Spelling.{Begins}
 use Rattle.response_reader.specs.Answers.{Answer}
 use Rattle.api_routes.specs.Class.{class_of}
-use Rattle.client_model.specs.Runs.{Outside, AreAnswered, IsEnded, IsBrokenOff}
+use Rattle.client_model.specs.Runs.{Outside, IsEnded, IsBrokenOff}
 use Rattle.client_requests.specs.Spelled.{IsShortLine}
 use Rattle.client_calls.specs.Table.{Entry, calls_for}
-use Rattle.client_calls.specs.Laws.{AreToldSoFar}
+use Rattle.client_calls.specs.Laws.{AreAnsweredFirst, AreToldSoFar}
 
 -- one spelling of a request that has this class, and behind it the input where it follows, else nothing
 abbrev pub IsSentAs : List ℕ → List ℕ → Entry → Type 0
@@ -34,5 +34,6 @@ SendsCalls words = (status : ℕ) (o o' : Outside) (run : IsEnded words status o
 -- so were those of a run that was broken off, as far as they came, by the answers so far
 abbrev pub SendsCallsSoFar : List (List ℕ) → Type 0
 SendsCallsSoFar words = (status : ℕ) (o o' : Outside) (run : IsBrokenOff words status o o') → IsShortLine words
-    → (answers : List Answer) × (AreAnswered run.course.xs answers ⊎ AreToldSoFar run.course.xs answers)
+    → (answers : List Answer)
+    × (AreAnsweredFirst run.course.xs run.course.said.asked answers ⊎ AreToldSoFar run.course.xs run.course.said.asked answers)
     × AreSentAsUpTo run.course.input (map (λ x. x.sent) run.course.xs) (calls_for words answers)

@@ -6,7 +6,6 @@ use Rattle.response_reader.specs.Answers.{Answer, NoHead, Answered}
 use Rattle.api_routes.specs.Class.{or_refusal}
 use Rattle.api_routes.specs.declared.class.Class.{Class}
 use Rattle.client_model.specs.Bodies.{id_in, status_code_in}
-use Rattle.client_model.specs.Plans.{if_whole}
 use Rattle.client_model.specs.Streams.{ends_frames}
 use Rattle.client_model.specs.Lines.{line_of}
 use Rattle.client_model.specs.declared.command.NewContainer.{NewContainer}
@@ -28,6 +27,10 @@ abbrev pub fed : Bool → Meaning → Entry
 fed input meaning = record { class = or_refusal meaning; input = input }
 
 -- ---- by which answers a command goes on
+
+-- what is read where a body came whole
+abbrev pub if_whole : {A : Type 0} → Bool → Option A → Option A
+if_whole whole read = if whole then read else None
 
 -- what is read of an answer's body, where it came whole and doesn't refuse
 abbrev pub body_by : {A : Type 0} → (List ℕ → Option A) → Answer → Option A

@@ -8,13 +8,13 @@ use Rattle.journal_lines.specs.declared.verdict.Verdict.{Verdict}
 use Rattle.journal_lines.specs.declared.verdict.Verdict.TheVariants.{Legal, Illegal, BadLine}
 use Rattle.event_ring.specs.Fold.{fold_of}
 use Rattle.response_reader.specs.Heads.{first_in}
-use Rattle.engine_text.specs.declared.event.Event.{Event}
 use Rattle.client_model.specs.declared.command.Command.{Command}
 use Rattle.client_model.specs.declared.command.Command.TheVariants as command
 use Rattle.client_model.specs.Words.{no_word, one_word, two_words, value_of, has_flag}
 use Rattle.client_model.specs.Bodies.{status_code_in, container_lines_in, volume_names_in}
-use Rattle.client_model.specs.Plans.{done, prints_all, to_out, if_whole}
-use Rattle.client_model.specs.Streams.{payloads_of, ends_frames, ends_text, events_in}
+use Rattle.client_model.specs.Plans.{done, prints_all}
+use Rattle.client_model.specs.Streams.{events_in}
+use Rattle.client_model.specs.declared.showing.Showing.TheVariants.{Copied, Demuxed}
 use Rattle.client_model.specs.Client.{plan_of}
 use Rattle.client_model.specs.Commands.Start.{start_request, read_start}
 use Rattle.client_model.specs.Commands.Pause.{pause_request, read_pause}
@@ -41,7 +41,7 @@ use Rattle.client_model.specs.Commands.Replay.{replay_options, replay_in, verdic
 use Rattle.client_requests.proofs.SizeLemmas.{words_size}
 use Rattle.client_requests.proofs.WordLemmas.{IfSome-map, IfSome-and_then, IfSome-each, behind_within, length_value}
 use Rattle.client_requests.proofs.RequestLemmas.{start_spelled, pause_spelled, unpause_spelled, stop_spelled, restart_spelled, kill_spelled, remove_spelled, rename_spelled, list_spelled, inspect_spelled, version_spelled, logs_spelled, attach_spelled, wait_spelled, events_spelled, volume_create_spelled, volume_inspect_spelled, volume_remove_spelled, volume_list_spelled, journal_spelled}
-use Rattle.client_requests.proofs.PlanLemmas.{AsksSpelled, all_printed, answered, asking_any, asking_prints, asking_shows, streaming}
+use Rattle.client_requests.proofs.PlanLemmas.{AsksSpelled, all_printed, reading, answered, asking_any, asking_prints, asking_shows, streaming}
 
 -- the command asks only what is spelled
 abbrev pub Fit : Command → Type 0
@@ -123,12 +123,12 @@ pub logs : IsFit read_logs
 logs = behind_within Fit logs_options logs_in 4096 (λ given words short.
     let follow = has_flag (codes "-f") given in
     one_within Fit (λ target. command.Logs target follow) words
-    (λ word is. streaming payloads_of ends_frames (logs_request word follow) false done (logs_spelled word follow (omega (arith, is, short))) tt))
+    (λ word is. streaming Demuxed (logs_request word follow) false done (logs_spelled word follow (omega (arith, is, short))) tt))
 
 pub attaches : IsFit read_attach
 attaches words short =
     one_within Fit command.Attach words
-    (λ word is. streaming payloads_of ends_frames (attach_request word false) false done (attach_spelled word false (omega arith)) tt)
+    (λ word is. streaming Demuxed (attach_request word false) false done (attach_spelled word false (omega arith)) tt)
 
 -- ---- the daemon, volumes, and journals
 
@@ -140,20 +140,20 @@ waits words short =
 pub events : IsFit read_events
 events words short =
     two_within Fit command.Events words
-    (λ word other is. streaming to_out ends_text (events_request word other) false done (events_spelled word other (omega arith)) tt)
+    (λ word other is. streaming Copied (events_request word other) false done (events_spelled word other (omega arith)) tt)
 
-watched_fit : (first : Option ℕ) (events : Option (List Event)) → AsksSpelled (watched first events)
-watched_fit None told = tt
-watched_fit (Some zero) None = tt
-watched_fit (Some zero) (Some told) = all_printed (map row_line (fold_of told)) done tt
-watched_fit (Some (suc n)) told = tt
+watched_fit : (first : Option ℕ) (body : List ℕ) (whole : Bool) → AsksSpelled (watched first body whole)
+watched_fit None body whole = tt
+watched_fit (Some zero) body whole =
+    reading events_in (λ es. prints_all (map row_line (fold_of es)) done) body whole
+    (IfSome-each (λ es. AsksSpelled (prints_all (map row_line (fold_of es)) done)) (events_in body) (λ es. all_printed (map row_line (fold_of es)) done tt))
+watched_fit (Some (suc n)) body whole = tt
 
 pub watches : IsFit read_watch
 watches words short =
     one_within Fit command.Watch words (λ word is. (
       events_spelled (codes "0") word (omega arith),
-      answered (λ h body whole. watched (first_in h.form) (if_whole whole (events_in body)))
-          (λ h body whole. watched_fit (first_in h.form) (if_whole whole (events_in body))),
+      answered (λ h body whole. watched (first_in h.form) body whole) (λ h body whole. watched_fit (first_in h.form) body whole),
     ))
 
 pub volume_creates : IsFit read_volume_create
@@ -174,7 +174,7 @@ volume_lists words short =
     (asking_any volume_list_request volume_names_in (λ names. prints_all names done) volume_list_spelled (λ names. all_printed names done tt))
 
 pub journals : IsFit read_journal
-journals words short = none_within Fit command.Journal words (streaming to_out ends_text journal_request false done journal_spelled tt)
+journals words short = none_within Fit command.Journal words (streaming Copied journal_request false done journal_spelled tt)
 
 judged : (verdict : Verdict) → AsksSpelled (verdict_plan verdict)
 judged (Legal steps) = tt

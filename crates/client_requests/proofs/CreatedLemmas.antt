@@ -13,7 +13,8 @@ use Rattle.client_model.specs.declared.fault.Fault.TheVariants as F
 use Rattle.client_model.specs.Words.{value_of, has_flag}
 use Rattle.client_model.specs.Bodies.{text_in, if_id, id_in, status_code_in}
 use Rattle.client_model.specs.Plans.{Plan, asks, ends, done, fails, prints}
-use Rattle.client_model.specs.Streams.{payloads_of, ends_frames, follows}
+use Rattle.client_model.specs.Streams.{follows}
+use Rattle.client_model.specs.declared.showing.Showing.TheVariants.{Demuxed}
 use Rattle.client_model.specs.Commands.Container.{container_options, restart_in, container_with, container_of, create_request, restart_of, read_policy}
 use Rattle.client_model.specs.Commands.Create.{create_in, read_create}
 use Rattle.client_model.specs.Commands.Run.{run_options, run_in, removes, read_run}
@@ -52,7 +53,7 @@ started : (c : NewContainer) (remove : Bool) (id : List ℕ) → length id ≤ 4
 started c remove id short =
     let behind : Plan = asks (wait_request id) status_code_in (λ code. removes remove id (ends code)) in
     asking_any (start_request id) Some (λ body. follows (attach_request id c.input) c.input behind) (start_spelled id short)
-    (λ body. streaming payloads_of ends_frames (attach_request id c.input) c.input behind (attach_spelled id c.input short)
+    (λ body. streaming Demuxed (attach_request id c.input) c.input behind (attach_spelled id c.input short)
     (asking_any (wait_request id) status_code_in (λ code. removes remove id (ends code)) (wait_spelled id short) (λ code. removed code remove)))
   where
     removed : (code : ℕ) (remove : Bool) → AsksSpelled (removes remove id (ends code))
@@ -109,7 +110,7 @@ entered : (input : Bool) (id : List ℕ) → length id ≤ 4096
     asks (exec_inspect_request id) exit_code_in (λ code. option_map_or ends code (fails F.NoCode))))
 entered input id short =
     let last : Option ℕ → Plan = λ code. option_map_or ends code (fails F.NoCode) in
-    streaming payloads_of ends_frames (exec_start_request id) input (asks (exec_inspect_request id) exit_code_in last) (exec_start_spelled id short)
+    streaming Demuxed (exec_start_request id) input (asks (exec_inspect_request id) exit_code_in last) (exec_start_spelled id short)
     (asking_any (exec_inspect_request id) exit_code_in last (exec_inspect_spelled id short) ended)
   where
     ended : (code : Option ℕ) → AsksSpelled (option_map_or ends code (fails F.NoCode))

@@ -9,8 +9,9 @@ use Rattle.journal_lines.specs.declared.verdict.Verdict.{Verdict}
 use Rattle.response_reader.specs.Answers.{Answer, NoHead, Answered}
 use Rattle.client_model.specs.declared.fault.Fault.TheVariants as F
 use Rattle.client_model.specs.Bodies.{message_in}
-use Rattle.client_model.specs.Plans.{Plan, Ends, Asks, Judges, Written, to_out, writes, prints, prints_all, fails, done, goes_on, if_whole, by_answer, asks, asks_and_prints, asks_and_shows}
-use Rattle.client_model.specs.Streams.{streams}
+use Rattle.client_model.specs.Plans.{Plan, Ends, Asks, Judges, Written, to_out, writes, prints, prints_all, fails, done, goes_on, reads, refuses, by_answer, asks, asks_and_prints, asks_and_shows}
+use Rattle.client_model.specs.Streams.{shows, may_end, streams}
+use Rattle.client_model.specs.declared.showing.Showing.{Showing}
 use Rattle.client_model.specs.Client.{said_by}
 use Rattle.client_requests.specs.Spelled.{IsSpelled}
 use Rattle.client_requests.proofs.WordLemmas.{IfSome-each}
@@ -42,9 +43,10 @@ going : {A : Type 0} (next : A → Plan) (read : Option A) → IfSome read (λ x
 going next None is = tt
 going next (Some x) is = is
 
-whole_of : {A : Type 0} (P : A → Type 0) (whole : Bool) (read : Option A) → IfSome read P → IfSome (if_whole whole read) P
-whole_of P true read is = is
-whole_of P false read is = tt
+pub reading : {A : Type 0} (read : List ℕ → Option A) (next : A → Plan) (body : List ℕ) (whole : Bool) → IfSome (read body) (λ x. AsksSpelled (next x))
+    → AsksSpelled (reads read next body whole)
+reading read next body true is = going next (read body) is
+reading read next body false is = tt
 
 pub answered : (next : Head → List ℕ → Bool → Plan)
     → ((h : Head) (body : List ℕ) (whole : Bool) → AsksSpelled (next h body whole))
@@ -52,21 +54,18 @@ pub answered : (next : Head → List ℕ → Bool → Plan)
 answered next each NoHead = tt
 answered next each (Answered h body whole) = by (nat_lt h.status 400)
   where
-    by : (t : Bool) → AsksSpelled (cond t (next h body whole) (goes_on (λ message. fails (F.Refused message)) (if_whole whole (message_in body))))
+    by : (t : Bool) → AsksSpelled (cond t (next h body whole) (refuses body whole))
     by true = each h body whole
     by false =
-        going (λ message. fails (F.Refused message)) (if_whole whole (message_in body))
-        (IfSome-each (λ message. AsksSpelled (fails (F.Refused message))) (if_whole whole (message_in body)) (λ message. tt))
+        reading message_in (λ message. fails (F.Refused message)) body whole
+        (IfSome-each (λ message. AsksSpelled (fails (F.Refused message))) (message_in body) (λ message. tt))
 
 -- it asks, and what is read of an answer goes on so
 pub asking : {A : Type 0} (request : Request) (read : List ℕ → Option A) (next : A → Plan) → SpellsItself request
     → ((body : List ℕ) → IfSome (read body) (λ x. AsksSpelled (next x)))
     → AsksSpelled (asks request read next)
-asking request read next is each = (
-  is,
-  answered (λ h body whole. goes_on next (if_whole whole (read body)))
-      (λ h body whole. going next (if_whole whole (read body)) (whole_of (λ x. AsksSpelled (next x)) whole (read body) (each body))),
-)
+asking request read next is each =
+    (is, answered (λ h body whole. reads read next body whole) (λ h body whole. reading read next body whole (each body)))
 
 -- it goes on so whatever is read
 pub asking_any : {A : Type 0} (request : Request) (read : List ℕ → Option A) (next : A → Plan) → SpellsItself request
@@ -80,12 +79,12 @@ asking_prints request line is = asking_any request Some (λ body. prints line do
 pub asking_shows : (request : Request) → SpellsItself request → AsksSpelled (asks_and_shows request)
 asking_shows request is = asking_any request Some (λ body. prints body done) is (λ body. tt)
 
-pub streaming : (shows : List ℕ → Written) (may_end : List ℕ → Bool) (request : Request) (input : Bool) (next : Plan)
-    → SpellsItself request → AsksSpelled next → AsksSpelled (streams shows may_end request input next)
-streaming shows may_end request input next is behind = (
+pub streaming : (showing : Showing) (request : Request) (input : Bool) (next : Plan)
+    → SpellsItself request → AsksSpelled next → AsksSpelled (streams showing request input next)
+streaming showing request input next is behind = (
   is,
-  answered (λ h body whole. writes (shows body) (cond (whole && may_end body) next (fails F.Answer)))
-      (λ h body whole. written (shows body) (cond (whole && may_end body) next (fails F.Answer)) (by (whole && may_end body))),
+  answered (λ h body whole. writes (shows showing body) (cond (whole && may_end showing body) next (fails F.Answer)))
+      (λ h body whole. written (shows showing body) (cond (whole && may_end showing body) next (fails F.Answer)) (by (whole && may_end showing body))),
 )
   where
     by : (t : Bool) → AsksSpelled (cond t next (fails F.Answer))
