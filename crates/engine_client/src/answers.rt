@@ -4,6 +4,7 @@ mod faults;
 mod fields;
 mod lists;
 mod telling;
+mod usage;
 
 pub use codes::{exit_code_in, status_code_in};
 pub use faults::{fault_line, status_of};
