@@ -17,16 +17,16 @@ use Rattle.response_reader.specs.declared.got.Stage.TheVariants as stage
 use Rattle.response_reader.specs.declared.got.Stopped.{Stopped}
 use Rattle.response_reader.specs.declared.got.Stopped.TheVariants as stop
 use Rattle.response_reader.specs.declared.got.Answered.TheVariants as head
-use Rattle.client_model.specs.Bodies.{message_in}
-use Rattle.client_model.specs.Plans.{Written, nothing, goes_on, if_whole, fails}
-use Rattle.client_model.specs.Runs.{AreFronts}
+use Rattle.client_model.specs.Plans.{Written, nothing, refuses, fails}
+use Rattle.client_model.specs.Runs.{AreFronts, shows_unfit}
+use Rattle.client_model.specs.Streams.{shows, is_unfit}
 use Rattle.client_model.specs.declared.fault.Fault.{Fault}
 use Rattle.client_model.specs.declared.fault.Fault.TheVariants as F
 use Rattle.client_streams.specs.Outputs.{Outputs, BothBegan}
-use Rattle.client_streams.specs.Taking.{Taken, taken, shows}
+use Rattle.client_streams.specs.Taking.{Taken, taken}
 use Rattle.client_exchange.specs.Telling.{Stands, Told, ToldSoFar, ReadFails, HadToWrite, FollowSays, Refuses, answer_shows, unread_answer, FaultSays, Goes, IsRefused, BreaksOff, RefusalSays, AnswerSays}
-use Rattle.client_streams.specs.declared.taker.Showing.{Showing}
-use Rattle.client_streams.specs.declared.taker.Showing.TheVariants.{Kept}
+use Rattle.client_model.specs.declared.showing.Showing.{Showing}
+use Rattle.client_model.specs.declared.showing.Showing.TheVariants.{Kept}
 use Rattle.client_streams.proofs.OutputLemmas.{both_none, fronts_none}
 use Rattle.client_exchange.proofs.FollowLemmas.{has_ended}
 
@@ -67,18 +67,18 @@ stops_now old new why s s' fact is (at, inr now) = now.1
 given : (P : List ℕ → Type 0) (old : Reading) (s s' : SourceView) → old ≡ unread_answer → (r : Reached old.ahead s s' P) → P r.read
 given P old s s' is r = subst P (ap (λ (o : Reading). o.ahead ++ r.read) is) r.holds
 
-no_head : (s s' : SourceView) (o : Outputs) → Told s s' NoHead → IsRefused F.Answer s s' o o
-no_head s s' o told = record { answer = NoHead; told = told; refuses = λ next. refl; took = both_none o }
+no_head : (showing : Showing) (s s' : SourceView) (o : Outputs) → Told false s s' NoHead → IsRefused F.Answer showing s s' o o
+no_head showing s s' o told = record { answer = NoHead; told = told; refuses = λ next. refl; took = both_none o }
 
-pub bad_head : (at : ℕ) (old new : Reading) (s s' : SourceView) (o : Outputs) → old ≡ unread_answer → HeadSays (head.BadHead at) old new s s' → IsRefused F.Answer s s' o o
-bad_head at old new s s' o is says =
+pub bad_head : (showing : Showing) (at : ℕ) (old new : Reading) (s s' : SourceView) (o : Outputs) → old ≡ unread_answer → HeadSays (head.BadHead at) old new s s' → IsRefused F.Answer showing s s' o o
+bad_head showing at old new s s' o is says =
     let now = stops_now old new (stop.BadHead at) s s' _ is says in
-    no_head s s' o (record { bytes = now.1.read; gave = now.1.gave; is = inl (given (NeverHas IsHead) old s s' is now.1) })
+    no_head showing s s' o (record { bytes = now.1.read; gave = now.1.gave; is = inl (given (NeverHas IsHead) old s s' is now.1) })
 
-pub cut_head : (old new : Reading) (s s' : SourceView) (o : Outputs) → s.ends ≡ 0 → old ≡ unread_answer → HeadSays head.CutShort old new s s' → IsRefused F.Answer s s' o o
-cut_head old new s s' o fresh is says =
+pub cut_head : (showing : Showing) (old new : Reading) (s s' : SourceView) (o : Outputs) → s.ends ≡ 0 → old ≡ unread_answer → HeadSays head.CutShort old new s s' → IsRefused F.Answer showing s s' o o
+cut_head showing old new s s' o fresh is says =
     let now = stops_now old new stop.CutShort s s' _ is says in
-    no_head s s' o (record {
+    no_head showing s s' o (record {
       bytes = now.0.read;
       gave = now.0.gave;
       is = inr (given (IsPartOf IsHead) old s s' is now.0, has_ended s s s' [] fresh (source_none s) now.1);
@@ -92,7 +92,7 @@ head_failed showing old new s s' o is says =
       began = record { part = nothing; fronts = fronts_none nothing; took = both_none o };
       cause = now.1;
       had = tt;
-      all = λ connection. (given (IsPartOf IsHead) old s s' is now.0, refl);
+      all = λ connection. (given (IsPartOf IsHead) old s s' is now.0, refl, refl);
     }
 
 -- ---- a body
@@ -102,6 +102,12 @@ shown_below showing h body whole less = ap (λ t. if t then shows showing body e
 
 shown_above : (showing : Showing) (h : Head) (body : List ℕ) (whole : Bool) → nat_lt h.status 400 ≡ false → nothing ≡ answer_shows showing (Answered h body whole)
 shown_above showing h body whole more = ap (λ t. if t then shows showing body else nothing) (sym more)
+
+unfit_below : (showing : Showing) (h : Head) (body : List ℕ) (whole : Bool) → nat_lt h.status 400 ≡ true → is_unfit showing body ≡ shows_unfit showing (Answered h body whole)
+unfit_below showing h body whole less = ap (λ t. is_unfit (if t then showing else Kept) body) (sym less)
+
+unfit_above : (showing : Showing) (h : Head) (body : List ℕ) (whole : Bool) → nat_lt h.status 400 ≡ false → is_unfit Kept body ≡ shows_unfit showing (Answered h body whole)
+unfit_above showing h body whole more = ap (λ t. is_unfit (if t then showing else Kept) body) (sym more)
 
 -- the same part of it was written
 abbrev began_as : (o o' : Outputs) (w v : Written) → w ≡ v → BothBegan o w o' → BothBegan o v o'
@@ -113,8 +119,15 @@ memory_connection e = cc
 pub goes : (h : Head) (first : Option ℕ) (whole : Bool) (showing : Showing) (t : Taken) (came s : SourceView) (o o' : Outputs)
     → nat_lt h.status 400 ≡ true → first ≡ first_in h.form → FollowSays (Ok whole) came h showing t s o o'
     → Goes (record { first = first; whole = whole }) showing t came s o o'
-goes h first whole showing t came s o o' less is (body, kept, told, took) =
-    record { head = h; body = body; status = less; first = is; kept = kept; told = told; took = took }
+goes h first whole showing t came s o o' less is (body, kept, told, took) = record {
+  head = h;
+  body = body;
+  status = less;
+  first = is;
+  kept = kept;
+  told = subst (λ u. Told u came s (Answered h body whole)) (unfit_below showing h body whole less) told;
+  took = took;
+}
 
 pub breaks_off : (h : Head) (fault : Fault) (showing : Showing) (t : Taken) (came s : SourceView) (o o' : Outputs)
     → nat_lt h.status 400 ≡ true → FollowSays (Err fault) came h showing t s o o' → BreaksOff fault showing came s o o'
@@ -124,36 +137,36 @@ breaks_off h fault showing t came s o o' less (body, told, began, cause, had, al
   began = began_as o o' (shows showing body) (answer_shows showing (Answered h body false)) (shown_below showing h body false less) began;
   cause = cause;
   had = subst (HadToWrite fault) (shown_below showing h body false less) had;
-  all = λ connection. let counted = all connection in (counted.0, counted.1 ∙ shown_below showing h body false less);
+  all = λ connection. let counted = all connection in (counted.0, sym (unfit_below showing h body false less) ∙ counted.1, counted.2 ∙ shown_below showing h body false less);
 }
 
 -- by an answer that refuses, every command fails so
-refuses : (h : Head) (body : List ℕ) (whole : Bool) (fault : Fault) → nat_lt h.status 400 ≡ false
-    → goes_on (λ message. fails (F.Refused message)) (if_whole whole (message_in body)) ≡ fails fault → Refuses (Answered h body whole) fault
-refuses h body whole fault more is = λ next.
-    ap (λ t. if t then next h body whole else goes_on (λ message. fails (F.Refused message)) (if_whole whole (message_in body))) more ∙ is
+refuses_so : (h : Head) (body : List ℕ) (whole : Bool) (fault : Fault) → nat_lt h.status 400 ≡ false → refuses body whole ≡ fails fault → Refuses (Answered h body whole) fault
+refuses_so h body whole fault more is = λ next. ap (λ t. if t then next h body whole else refuses body whole) more ∙ is
 
-told_less : (came s : SourceView) (h : Head) (body : List ℕ) (whole : Bool) → Told came s (Answered h body whole) → ToldSoFar came s (Answered h body false)
-told_less came s h body whole t =
+told_less : (unfit : Bool) (came s : SourceView) (h : Head) (body : List ℕ) (whole : Bool) → Told unfit came s (Answered h body whole) → ToldSoFar came s (Answered h body false)
+told_less false came s h body whole t =
     record { bytes = t.bytes; gave = t.gave; is = (t.is.0, t.is.1, t.is.2, t.is.3, t.is.4) }
+told_less true came s h body false t = record { bytes = t.bytes; gave = t.gave; is = t.is }
+told_less true came s h body true t = absurd t.is
 
 refused_so : (h : Head) (whole : Bool) (fault : Fault) (t : Taken) (kept : List ℕ) (came s : SourceView) (o o' : Outputs) → nat_lt h.status 400 ≡ false
     → FollowSays (Ok whole) came h Kept t s o o' → kept ≡ t.kept → FaultSays fault whole kept → RefusalSays fault came s o o'
-refused_so h whole fault t kept came s o o' more (body, is, told, took) same (inl memory) =
-    inr (λ showing. record {
+refused_so h whole fault t kept came s o o' more (body, is, told, took) same (inl memory) = λ showing.
+    inr (record {
       answer = Answered h body false;
-      told = told_less came s h body whole told;
+      told = told_less (is_unfit Kept body) came s h body whole told;
       began = record { part = nothing; fronts = fronts_none (answer_shows showing (Answered h body false)); took = took };
       cause = subst (λ f. ReadFails f came s o o') (sym memory) tt;
       had = subst (λ f. HadToWrite f (answer_shows showing (Answered h body false))) (sym memory) (sym (shown_above showing h body false more));
       all = λ connection. absurd (memory_connection (sym memory ∙ connection));
     })
-refused_so h whole fault t kept came s o o' more (body, is, told, took) same (inr tells) =
+refused_so h whole fault t kept came s o o' more (body, is, told, took) same (inr tells) = λ showing.
     let bytes : kept ≡ body = same ∙ ap (λ (k : Taken). k.kept) is in
     inl (record {
       answer = Answered h body whole;
-      told = told;
-      refuses = refuses h body whole fault more (ap (λ l. goes_on (λ message. fails (F.Refused message)) (if_whole whole (message_in l))) (sym bytes) ∙ tells);
+      told = subst (λ u. Told u came s (Answered h body whole)) (unfit_above showing h body whole more) told;
+      refuses = refuses_so h body whole fault more (ap (λ l. refuses l whole) (sym bytes) ∙ tells);
       took = took;
     })
 
@@ -164,14 +177,16 @@ refused h whole fault showing t kept came s o o' is more says =
 
 failed_so : (h : Head) (fault : Fault) (t : Taken) (came s : SourceView) (o o' : Outputs) → nat_lt h.status 400 ≡ false
     → FollowSays (Err fault) came h Kept t s o o' → RefusalSays fault came s o o'
-failed_so h fault t came s o o' more (body, told, began, cause, had, all) =
-    inr (λ showing. record {
+failed_so h fault t came s o o' more (body, told, began, cause, had, all) = λ showing.
+    inr (record {
       answer = Answered h body false;
       told = told;
       began = began_as o o' nothing (answer_shows showing (Answered h body false)) (shown_above showing h body false more) began;
       cause = cause;
       had = subst (HadToWrite fault) (shown_above showing h body false more) had;
-      all = λ connection. let counted = all connection in (counted.0, counted.1 ∙ shown_above showing h body false more);
+      all = λ connection.
+          let counted = all connection in
+          (counted.0, sym (unfit_above showing h body false more) ∙ counted.1, counted.2 ∙ shown_above showing h body false more);
     })
 
 pub refused_failed : (h : Head) (fault : Fault) (showing : Showing) (t : Taken) (came s : SourceView) (o o' : Outputs) → showing ≡ Kept
@@ -182,5 +197,4 @@ refused_failed h fault showing t came s o o' is more says =
 -- what a refusal says of any showing
 pub refusal_says : (fault : Fault) (showing : Showing) (t : Taken) (came s : SourceView) (o o' : Outputs) → RefusalSays fault came s o o'
     → AnswerSays (Err fault) showing t came s o o'
-refusal_says fault showing t came s o o' (inl r) = inl r
-refusal_says fault showing t came s o o' (inr b) = inr (b showing)
+refusal_says fault showing t came s o o' says = says showing

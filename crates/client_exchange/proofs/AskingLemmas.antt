@@ -5,12 +5,13 @@ use Rattle.std.specs.declared.alloc.Global.{Global}
 use Rattle.engine_ports.specs.Source.{SourceView}
 use Rattle.http_edge.specs.Message.{Request}
 use Rattle.client_model.specs.Requests.{request_bytes}
+use Rattle.client_model.specs.Plans.{cut_fault}
 use Rattle.client_model.specs.declared.fault.Fault.{Fault}
 use Rattle.client_streams.specs.Taking.{Taken, taken, ends_by}
-use Rattle.client_streams.specs.declared.taker.Showing.{Showing}
-use Rattle.client_streams.specs.declared.taker.Showing.TheVariants.{Kept, Copied, Demuxed}
+use Rattle.client_model.specs.declared.showing.Showing.{Showing}
+use Rattle.client_model.specs.declared.showing.Showing.TheVariants.{Kept, Copied, Demuxed}
 use Rattle.client_exchange.specs.declared.got.Got.{Got}
-use Rattle.client_exchange.specs.Exchanges.{Reach, HasGone, FailsSo, ExchangeSays, HasShown, AskSays, NumberedSays, ShowSays}
+use Rattle.client_exchange.specs.Exchanges.{Reach, HasGone, FailsSo, ExchangeSays, HasShown, IsCut, AskSays, NumberedSays, ShowSays}
 use Rattle.client_exchange.specs.Walks.{Does}
 use Rattle.client_exchange.specs.Asking.{asks_body, shown_by, AskDoes, NumberedDoes, ShowDoes}
 use Rattle.client_exchange.specs.Feeding.{FedFails, FedSays, HasFed, FedDoes, ShowFedSays, ShowFedDoes}
@@ -66,8 +67,14 @@ module _ (bytes : List ℕ) (showing : Showing) (t : Taken) (o o' : Reach) (kept
         took = g.took;
       }
 
-  pub kept_short : (got : Got) → ExchangeSays bytes (Ok got) showing t o o' → got.whole ≡ false → HasShown bytes false Kept o o'
-  kept_short got says cut = shown_so bytes Kept t o o' false got (subst (λ k. HasGone bytes got k t o o') kept says) (ap (λ w. w && ends_by t) cut)
+  pub kept_cut : (got : Got) (fault : Fault) → ExchangeSays bytes (Ok got) showing t o o' → got.whole ≡ false → fault ≡ cut_fault t.kept → IsCut bytes fault o o'
+  kept_cut got fault says cut is = by (subst (λ k. HasGone bytes got k t o o') kept says)
+    where
+      by : HasGone bytes got Kept t o o' → IsCut bytes fault o o'
+      by g = (
+        record { got = got; t = t; gone = g; is = ap (λ e. got.whole && e) (sym (ends_as Kept t g.body g.kept)) ∙ ap (λ w. w && ends_by t) cut },
+        is ∙ ap (λ (k : Taken). cut_fault k.kept) g.kept,
+      )
 
   pub kept_not : (fault : Fault) → ExchangeSays bytes (Err fault) showing t o o' → FailsSo bytes fault Kept o o'
   kept_not fault says = subst (λ k. FailsSo bytes fault k o o') kept says
@@ -97,9 +104,9 @@ module _ (bytes : List ℕ) (r : Request) (same : bytes ≡ request_bytes r) (o 
 
   pub asked_so : (result : Result (Vec ℕ Global) Fault) → AskSays bytes result o o' → AskDoes r result o o'
   asked_so (Ok body) (got, whole, gone) = λ next. ask_goes r got (taken Kept body.items) o o' next whole (gone_as got Kept (taken Kept body.items) gone)
-  asked_so (Err fault) (inl (is, x)) = λ next.
+  asked_so (Err fault) (inl (x, is)) = λ next.
       subst (λ f. Does (asks_body r next) (Err f) o o') (sym is)
-      (ask_cut r x.got x.t o o' next (cut_short x.got.whole x.is) (gone_as x.got Kept x.t x.gone))
+      (ask_cut r bytes x.got x.t o o' next same (cut_short x.got.whole x.is) x.gone)
   asked_so (Err fault) (inr x) = λ next. ask_fails r fault (taken Kept []) o o' (fails_as fault Kept x) next
 
   pub numbered_so : (result : Result (Got × Vec ℕ Global) Fault) → NumberedSays bytes result o o' → NumberedDoes r result o o'

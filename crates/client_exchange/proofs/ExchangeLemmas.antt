@@ -11,7 +11,7 @@ use Rattle.engine_ports.proofs.PortLemmas.{source_none}
 use Rattle.response_reader.specs.Answers.{Answer, NoHead}
 use Rattle.response_reader.proofs.HeadLemmas.{nothing_begins}
 use Rattle.client_model.specs.Plans.{nothing}
-use Rattle.client_model.specs.Runs.{Exchange, IsSilent, WasSent, HaveCome, AreLeft}
+use Rattle.client_model.specs.Runs.{Exchange, shows_unfit, IsSilent, WasSent, HaveCome, AreLeft}
 use Rattle.client_model.specs.declared.fault.Fault.{Fault}
 use Rattle.client_model.specs.declared.fault.Fault.TheVariants as F
 use Rattle.client_streams.specs.Outputs.{Outputs, BothTook}
@@ -20,7 +20,7 @@ use Rattle.client_exchange.specs.Telling.{Told, ReadFails, HadToWrite, BreaksOff
 use Rattle.client_exchange.specs.Exchanges.{SendFails, IsUnsent, ConverseSays, MeetsOne, IsAnswered, HasGone, HasRefused, FailsOn, HasBroken, HasMissed, ExchangeSays}
 use Rattle.client_exchange.specs.Feeding.{InputFails, TalkSays, FedSays}
 use Rattle.client_exchange.specs.declared.got.Got.{Got}
-use Rattle.client_streams.specs.declared.taker.Showing.{Showing}
+use Rattle.client_model.specs.declared.showing.Showing.{Showing}
 use Rattle.client_streams.proofs.OutputLemmas.{both_none, fronts_none}
 
 -- a connection that was made is owed
@@ -79,9 +79,10 @@ module _ (address : List ℕ) (v v1 v2 : LinkView) (s s' : SourceView) (u u' : S
     faults = left.faults ∙ made.faults;
   }
 
-  answered : (request : List ℕ) (answer : Answer) → SinkTook u request u' → Told s s' answer → IsAnswered request answer (but_for address v) (but_for address v2)
+  answered : (request : List ℕ) (showing : Showing) (answer : Answer) → SinkTook u request u' → Told (shows_unfit showing answer) s s' answer
+      → IsAnswered request showing answer (but_for address v) (but_for address v2)
   unfolding exchange_of
-  answered request answer took told = record {
+  answered request showing answer took told = record {
     exchange = exchange_of s s' u u' told.bytes request told.gave took;
     meets = meets (exchange_of s s' u u' told.bytes request told.gave took) refl refl;
     sent = refl;
@@ -99,6 +100,7 @@ module _ (address : List ℕ) (v v1 v2 : LinkView) (s s' : SourceView) (u u' : S
   fails_on starved F.Answer x o o' came was f = absurd f
   fails_on starved F.NoCode x o o' came was f = absurd f
   fails_on starved F.EventsGone x o o' came was f = absurd f
+  fails_on starved F.TooLong x o o' came was f = absurd f
   fails_on starved (F.Refused message) x o o' came was f = absurd f
   fails_on starved F.Link x o o' came was f = absurd f
 
@@ -113,6 +115,7 @@ module _ (address : List ℕ) (v v1 v2 : LinkView) (s s' : SourceView) (u u' : S
   send_fails starved F.Answer x o o' came was f = absurd f
   send_fails starved F.NoCode x o o' came was f = absurd f
   send_fails starved F.EventsGone x o o' came was f = absurd f
+  send_fails starved F.TooLong x o o' came was f = absurd f
   send_fails starved (F.Refused message) x o o' came was f = absurd f
   send_fails starved F.Link x o o' came was f = absurd f
 
@@ -142,6 +145,7 @@ module _ (address : List ℕ) (v v1 v2 : LinkView) (s s' : SourceView) (u u' : S
       sent_all F.Answer r = absurd r
       sent_all F.NoCode r = absurd r
       sent_all F.EventsGone r = absurd r
+      sent_all F.TooLong r = absurd r
       sent_all (F.Refused message) r = absurd r
       sent_all F.Link r = absurd r
 
@@ -156,6 +160,7 @@ module _ (address : List ℕ) (v v1 v2 : LinkView) (s s' : SourceView) (u u' : S
   unsent_had starved F.Answer f = absurd f
   unsent_had starved F.NoCode f = absurd f
   unsent_had starved F.EventsGone f = absurd f
+  unsent_had starved F.TooLong f = absurd f
   unsent_had starved (F.Refused message) f = absurd f
   unsent_had starved F.Link f = absurd f
 
@@ -170,6 +175,7 @@ module _ (address : List ℕ) (v v1 v2 : LinkView) (s s' : SourceView) (u u' : S
   unsent_sent starved F.Answer x bytes f silent = absurd f
   unsent_sent starved F.NoCode x bytes f silent = absurd f
   unsent_sent starved F.EventsGone x bytes f silent = absurd f
+  unsent_sent starved F.TooLong x bytes f silent = absurd f
   unsent_sent starved (F.Refused message) x bytes f silent = absurd f
   unsent_sent starved F.Link x bytes f silent = absurd f
 
@@ -189,7 +195,7 @@ module _ (address : List ℕ) (v v1 v2 : LinkView) (s s' : SourceView) (u u' : S
           began = record { part = nothing; fronts = fronts_none nothing; took = subst (BothTook o nothing) (sym b.unshown) (both_none o) };
           cause = subst (λ f. FailsOn starved f x o o') same (send_fails starved b.fault x o o' refl refl b.cause);
           had = subst (λ f. HadToWrite f nothing) same (unsent_had starved b.fault b.cause);
-          all = λ connection. (nothing_begins, refl);
+          all = λ connection. (nothing_begins, refl, refl);
         },
         refl,
       )
@@ -201,16 +207,16 @@ module _ (address : List ℕ) (v v1 v2 : LinkView) (s s' : SourceView) (u u' : S
   pub Gets : List ℕ → Type 0 → Result Got Fault → Showing → Taken → Outputs → Outputs → Type 0
   Gets bytes starved (Ok got) showing t o o' = HasGone bytes got showing t (record { link = but_for address v; shown = o }) (record { link = but_for address v2; shown = o' })
   Gets bytes starved (Err fault) showing t o o' =
-      HasRefused bytes fault (record { link = but_for address v; shown = o }) (record { link = but_for address v2; shown = o' })
+      HasRefused bytes fault showing (record { link = but_for address v; shown = o }) (record { link = but_for address v2; shown = o' })
       ⊎ HasBroken bytes starved fault showing (record { link = but_for address v; shown = o }) (record { link = but_for address v2; shown = o' })
 
   pub gets : (bytes : List ℕ) (starved : Type 0) (result : Result Got Fault) (showing : Showing) (t : Taken) (o o' : Outputs)
       → ConverseSays bytes starved result showing t s s' u u' o o' → Gets bytes starved result showing t o o'
   unfolding Gets
   gets bytes starved (Ok got) showing t o o' (inl (took, g)) =
-      record { head = g.head; body = g.body; status = g.status; first = g.first; kept = g.kept; answered = answered bytes _ took g.told; took = g.took }
+      record { head = g.head; body = g.body; status = g.status; first = g.first; kept = g.kept; answered = answered bytes showing _ took g.told; took = g.took }
   gets bytes starved (Err fault) showing t o o' (inl (took, inl r)) =
-      inl (record { answer = r.answer; answered = answered bytes r.answer took r.told; refuses = r.refuses; took = r.took })
+      inl (record { answer = r.answer; answered = answered bytes showing r.answer took r.told; refuses = r.refuses; took = r.took })
   gets bytes starved (Err fault) showing t o o' (inl (took, inr b)) = inr (broken bytes starved fault showing o o' took b)
   gets bytes starved (Ok got) showing t o o' (inr b) = absurd (no_fault (Ok got) got b.fault refl b.is)
     where

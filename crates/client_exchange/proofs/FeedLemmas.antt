@@ -11,8 +11,9 @@ use Rattle.client_model.specs.Plans.{Plan, Asked, nothing, writes, fails, by_ans
 use Rattle.client_model.specs.Runs.{sent_by}
 use Rattle.client_model.specs.declared.fault.Fault.{Fault}
 use Rattle.client_model.specs.declared.fault.Fault.TheVariants as F
-use Rattle.client_streams.specs.Taking.{Taken, shows, ends_by}
-use Rattle.client_streams.specs.declared.taker.Showing.{Showing}
+use Rattle.client_model.specs.Streams.{shows}
+use Rattle.client_streams.specs.Taking.{Taken, ends_by}
+use Rattle.client_model.specs.declared.showing.Showing.{Showing}
 use Rattle.client_streams.proofs.OutputLemmas.{both_none}
 use Rattle.client_exchange.specs.declared.got.Got.{Got}
 use Rattle.client_exchange.specs.Exchanges.{Reach, HasGone}
@@ -116,7 +117,7 @@ module _ (showing : Showing) (request : Request) (next : Plan) where
   plan = shown_by showing request true next
 
   abbrev asked : Asked
-  asked = record { request = request; input = true }
+  asked = record { request = request; input = true; showing = showing }
 
   -- the plan that an answer leads to is reached
   reaches : (got : Got) (t : Taken) (input : List ℕ) (last : Plan) (v v' : SourceView) (o o' : Reach) → SourceGave v input v' → SourceEnded v v'
@@ -173,7 +174,7 @@ module _ (showing : Showing) (request : Request) (next : Plan) where
       walks = walk_none plan o;
       input = input;
       gave = gave;
-      stops = broken_stops asked input (by_shown showing next) (InputFails v v') showing fault o o' (λ h body. (F.Answer, refl)) b;
+      stops = broken_stops asked input (by_shown showing next) (InputFails v v') fault o o' (λ h body. (F.Answer, refl)) b;
       loud = refl;
       fed = fed;
     },

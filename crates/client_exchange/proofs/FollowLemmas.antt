@@ -24,12 +24,13 @@ use Rattle.client_model.specs.Runs.{AreFronts}
 use Rattle.client_model.specs.declared.fault.Fault.{Fault}
 use Rattle.client_model.specs.declared.fault.Fault.TheVariants as F
 use Rattle.client_streams.specs.Outputs.{Outputs, BothTook, OutputsFail, WritesBoth, WasToWrite}
-use Rattle.client_streams.specs.Taking.{Taken, taken, shows, adds, IfUntaken, after}
+use Rattle.client_model.specs.Streams.{shows, is_unfit}
+use Rattle.client_streams.specs.Taking.{Taken, taken, adds, IfUntaken, after, unfit_by}
 use Rattle.client_exchange.specs.Telling.{Stands, Told, ToldSoFar, ReadFails, HadToWrite, FollowSays}
-use Rattle.client_streams.specs.declared.taker.Showing.{Showing}
-use Rattle.client_streams.specs.declared.taker.Showing.TheVariants.{Kept, Copied, Demuxed}
+use Rattle.client_model.specs.declared.showing.Showing.{Showing}
+use Rattle.client_model.specs.declared.showing.Showing.TheVariants.{Kept, Copied, Demuxed}
 use Rattle.client_streams.proofs.OutputLemmas.{both_none, goes_on, breaks_on, was_behind}
-use Rattle.client_streams.proofs.TakingLemmas.{nothing_shown, taken_on, shown_on}
+use Rattle.client_streams.proofs.TakingLemmas.{nothing_shown, taken_on, shown_on, unfit_so, fit_first}
 
 -- ---- what a reader says, of all the bytes of a connection
 
@@ -68,7 +69,7 @@ has_ended came s s' bytes fresh gave ended = ends ended.rose
     ends (inr top) = let more : came.ends < s'.ends = omega (arith, fresh, top) in grind (arith, nat_tests)
 
 pub end_told : (came : SourceView) (h : Head) (b : List ℕ) (old : Reading) (s s' : SourceView) → came.ends ≡ 0
-    → Stands came h b old s → IsAtEnd old s s' → Told came s' (Answered h b true)
+    → Stands came h b old s → IsAtEnd old s s' → Told false came s' (Answered h b true)
 end_told came h b old s s' fresh st (inl all) = record {
   bytes = st.bytes ++ (old.ahead ++ all.read);
   gave = all_given came s s' st.bytes old.ahead all.read st.gave all.gave;
@@ -92,10 +93,10 @@ stops_now came h b old new why s s' fact st (at, inl before) = absurd (not_stopp
 stops_now came h b old new why s s' fact st (at, inr now) = now.1
 
 pub broken_told : (came : SourceView) (h : Head) (b : List ℕ) (at : ℕ) (old : Reading) (s s' : SourceView)
-    → Stands came h b old s → OfAll (IsBroken at) old s s' → Told came s' (Answered h b false)
+    → Stands came h b old s → OfAll (IsBroken at) old s s' → Told false came s' (Answered h b false)
 broken_told came h b at old s s' st all = go (all.holds st.bytes h b st.taken)
   where
-    go : IsBroken at h b (st.bytes ++ (old.ahead ++ all.read)) → Told came s' (Answered h b false)
+    go : IsBroken at h b (st.bytes ++ (old.ahead ++ all.read)) → Told false came s' (Answered h b false)
     go (front, behind, lft, is, tells, breaks, place) = record {
       bytes = st.bytes ++ (old.ahead ++ all.read);
       gave = all_given came s s' st.bytes old.ahead all.read st.gave all.gave;
@@ -103,10 +104,10 @@ broken_told came h b at old s s' st all = go (all.holds st.bytes h b st.taken)
     }
 
 pub cut_told : (came : SourceView) (h : Head) (b : List ℕ) (old : Reading) (s s' : SourceView) → came.ends ≡ 0
-    → Stands came h b old s → OfAll IsCut old s s' → SourceEnded s s' → Told came s' (Answered h b false)
+    → Stands came h b old s → OfAll IsCut old s s' → SourceEnded s s' → Told false came s' (Answered h b false)
 cut_told came h b old s s' fresh st all ended = go (all.holds st.bytes h b st.taken)
   where
-    go : IsCut h b (st.bytes ++ (old.ahead ++ all.read)) → Told came s' (Answered h b false)
+    go : IsCut h b (st.bytes ++ (old.ahead ++ all.read)) → Told false came s' (Answered h b false)
     go (front, behind, lft, is, tells, lacks) = record {
       bytes = st.bytes ++ (old.ahead ++ all.read);
       gave = all_given came s s' st.bytes old.ahead all.read st.gave all.gave;
@@ -136,6 +137,18 @@ unended_told came h b old s s' st all = go (all.holds st.bytes h b st.taken)
     )
 
 -- ---- the loop
+
+-- nothing shows yet that the body can't be taken
+fit_so : (showing : Showing) (body : List ℕ) (t : Taken) (unfit : Bool) → t ≡ taken showing body → unfit_by t ≡ unfit → unfit ≡ is_unfit showing body
+fit_so showing body t unfit is so = sym so ∙ ap unfit_by is ∙ unfit_so showing body
+
+pub fit_at_first : (t : Taken) → t ≡ taken t.showing [] → unfit_by t ≡ false
+fit_at_first t fresh = ap unfit_by fresh ∙ unfit_so t.showing [] ∙ fit_first t.showing
+
+told_fit : (showing : Showing) (unfit : Bool) (came s : SourceView) (h : Head) (body : List ℕ) (whole : Bool) (t : Taken) → t ≡ taken showing body → unfit_by t ≡ unfit
+    → Told unfit came s (Answered h body whole) → Told (is_unfit showing body) came s (Answered h body whole)
+told_fit showing unfit came s h body whole t is so told =
+    subst (λ u. Told u came s (Answered h body whole)) (fit_so showing body t unfit is so) told
 
 pub some_taken : (n : ℕ) (into : List ℕ) → 0 < n → n ≤ length into → 0 < length (take n into)
 some_taken n into some within = omega (arith, some, length-take-le n into within)
@@ -176,38 +189,49 @@ shown_more r0 s0 showing r r' t t' s s' o o' o'' piece x before gives writes is 
     }
 
 pub ends_whole : (r0 : Reading) (s0 : SourceView) (showing : Showing) (r r' : Reading) (t : Taken) (s s' : SourceView) (o o' : Outputs) (into : List ℕ)
-    → Showed r0 s0 showing r t s o o' → BodySays body.End into r r' s s'
+    → Showed r0 s0 showing r t s o o' → unfit_by t ≡ false → BodySays body.End into r r' s s'
     → (came : SourceView) (h : Head) → came.ends ≡ 0 → Stands came h [] r0 s0 → FollowSays (Ok true) came h showing t s' o o'
 unfolding Showed
-ends_whole r0 s0 showing r r' t s s' o o' into before says came h new st =
+ends_whole r0 s0 showing r r' t s s' o o' into before fit says came h new st =
     let sh = before came h new st in
-    (sh.so, sh.taken_is, end_told came h sh.so r s s' new sh.stands says.2, sh.took)
+    (sh.so, sh.taken_is, told_fit showing false came s' h sh.so true t sh.taken_is fit (end_told came h sh.so r s s' new sh.stands says.2), sh.took)
 
 pub ends_broken : (r0 : Reading) (s0 : SourceView) (showing : Showing) (r r' : Reading) (t : Taken) (s s' : SourceView) (o o' : Outputs) (into : List ℕ) (at : ℕ)
-    → Showed r0 s0 showing r t s o o' → BodySays (body.BadChunk at) into r r' s s'
+    → Showed r0 s0 showing r t s o o' → unfit_by t ≡ false → BodySays (body.BadChunk at) into r r' s s'
     → (came : SourceView) (h : Head) → came.ends ≡ 0 → Stands came h [] r0 s0 → FollowSays (Ok false) came h showing t s' o o'
 unfolding Showed
-ends_broken r0 s0 showing r r' t s s' o o' into at before says came h new st =
+ends_broken r0 s0 showing r r' t s s' o o' into at before fit says came h new st =
     let sh = before came h new st in
-    (sh.so, sh.taken_is, broken_told came h sh.so at r s s' sh.stands (stops_now came h sh.so r r' (stop.BadChunk at) s s' _ sh.stands says), sh.took)
+    (sh.so, sh.taken_is, told_fit showing false came s' h sh.so false t sh.taken_is fit (broken_told came h sh.so at r s s' sh.stands (stops_now came h sh.so r r' (stop.BadChunk at) s s' _ sh.stands says)), sh.took)
 
 pub ends_cut : (r0 : Reading) (s0 : SourceView) (showing : Showing) (r r' : Reading) (t : Taken) (s s' : SourceView) (o o' : Outputs) (into : List ℕ)
-    → Showed r0 s0 showing r t s o o' → BodySays body.CutShort into r r' s s'
+    → Showed r0 s0 showing r t s o o' → unfit_by t ≡ false → BodySays body.CutShort into r r' s s'
     → (came : SourceView) (h : Head) → came.ends ≡ 0 → Stands came h [] r0 s0 → FollowSays (Ok false) came h showing t s' o o'
 unfolding Showed
-ends_cut r0 s0 showing r r' t s s' o o' into before says came h new st =
+ends_cut r0 s0 showing r r' t s s' o o' into before fit says came h new st =
     let sh = before came h new st in
     let cut = stops_now came h sh.so r r' stop.CutShort s s' _ sh.stands says in
-    (sh.so, sh.taken_is, cut_told came h sh.so r s s' new sh.stands cut.0 cut.1, sh.took)
+    (sh.so, sh.taken_is, told_fit showing false came s' h sh.so false t sh.taken_is fit (cut_told came h sh.so r s s' new sh.stands cut.0 cut.1), sh.took)
+
+pub ends_unfit : (r0 : Reading) (s0 : SourceView) (showing : Showing) (r : Reading) (t : Taken) (s : SourceView) (o o' : Outputs)
+    → Showed r0 s0 showing r t s o o' → unfit_by t ≡ true
+    → (came : SourceView) (h : Head) → came.ends ≡ 0 → Stands came h [] r0 s0 → FollowSays (Ok false) came h showing t s o o'
+unfolding Showed
+ends_unfit r0 s0 showing r t s o o' before unfit came h new st =
+    let sh = before came h new st in
+    (sh.so, sh.taken_is, told_fit showing true came s h sh.so false t sh.taken_is unfit (told_so came h sh.so r s sh.stands), sh.took)
+  where
+    told_so : (came : SourceView) (h : Head) (b : List ℕ) (r : Reading) (s : SourceView) → Stands came h b r s → Told true came s (Answered h b false)
+    told_so came h b r s st = let far = so_far came h b r s st in record { bytes = far.bytes; gave = far.gave; is = far.is }
 
 front_whole : (bytes : List ℕ) → IsFront bytes bytes
 front_whole bytes = ([], append-nil bytes)
 
 pub ends_failed : (r0 : Reading) (s0 : SourceView) (showing : Showing) (r r' : Reading) (t : Taken) (s s' : SourceView) (o o' : Outputs) (into : List ℕ)
-    → Showed r0 s0 showing r t s o o' → BodySays body.ReadFault into r r' s s'
+    → Showed r0 s0 showing r t s o o' → unfit_by t ≡ false → BodySays body.ReadFault into r r' s s'
     → (came : SourceView) (h : Head) → came.ends ≡ 0 → Stands came h [] r0 s0 → FollowSays (Err F.Connection) came h showing t s' o o'
 unfolding Showed
-ends_failed r0 s0 showing r r' t s s' o o' into before says came h new st =
+ends_failed r0 s0 showing r r' t s s' o o' into before fit says came h new st =
     let sh = before came h new st in
     let cut = stops_now came h sh.so r r' stop.ReadFault s s' _ sh.stands says in
     let told = unended_told came h sh.so r s s' sh.stands cut.0 in (
@@ -220,7 +244,7 @@ ends_failed r0 s0 showing r r' t s s' o o' into before says came h new st =
       },
       rose_since came.faults s.faults s'.faults sh.stands.gave.faults cut.1,
       tt,
-      λ connection. (told.1, refl),
+      λ connection. (told.1, sym (fit_so showing sh.so t false sh.taken_is fit), refl),
     )
 
 outputs_fail : (fault : Fault) (came s : SourceView) (o o' : Outputs) → OutputsFail fault o o' → ReadFails fault came s o o'
@@ -232,6 +256,7 @@ outputs_fail F.Input came s o o' r = absurd r
 outputs_fail F.Answer came s o o' r = absurd r
 outputs_fail F.NoCode came s o o' r = absurd r
 outputs_fail F.EventsGone came s o o' r = absurd r
+outputs_fail F.TooLong came s o o' r = absurd r
 outputs_fail (F.Refused message) came s o o' r = absurd r
 outputs_fail F.Link came s o o' r = absurd r
 outputs_fail F.Connection came s o o' r = absurd r
@@ -269,6 +294,7 @@ had_more showing body piece fault (inr was) =
     had_by F.Answer w was = absurd was
     had_by F.NoCode w was = absurd was
     had_by F.EventsGone w was = absurd was
+    had_by F.TooLong w was = absurd was
     had_by (F.Refused message) w was = absurd was
     had_by F.Link w was = absurd was
     had_by F.Connection w was = absurd was

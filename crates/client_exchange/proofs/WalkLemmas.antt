@@ -9,6 +9,7 @@ use Rattle.client_model.specs.Plans.{Plan, Ends, Asks, Judges, Asked, Written, n
 use Rattle.client_model.specs.Client.{Said, said, said_first, said_by}
 use Rattle.client_model.specs.Runs.{Exchange, AreAnswered, HaveCome, AreLeft, sent_by, AreFronts}
 use Rattle.client_model.specs.declared.fault.Fault.{Fault}
+use Rattle.client_model.specs.declared.showing.Showing.{Showing}
 use Rattle.http_edge.specs.Message.{Request}
 use Rattle.client_streams.specs.Outputs.{BothTook}
 use Rattle.client_exchange.specs.Exchanges.{Reach, IsAnswered}
@@ -50,11 +51,14 @@ left_on None (Some p) q xs ys a b = absurd a
 left_on (Some o) (Some p) None xs ys a b = absurd b
 left_on None None (Some q) xs ys a b = absurd b
 
-pub answered_on : (xs ys : List Exchange) (ms ns : List Answer) → AreAnswered xs ms → AreAnswered ys ns → AreAnswered (xs ++ ys) (ms ++ ns)
-answered_on [] ys [] ns a b = b
-answered_on (x ∷ xs) ys (answer ∷ ms) ns a b = (a.0, answered_on xs ys ms ns a.1 b)
-answered_on [] ys (answer ∷ ms) ns a b = absurd a
-answered_on (x ∷ xs) ys [] ns a b = absurd a
+pub answered_on : (xs ys : List Exchange) (ks ls : List Asked) (ms ns : List Answer) → AreAnswered xs ks ms → AreAnswered ys ls ns
+    → AreAnswered (xs ++ ys) (ks ++ ls) (ms ++ ns)
+answered_on [] ys [] ls [] ns a b = b
+answered_on (x ∷ xs) ys (k ∷ ks) ls (answer ∷ ms) ns a b = (a.0, answered_on xs ys ks ls ms ns a.1 b)
+answered_on [] ys [] ls (answer ∷ ms) ns a b = absurd a
+answered_on [] ys (k ∷ ks) ls ms ns a b = absurd a
+answered_on (x ∷ xs) ys [] ls ms ns a b = absurd a
+answered_on (x ∷ xs) ys (k ∷ ks) ls [] ns a b = absurd a
 
 quiet_on : (ms ns : List Asked) → AreQuiet ms → AreQuiet ns → AreQuiet (ms ++ ns)
 quiet_on ms ns a b = rw (list_any-append (λ (x : Asked). x.input) ms ns, a, b) refl
@@ -142,7 +146,7 @@ way_on plan next last input o p q a b = record {
   answers = a.answers ++ b.answers;
   asked = a.asked ++ b.asked;
   written = joined a.written b.written;
-  answered = answered_on a.xs b.xs a.answers b.answers a.answered b.answered;
+  answered = answered_on a.xs b.xs a.asked b.asked a.answers b.answers a.answered b.answered;
   came = came_on o.link.coming p.link.coming q.link.coming a.xs b.xs a.came b.came;
   left = left_on o.link.past p.link.past q.link.past a.xs b.xs a.left b.left;
   others = b.others ∙ a.others;
@@ -181,7 +185,7 @@ writes_says w (Judges charter next) more is = absurd is
 
 -- it was answered, and what the answer shows was written: the next plan is reached
 unfoldable pub way_one : (asked : Asked) (input : List ℕ) (cont : Answer → Plan) (answer : Answer) (w : Written) (next : Plan) (o o' : Reach)
-    → IsAnswered (sent_by input asked) answer o.link o'.link → BothTook o.shown w o'.shown → cont answer ≡ writes w next → IsAsking next
+    → IsAnswered (sent_by input asked) asked.showing answer o.link o'.link → BothTook o.shown w o'.shown → cont answer ≡ writes w next → IsAsking next
     → Walked (Asks nothing asked cont) input o next o'
 way_one asked input cont answer w next o o' is took goes asking = record {
   xs = is.exchange ∷ [];
@@ -201,9 +205,9 @@ way_one asked input cont answer w next o o' is took goes asking = record {
       ∙ ap (said_first nothing asked) (writes_says w next more asking);
 }
 
-pub walk_one : (request : Request) (cont : Answer → Plan) (answer : Answer) (w : Written) (next : Plan) (o o' : Reach)
-    → IsAnswered (request_bytes request) answer o.link o'.link → BothTook o.shown w o'.shown → cont answer ≡ writes w next → IsAsking next
-    → Walks (Asks nothing (alone request) cont) o next o'
+pub walk_one : (showing : Showing) (request : Request) (cont : Answer → Plan) (answer : Answer) (w : Written) (next : Plan) (o o' : Reach)
+    → IsAnswered (request_bytes request) showing answer o.link o'.link → BothTook o.shown w o'.shown → cont answer ≡ writes w next → IsAsking next
+    → Walks (Asks nothing (alone showing request) cont) o next o'
 unfolding way_one
-walk_one request cont answer w next o o' is took goes asking =
-    record { way = way_one (alone request) [] cont answer w next o o' is took goes asking; quiet = refl }
+walk_one showing request cont answer w next o o' is took goes asking =
+    record { way = way_one (alone showing request) [] cont answer w next o o' is took goes asking; quiet = refl }

@@ -3,24 +3,22 @@ use Rattle.std.specs.Prelude.{ℕ, ◌≡◌, List, Bool, false, Option, Vec, Re
 use Rattle.std.specs.declared.alloc.Global.{Global}
 use Rattle.http_edge.specs.Message.{Request}
 use Rattle.response_reader.specs.Heads.{first_in}
-use Rattle.client_model.specs.Plans.{Plan, Asks, Asked, nothing, by_answer, fails}
+use Rattle.client_model.specs.Plans.{Plan, Asks, Asked, nothing, kept, cut_fault, by_answer, fails}
 use Rattle.client_model.specs.Streams.{streams}
 use Rattle.client_model.specs.declared.fault.Fault.{Fault}
-use Rattle.client_model.specs.declared.fault.Fault.TheVariants as F
 use Rattle.client_exchange.specs.declared.got.Got.{Got}
 use Rattle.client_exchange.specs.Exchanges.{Reach}
-use Rattle.client_streams.specs.Taking.{shows, may_end}
 use Rattle.client_exchange.specs.Walks.{IsAsking, Walks, Does}
-use Rattle.client_streams.specs.declared.taker.Showing.{Showing}
+use Rattle.client_model.specs.declared.showing.Showing.{Showing}
 
 -- a request that standard input doesn't follow
-abbrev pub alone : Request → Asked
-alone request = record { request = request; input = false }
+abbrev pub alone : Showing → Request → Asked
+alone showing request = record { request = request; input = false; showing = showing }
 
 -- it asks, and goes on by a body that came whole
 abbrev pub asks_body : Request → (List ℕ → Plan) → Plan
 asks_body request next =
-    Asks nothing (alone request) (by_answer (λ h body whole. if whole then next body else fails F.Answer))
+    Asks nothing (kept request) (by_answer (λ h body whole. if whole then next body else fails (cut_fault body)))
 
 -- a body was read whole, and the plan that goes on by it is reached; or the plan ended or broke off
 abbrev pub AskDoes : Request → Result (Vec ℕ Global) Fault → Reach → Reach → Type 0
@@ -29,7 +27,7 @@ AskDoes request (Err fault) o o' = (next : List ℕ → Plan) → Does (asks_bod
 
 -- it asks, and shows the body as it comes; standard input may follow the request
 abbrev pub shown_by : Showing → Request → Bool → Plan → Plan
-shown_by showing request input next = streams (shows showing) (may_end showing) request input next
+shown_by showing request input next = streams showing request input next
 
 -- the body was shown, all of it, and the plan behind it is reached; or the plan ended or broke off
 abbrev pub ShowDoes : Showing → Request → Result (Unit {0}) Fault → Reach → Reach → Type 0
@@ -38,7 +36,7 @@ ShowDoes showing request (Err fault) o o' = (next : Plan) → Does (shown_by sho
 
 -- it asks, and goes on by the number of the first event, by whether all of the body came, and by that
 abbrev pub numbered : Request → (Option ℕ → Bool → List ℕ → Plan) → Plan
-numbered request next = Asks nothing (alone request) (by_answer (λ h body whole. next (first_in h.form) whole body))
+numbered request next = Asks nothing (kept request) (by_answer (λ h body whole. next (first_in h.form) whole body))
 
 -- a body was read, and the plan that goes on by it is reached; or the plan ended or broke off
 abbrev pub NumberedDoes : Request → Result (Got × Vec ℕ Global) Fault → Reach → Reach → Type 0

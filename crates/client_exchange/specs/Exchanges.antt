@@ -6,18 +6,19 @@ use Rattle.engine_ports.specs.Source.{SourceView}
 use Rattle.engine_ports.specs.Sink.{SinkView, SinkTook, IsFront}
 use Rattle.engine_ports.specs.Link.{LinkView}
 use Rattle.http_edge.specs.declared.head.Head.{Head}
-use Rattle.response_reader.specs.Answers.{Answer, Answered, IsAnswer, TellsSoFar}
+use Rattle.response_reader.specs.Answers.{Answer, Answered, TellsSoFar}
 use Rattle.response_reader.specs.Heads.{first_in}
-use Rattle.client_model.specs.Plans.{nothing}
-use Rattle.client_model.specs.Runs.{Exchange, has_ended, WasSent, HaveCome, AreLeft, HasFailed, missed_by}
+use Rattle.client_model.specs.Plans.{nothing, cut_fault}
+use Rattle.client_model.specs.Streams.{shows, may_end}
+use Rattle.client_model.specs.Runs.{Exchange, has_ended, shows_unfit, IsRead, WasSent, HaveCome, AreLeft, HasFailed, missed_by}
 use Rattle.client_model.specs.declared.fault.Fault.{Fault}
 use Rattle.client_model.specs.declared.fault.Fault.TheVariants as F
 use Rattle.client_streams.specs.Outputs.{Outputs, outputs, BothTook, BothBegan, OutputsFail}
-use Rattle.client_streams.specs.Taking.{Taken, taken, shows, may_end}
+use Rattle.client_streams.specs.Taking.{Taken, taken}
 use Rattle.client_exchange.specs.Telling.{HadToWrite, CountsAll, Refuses, answer_shows, AnswerSays}
 use Rattle.client_exchange.specs.declared.got.Got.{Got}
-use Rattle.client_streams.specs.declared.taker.Showing.{Showing}
-use Rattle.client_streams.specs.declared.taker.Showing.TheVariants.{Kept}
+use Rattle.client_model.specs.declared.showing.Showing.{Showing}
+use Rattle.client_model.specs.declared.showing.Showing.TheVariants.{Kept}
 
 -- what a request reaches: the link but for the call's address, and the outputs
 pub record Reach : Type 0 where
@@ -60,12 +61,12 @@ pub record MeetsOne (v v' : LinkView) (x : Exchange) : Type 0 where
   pub others : v'.addresses ≡ v.addresses
   pub faults : v'.faults ≡ v.faults
 
--- it was sent the request, and gave this answer
-pub record IsAnswered (request : List ℕ) (answer : Answer) (v v' : LinkView) : Type 0 where
+-- it was sent the request, and what it gave was read as this answer
+pub record IsAnswered (request : List ℕ) (showing : Showing) (answer : Answer) (v v' : LinkView) : Type 0 where
   pub exchange : Exchange
   pub meets : MeetsOne v v' exchange
   pub sent : exchange.sent ≡ request
-  pub is : IsAnswer exchange.given (has_ended exchange) answer
+  pub is : IsRead showing exchange.given (has_ended exchange) answer
 
 -- none was made, and of other addresses the link tells what it told; one try failed where the fault is the link's
 pub record IsMissed (fault : Fault) (v v' : LinkView) : Type 0 where
@@ -74,20 +75,20 @@ pub record IsMissed (fault : Fault) (v v' : LinkView) : Type 0 where
   pub others : v'.addresses ≡ v.addresses
   pub faults : v'.faults ≡ missed_by fault v.faults
 
--- an answer that doesn't refuse came to its end, and was shown
+-- an answer that doesn't refuse was read, and shown
 pub record HasGone (request : List ℕ) (got : Got) (showing : Showing) (t : Taken) (o o' : Reach) : Type 0 where
   pub head : Head
   pub body : List ℕ
   pub status : nat_lt head.status 400 ≡ true
   pub first : got.first ≡ first_in head.form
   pub kept : t ≡ taken showing body
-  pub answered : IsAnswered request (Answered head body got.whole) o.link o'.link
+  pub answered : IsAnswered request showing (Answered head body got.whole) o.link o'.link
   pub took : BothTook o.shown (shows showing body) o'.shown
 
--- one by which every command fails so came to its end
-pub record HasRefused (request : List ℕ) (fault : Fault) (o o' : Reach) : Type 0 where
+-- one by which every command fails so was read
+pub record HasRefused (request : List ℕ) (fault : Fault) (showing : Showing) (o o' : Reach) : Type 0 where
   pub answer : Answer
-  pub answered : IsAnswered request answer o.link o'.link
+  pub answered : IsAnswered request showing answer o.link o'.link
   pub refuses : Refuses answer fault
   pub took : BothTook o.shown nothing o'.shown
 
@@ -107,7 +108,7 @@ pub record HasBroken (bytes : List ℕ) (starved : Type 0) (fault : Fault) (show
   pub began : BothBegan o.shown (answer_shows showing answer) o'.shown
   pub cause : FailsOn starved fault exchange o.shown o'.shown
   pub had : HadToWrite fault (answer_shows showing answer)
-  pub all : CountsAll fault exchange.given answer began.part (answer_shows showing answer)
+  pub all : CountsAll fault (shows_unfit showing answer) exchange.given answer began.part (answer_shows showing answer)
 
 -- what keeps a connection from being made: the link, or want of memory
 abbrev pub KeepsOff : Fault → Type 0
@@ -124,7 +125,7 @@ pub record HasMissed (fault : Fault) (o o' : Reach) : Type 0 where
 -- the answer refused, the exchange broke off, or no connection was made
 abbrev pub FailsSo : List ℕ → Fault → Showing → Reach → Reach → Type 0
 FailsSo request fault showing o o' =
-    HasRefused request fault o o' ⊎ (HasBroken request ⊥ fault showing o o' ⊎ HasMissed fault o o')
+    HasRefused request fault showing o o' ⊎ (HasBroken request ⊥ fault showing o o' ⊎ HasMissed fault o o')
 
 -- what an exchange says
 abbrev pub ExchangeSays : List ℕ → Result Got Fault → Showing → Taken → Reach → Reach → Type 0
@@ -144,10 +145,14 @@ pub record HasShown (request : List ℕ) (all : Bool) (showing : Showing) (o o' 
 abbrev pub IsShort : List ℕ → Fault → Showing → Reach → Reach → Type 0
 IsShort request fault showing o o' = (fault ≡ F.Answer) × HasShown request false showing o o'
 
--- all of a body came, and this is it; or it was short, or the exchange failed
+-- not all of a body came that is kept
+abbrev pub IsCut : List ℕ → Fault → Reach → Reach → Type 0
+IsCut request fault o o' = (x : HasShown request false Kept o o') × (fault ≡ cut_fault x.gone.body)
+
+-- all of a body came, and this is it; or it was cut, or the exchange failed
 abbrev pub AskSays : List ℕ → Result (Vec ℕ Global) Fault → Reach → Reach → Type 0
 AskSays request (Ok body) o o' = (got : Got) × (got.whole ≡ true) × HasGone request got Kept (taken Kept body.items) o o'
-AskSays request (Err fault) o o' = IsShort request fault Kept o o' ⊎ FailsSo request fault Kept o o'
+AskSays request (Err fault) o o' = IsCut request fault o o' ⊎ FailsSo request fault Kept o o'
 
 -- so much of a body came; or the exchange failed
 abbrev pub NumberedSays : List ℕ → Result (Got × Vec ℕ Global) Fault → Reach → Reach → Type 0

@@ -10,7 +10,7 @@ use Rattle.client_model.specs.declared.fault.Fault.{Fault}
 use Rattle.client_model.specs.declared.fault.Fault.TheVariants as F
 use Rattle.client_streams.specs.Outputs.{Outputs}
 use Rattle.client_streams.specs.Taking.{Taken}
-use Rattle.client_streams.specs.declared.taker.Showing.{Showing}
+use Rattle.client_model.specs.declared.showing.Showing.{Showing}
 use Rattle.client_exchange.specs.declared.got.Got.{Got}
 use Rattle.client_exchange.specs.Telling.{AnswerSays}
 use Rattle.client_exchange.specs.Exchanges.{Reach, SendFails, IsUnsent, HasGone, HasRefused, HasBroken, HasMissed, HasShown}
@@ -56,7 +56,7 @@ TalkSays request result showing t v v' s s' u u' o o' =
 -- exchange gave anything
 abbrev pub FedFailsBy : List ℕ → List ℕ → Fault → Showing → SourceView → SourceView → Reach → Reach → Type 0
 FedFailsBy request input fault showing v v' o o' =
-    (SourceEnded v v' × HasRefused (request ++ input) fault o o')
+    (SourceEnded v v' × HasRefused (request ++ input) fault showing o o')
     ⊎ ((b : HasBroken (request ++ input) (InputFails v v') fault showing o o')
     × (SourceEnded v v' ⊎ (b.exchange.given ≡ [])))
 

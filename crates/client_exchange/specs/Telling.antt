@@ -3,19 +3,20 @@ use Rattle.std.specs.Prelude.{ℕ, ◌≡◌, ◌⊎◌, nat_lt, Bool, true, fal
 use Rattle.engine_ports.specs.Rose.{Rose}
 use Rattle.engine_ports.specs.Source.{SourceView, SourceGave}
 use Rattle.http_edge.specs.declared.head.Head.{Head}
-use Rattle.response_reader.specs.Answers.{Answer, NoHead, Answered, IsAnswer, TellsSoFar, TellsAll}
+use Rattle.response_reader.specs.Answers.{Answer, NoHead, Answered, TellsSoFar, TellsAll}
 use Rattle.response_reader.specs.Heads.{first_in}
 use Rattle.response_reader.specs.Held.{Reading}
 use Rattle.response_reader.specs.Reader.{HasTaken}
 use Rattle.response_reader.specs.declared.got.Stage.TheVariants as stage
-use Rattle.client_model.specs.Bodies.{message_in}
-use Rattle.client_model.specs.Plans.{Plan, Written, nothing, by_answer, goes_on, if_whole, fails}
+use Rattle.client_model.specs.Plans.{Plan, Written, nothing, by_answer, refuses, fails}
+use Rattle.client_model.specs.Runs.{ReadSo, shows_unfit}
+use Rattle.client_model.specs.Streams.{shows, is_unfit}
 use Rattle.client_model.specs.declared.fault.Fault.{Fault}
 use Rattle.client_model.specs.declared.fault.Fault.TheVariants as F
 use Rattle.client_streams.specs.Outputs.{Outputs, BothTook, BothBegan, OutputsFail}
-use Rattle.client_streams.specs.Taking.{Taken, taken, shows}
+use Rattle.client_streams.specs.Taking.{Taken, taken}
 use Rattle.client_exchange.specs.declared.got.Got.{Got}
-use Rattle.client_streams.specs.declared.taker.Showing.{Showing}
+use Rattle.client_model.specs.declared.showing.Showing.{Showing}
 
 -- a source that came so gave this head and these bytes of its body, and a reader has taken them
 pub record Stands (came : SourceView) (h : Head) (body : List ℕ) (r : Reading) (s : SourceView) : Type 0 where
@@ -23,11 +24,11 @@ pub record Stands (came : SourceView) (h : Head) (body : List ℕ) (r : Reading)
   pub taken : HasTaken bytes h body r
   pub gave : SourceGave came (bytes ++ r.ahead) s
 
--- a source that came so gave this answer
-pub record Told (came s : SourceView) (answer : Answer) : Type 0 where
+-- what a source gave that came so was read as this answer, whose body can't be taken or can
+pub record Told (unfit : Bool) (came s : SourceView) (answer : Answer) : Type 0 where
   pub bytes : List ℕ
   pub gave : SourceGave came bytes s
-  pub is : IsAnswer bytes (nat_lt came.ends s.ends) answer
+  pub is : ReadSo unfit bytes (nat_lt came.ends s.ends) answer
 
 -- it gave at least so much of this answer
 pub record ToldSoFar (came s : SourceView) (answer : Answer) : Type 0 where
@@ -48,18 +49,20 @@ HadToWrite F.Errors w = ¬ (w.err ≡ [])
 HadToWrite F.NoMemory w = w ≡ nothing
 HadToWrite fault w = ⊤
 
--- where the connection failed, all that came of the answer is counted, and all was written
-abbrev pub CountsAll : Fault → List ℕ → Answer → Written → Written → Type 0
-CountsAll fault bytes answer part w = fault ≡ F.Connection → TellsAll bytes answer × (part ≡ w)
+-- where the connection failed, all that came of the answer is counted and could be taken, and all was written
+abbrev pub CountsAll : Fault → Bool → List ℕ → Answer → Written → Written → Type 0
+CountsAll fault unfit bytes answer part w =
+    fault ≡ F.Connection → TellsAll bytes answer × (unfit ≡ false) × (part ≡ w)
 
--- the body came to its end, whole or not, and was shown; or so much of it, and fronts of that were shown
+-- the body was read, whole or not, and was shown; or so much of it, and fronts of that were shown
 abbrev pub FollowSays : Result Bool Fault → SourceView → Head → Showing → Taken → SourceView → Outputs → Outputs → Type 0
 FollowSays (Ok whole) came h showing t s o o' =
-    (body : List ℕ) × (t ≡ taken showing body) × Told came s (Answered h body whole) × BothTook o (shows showing body) o'
+    (body : List ℕ) × (t ≡ taken showing body) × Told (is_unfit showing body) came s (Answered h body whole)
+    × BothTook o (shows showing body) o'
 FollowSays (Err fault) came h showing t s o o' =
     (body : List ℕ) × (told : ToldSoFar came s (Answered h body false)) × (began : BothBegan o (shows showing body) o')
     × ReadFails fault came s o o' × HadToWrite fault (shows showing body)
-    × CountsAll fault told.bytes (Answered h body false) began.part (shows showing body)
+    × CountsAll fault (is_unfit showing body) told.bytes (Answered h body false) began.part (shows showing body)
 
 -- ---- answers
 
@@ -75,27 +78,27 @@ unread_answer = record { ahead = []; taken = 0; from = 0; stage = stage.Head }
 abbrev pub FaultSays : Fault → Bool → List ℕ → Type 0
 FaultSays fault whole body =
     (fault ≡ F.NoMemory)
-    ⊎ (goes_on (λ message. fails (F.Refused message)) (if_whole whole (message_in body)) ≡ fails fault)
+    ⊎ (refuses body whole ≡ fails fault)
 
 -- what is shown of an answer
 abbrev pub answer_shows : Showing → Answer → Written
 answer_shows showing NoHead = nothing
 answer_shows showing (Answered h body whole) = if nat_lt h.status 400 then shows showing body else nothing
 
--- an answer that doesn't refuse came to its end, and was shown
+-- an answer that doesn't refuse was read, and shown
 pub record Goes (got : Got) (showing : Showing) (t : Taken) (came s : SourceView) (o o' : Outputs) : Type 0 where
   pub head : Head
   pub body : List ℕ
   pub status : nat_lt head.status 400 ≡ true
   pub first : got.first ≡ first_in head.form
   pub kept : t ≡ taken showing body
-  pub told : Told came s (Answered head body got.whole)
+  pub told : Told (shows_unfit showing (Answered head body got.whole)) came s (Answered head body got.whole)
   pub took : BothTook o (shows showing body) o'
 
--- an answer by which every command fails so came to its end
-pub record IsRefused (fault : Fault) (came s : SourceView) (o o' : Outputs) : Type 0 where
+-- an answer by which every command fails so was read
+pub record IsRefused (fault : Fault) (showing : Showing) (came s : SourceView) (o o' : Outputs) : Type 0 where
   pub answer : Answer
-  pub told : Told came s answer
+  pub told : Told (shows_unfit showing answer) came s answer
   pub refuses : Refuses answer fault
   pub took : BothTook o nothing o'
 
@@ -106,14 +109,14 @@ pub record BreaksOff (fault : Fault) (showing : Showing) (came s : SourceView) (
   pub began : BothBegan o (answer_shows showing answer) o'
   pub cause : ReadFails fault came s o o'
   pub had : HadToWrite fault (answer_shows showing answer)
-  pub all : CountsAll fault told.bytes answer began.part (answer_shows showing answer)
+  pub all : CountsAll fault (shows_unfit showing answer) told.bytes answer began.part (answer_shows showing answer)
 
 -- what reading a refusal says
 abbrev pub RefusalSays : Fault → SourceView → SourceView → Outputs → Outputs → Type 0
 RefusalSays fault came s o o' =
-    IsRefused fault came s o o' ⊎ ((showing : Showing) → BreaksOff fault showing came s o o')
+    (showing : Showing) → IsRefused fault showing came s o o' ⊎ BreaksOff fault showing came s o o'
 
 -- what reading an answer says
 abbrev pub AnswerSays : Result Got Fault → Showing → Taken → SourceView → SourceView → Outputs → Outputs → Type 0
 AnswerSays (Ok got) showing t came s o o' = Goes got showing t came s o o'
-AnswerSays (Err fault) showing t came s o o' = IsRefused fault came s o o' ⊎ BreaksOff fault showing came s o o'
+AnswerSays (Err fault) showing t came s o o' = IsRefused fault showing came s o o' ⊎ BreaksOff fault showing came s o o'

@@ -5,7 +5,7 @@ use Rattle.engine_ports.specs.Rose.{Rose}
 use Rattle.response_reader.specs.Answers.{Answer, TellsSoFar}
 use Rattle.client_model.specs.Plans.{Plan, Ends, Asks, Judges, Asked, Written, Ending, Done, Fails, nothing, joined}
 use Rattle.client_model.specs.Client.{Said, said, said_by}
-use Rattle.client_model.specs.Runs.{Exchange, AreAnswered, WasSent, HaveCome, AreLeft, AreFronts, sent_by, IsUnfailed}
+use Rattle.client_model.specs.Runs.{Exchange, shows_unfit, AreAnswered, WasSent, HaveCome, AreLeft, AreFronts, sent_by, IsUnfailed}
 use Rattle.client_model.specs.declared.fault.Fault.{Fault}
 use Rattle.client_model.specs.declared.fault.Fault.TheVariants as F
 use Rattle.client_streams.specs.Outputs.{BothTook, BothBegan}
@@ -37,7 +37,7 @@ pub record Walked (plan : Plan) (input : List ℕ) (o : Reach) (next : Plan) (o'
   pub answers : List Answer
   pub asked : List Asked
   pub written : Written
-  pub answered : AreAnswered xs answers
+  pub answered : AreAnswered xs asked answers
   pub came : HaveCome o.link.coming (map (λ x. x.came) xs) o'.link.coming
   pub left : AreLeft o.link.past (map (λ x. x.left) xs) o'.link.past
   pub others : o'.link.addresses ≡ o.link.addresses
@@ -94,7 +94,8 @@ pub record StopsIn (plan : Plan) (input : List ℕ) (starved : Type 0) (fault : 
   pub began : BothBegan o.shown (said_by plan None (answer ∷ [])).written o'.shown
   pub cause : FailsOn starved fault exchange o.shown o'.shown
   pub had : HadToWrite fault (said_by plan None (answer ∷ [])).written
-  pub all : CountsAll fault exchange.given answer began.part (said_by plan None (answer ∷ [])).written
+  pub all : CountsAll fault (shows_unfit asks.asked.showing answer) exchange.given answer began.part
+      (said_by plan None (answer ∷ [])).written
 
 -- in one whose request no input follows
 pub record StopsQuietly (plan : Plan) (fault : Fault) (o o' : Reach) : Type 0 where

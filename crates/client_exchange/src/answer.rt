@@ -6,14 +6,14 @@ ghost use Rattle.response_reader.specs.Heads.{first_in};
 ghost use Rattle.response_reader.specs.Reader.{IsInBody};
 ghost use Rattle.client_streams.specs.Outputs.{outputs};
 ghost use Rattle.client_streams.specs.Taking.{taken};
-ghost use Rattle.client_streams.specs.declared.taker.Showing.TheVariants.{Kept};
+ghost use Rattle.client_model.specs.declared.showing.Showing.TheVariants.{Kept};
 ghost use Rattle.client_exchange.specs.Telling.{Stands, unread_answer, FaultSays, RefusalSays, AnswerSays};
 
 use crate::following::follow;
 use crate::got::Got;
 use crate::made::fresh_taker;
-use client_model::Fault;
-use client_streams::{Showing, Taker};
+use client_model::{Fault, Showing};
+use client_streams::{Taker, cut_fault};
 use engine_client::{Unread, message_in};
 use engine_ports::{Sink, Source};
 use response_reader::{Answered, ResponseReader};
@@ -25,7 +25,7 @@ fn fault_in(alloc: Global, whole: bool, body: &[u8]) -> Fault
     ensures { FaultSays result whole body.now }
 {
     if !whole {
-        return Fault::Answer;
+        return cut_fault(body);
     }
     match message_in(alloc, body) {
         Ok(message) => Fault::Refused { message },

@@ -9,8 +9,8 @@ use crate::connection::exchange;
 use crate::feeding::exchange_with_input;
 use crate::got::Got;
 use crate::made::fresh_taker;
-use client_model::Fault;
-use client_streams::{Showing, Taker};
+use client_model::{Fault, Showing};
+use client_streams::{Taker, cut_fault};
 use engine_ports::{Link, Sink, Source};
 use std::alloc::Global;
 use std::sync::Wait;
@@ -35,7 +35,7 @@ pub fn ask<W: Wait, L: Link, K: Sink, E: Sink>(
             if got.whole {
                 Ok(taker.into_kept())
             } else {
-                Err(Fault::Answer)
+                Err(cut_fault(taker.kept()))
             }
         }
         Err(fault) => Err(fault),

@@ -1,4 +1,4 @@
-// A body, read to its end and shown as it comes.
+// A body, read and shown as it comes.
 ghost use Rattle.std.specs.Prelude.{◌≡◌, ◌<◌, [], length};
 ghost use Rattle.engine_ports.specs.Source.{SourceView};
 ghost use Rattle.http_edge.specs.declared.head.Head.{Head};
@@ -13,7 +13,8 @@ use engine_ports::{Sink, Source};
 use response_reader::{BodyGot, ResponseReader};
 use std::sync::Wait;
 
-/// Reads a body to its end, through this place, and shows each piece as it comes; tells whether all of it came.
+/// Reads a body to its end, or to where so much shows that it can't be taken, through this place, and shows each piece as it
+/// comes; tells whether all of it came.
 pub(crate) fn follow<W: Wait, S: Source, K: Sink, E: Sink>(
     rt: &W,
     reader: &mut ResponseReader,
@@ -35,7 +36,11 @@ pub(crate) fn follow<W: Wait, S: Source, K: Sink, E: Sink>(
     for _ in rt.forever() {
         match reader.body(source, place) {
             BodyGot::Bytes(count) => match taker.take(&place[..count], out, errors) {
-                Ok(()) => {}
+                Ok(()) => {
+                    if taker.is_unfit() {
+                        return Ok(false);
+                    }
+                }
                 Err(fault) => return Err(fault),
             },
             BodyGot::End => return Ok(true),

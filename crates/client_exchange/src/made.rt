@@ -2,7 +2,8 @@
 ghost use Rattle.std.specs.Prelude.{◌≡◌, []};
 ghost use Rattle.client_streams.specs.Taking.{taken};
 
-use client_streams::{Showing, Taker};
+use client_model::Showing;
+use client_streams::Taker;
 use std::alloc::Global;
 
 /// A taker before the first byte of a body.

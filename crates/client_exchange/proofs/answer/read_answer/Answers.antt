@@ -16,10 +16,10 @@ returns-else-status-lt400 g c =
     (above c.in-Head.status says.0.status says.1 c.if-status-lt400.false))
 
 pub returns-in-BadHead : goal.returns-in-BadHead
-returns-in-BadHead g c = inl (bad_head c.in-BadHead.at _ _ _ _ _ c.requires.unread c.in-BadHead.ensures.says)
+returns-in-BadHead g c = inl (bad_head c.args.taker.now.showing c.in-BadHead.at _ _ _ _ _ c.requires.unread c.in-BadHead.ensures.says)
 
 pub returns-in-CutShort : goal.returns-in-CutShort
-returns-in-CutShort g c = inl (cut_head _ _ _ _ _ c.requires.new c.requires.unread c.in-CutShort.ensures.says)
+returns-in-CutShort g c = inl (cut_head c.args.taker.now.showing _ _ _ _ _ c.requires.new c.requires.unread c.in-CutShort.ensures.says)
 
 pub returns-in-ReadFault : goal.returns-in-ReadFault
 returns-in-ReadFault g c = inr (head_failed c.args.taker.now.showing _ _ _ _ _ c.requires.unread c.in-ReadFault.ensures.says)
