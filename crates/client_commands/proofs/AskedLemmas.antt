@@ -6,7 +6,7 @@ use Rattle.std.specs.declared.alloc.Global.{Global}
 use Rattle.engine_ports.specs.Source.{SourceView}
 use Rattle.engine_text.specs.declared.memory.NoMemory.{NoMemory}
 use Rattle.http_edge.specs.Message.{Request}
-use Rattle.client_model.specs.Plans.{Plan, Asks, nothing, fails, goes_on, if_whole, by_answer, asks, ends}
+use Rattle.client_model.specs.Plans.{Plan, fails, goes_on, asks, ends}
 use Rattle.client_model.specs.Requests.{request_bytes}
 use Rattle.client_model.specs.Commands.Run.{removes}
 use Rattle.client_model.specs.Client.{said_by}
@@ -15,7 +15,7 @@ use Rattle.client_model.specs.declared.fault.Fault.TheVariants as F
 use Rattle.client_streams.proofs.OutputLemmas.{both_none, began_none}
 use Rattle.client_exchange.specs.Exchanges.{Reach}
 use Rattle.client_exchange.specs.Walks.{IsAsking, Walks, Comes, Does}
-use Rattle.client_exchange.specs.Asking.{alone, asks_body}
+use Rattle.client_exchange.specs.Asking.{asks_body}
 use Rattle.client_exchange.specs.Feeding.{FedDoes}
 use Rattle.client_exchange.proofs.WalkLemmas.{walk_none}
 use Rattle.client_exchange.proofs.AskLemmas.{does_fail}
@@ -23,11 +23,7 @@ use Rattle.client_commands.specs.Reading.{ReadsOrFails, AskReadSays}
 
 -- a plan that goes on by what is read of a body
 pub asks_as : {A : Type 0} (request : Request) (read : List ℕ → Option A) (next : A → Plan) → asks request read next ≡ asks_body request (λ body. goes_on next (read body))
-asks_as request read next = λ i. Asks nothing (alone request) (by_answer (λ h body whole. same body whole i))
-  where
-    same : (body : List ℕ) (whole : Bool) → goes_on next (if_whole whole (read body)) ≡ (if whole then goes_on next (read body) else fails F.Answer)
-    same body true = refl
-    same body false = refl
+asks_as request read next = refl
 
 pub goes_asking : {A : Type 0} (next : A → Plan) (read : Option A) → ((a : A) → IsAsking (next a)) → IsAsking (goes_on next read)
 goes_asking next (Some a) all = all a
@@ -81,6 +77,7 @@ read_so {A} request read result body o o' walks reads = by_result result reads
     by_result (Err F.Errors) is = absurd is
     by_result (Err F.NoCode) is = absurd is
     by_result (Err F.EventsGone) is = absurd is
+    by_result (Err F.TooLong) is = absurd is
     by_result (Err (F.Refused message)) is = absurd is
     by_result (Err F.Link) is = absurd is
     by_result (Err F.Connection) is = absurd is

@@ -3,7 +3,7 @@ use Rattle.std.proofs.Common.{◌≡◌, ◌≢◌, ℕ, zero, suc, List, map, r
 use Rattle.engine_text.specs.declared.event.Event.{Event}
 use Rattle.engine_text.specs.declared.event.FoldRow.{FoldRow}
 use Rattle.event_ring.specs.Fold.{fold_of}
-use Rattle.client_model.specs.Plans.{Plan, fails, prints_all, done, if_whole}
+use Rattle.client_model.specs.Plans.{Plan, fails, prints_all, done, cut_fault}
 use Rattle.client_model.specs.Streams.{events_in}
 use Rattle.client_model.specs.Commands.Watch.{row_line, watched}
 use Rattle.client_model.specs.declared.fault.Fault.{Fault}
@@ -51,50 +51,57 @@ rows_fail events F.Output o is = absurd is
 rows_fail events F.Errors o is = absurd is
 rows_fail events F.NoCode o is = absurd is
 rows_fail events F.EventsGone o is = absurd is
+rows_fail events F.TooLong o is = absurd is
 rows_fail events (F.Refused message) o is = absurd is
 rows_fail events F.Link o is = absurd is
 rows_fail events F.Connection o is = absurd is
 
 -- ---- a body that came whole or not
 
-pub whole_comes : (whole : Bool) (events : Option (List Event)) (result : Result ℕ Fault) (o o' : Reach) → whole ≡ true → Comes (watches events) result o o'
-    → Comes (watches (if_whole whole events)) result o o'
-whole_comes whole events result o o' is = subst (λ t. Comes (watches (if_whole t events)) result o o') (sym is)
+pub whole_comes : (whole : Bool) (body : List ℕ) (result : Result ℕ Fault) (o o' : Reach) → whole ≡ true → Comes (watches (events_in body)) result o o'
+    → Comes (watched (Some 0) body whole) result o o'
+whole_comes whole body result o o' is = subst (λ t. Comes (watched (Some 0) body t) result o o') (sym is)
 
-pub cut_comes : (whole : Bool) (events : Option (List Event)) (o : Reach) → whole ≡ false → Comes (watches (if_whole whole events)) (Err F.Answer) o o
-cut_comes whole events o is = subst (λ t. Comes (watches (if_whole t events)) (Err F.Answer) o o) (sym is) (fails_now F.Answer o)
+pub cut_comes : (whole : Bool) (body : List ℕ) (fault : Fault) (o : Reach) → whole ≡ false → fault ≡ cut_fault body → Comes (watched (Some 0) body whole) (Err fault) o o
+cut_comes whole body fault o is same =
+    subst (λ t. Comes (watched (Some 0) body t) (Err fault) o o) (sym is)
+    (subst (λ f. Comes (fails (cut_fault body)) (Err f) o o) (sym same) (fails_now (cut_fault body) o))
 
 -- ---- the number of the first event
 
-pub first_comes : (first : ℕ) (events : Option (List Event)) (result : Result ℕ Fault) (o o' : Reach) → first ≡ 0 → Comes (watches events) result o o'
-    → Comes (watched (Some first) events) result o o'
-first_comes first events result o o' is = subst (λ n. Comes (watched (Some n) events) result o o') (sym is)
+pub first_comes : (first : ℕ) (body : List ℕ) (whole : Bool) (result : Result ℕ Fault) (o o' : Reach) → first ≡ 0 → Comes (watched (Some 0) body whole) result o o'
+    → Comes (watched (Some first) body whole) result o o'
+first_comes first body whole result o o' is = subst (λ n. Comes (watched (Some n) body whole) result o o') (sym is)
 
-pub later_comes : (first : ℕ) (events : Option (List Event)) (o : Reach) → first ≢ 0 → Comes (watched (Some first) events) (Err F.EventsGone) o o
-later_comes zero events o not = absurd (not refl)
-later_comes (suc n) events o not = fails_now F.EventsGone o
+pub later_comes : (first : ℕ) (body : List ℕ) (whole : Bool) (o : Reach) → first ≢ 0 → Comes (watched (Some first) body whole) (Err F.EventsGone) o o
+later_comes zero body whole o not = absurd (not refl)
+later_comes (suc n) body whole o not = fails_now F.EventsGone o
 
-pub untold_comes : (first : Option ℕ) (events : Option (List Event)) (o : Reach) → first ≡ None → Comes (watched first events) (Err F.Answer) o o
-untold_comes first events o is = subst (λ f. Comes (watched f events) (Err F.Answer) o o) (sym is) (fails_now F.Answer o)
+pub untold_comes : (first : Option ℕ) (body : List ℕ) (whole : Bool) (o : Reach) → first ≡ None → Comes (watched first body whole) (Err F.Answer) o o
+untold_comes first body whole o is = subst (λ f. Comes (watched f body whole) (Err F.Answer) o o) (sym is) (fails_now F.Answer o)
 
-pub told_comes : (first : Option ℕ) (n : ℕ) (events : Option (List Event)) (result : Result ℕ Fault) (o o' : Reach) → first ≡ Some n → Comes (watched (Some n) events) result o o'
-    → Comes (watched first events) result o o'
-told_comes first n events result o o' is = subst (λ f. Comes (watched f events) result o o') (sym is)
+pub told_comes : (first : Option ℕ) (n : ℕ) (body : List ℕ) (whole : Bool) (result : Result ℕ Fault) (o o' : Reach) → first ≡ Some n → Comes (watched (Some n) body whole) result o o'
+    → Comes (watched first body whole) result o o'
+told_comes first n body whole result o o' is = subst (λ f. Comes (watched f body whole) result o o') (sym is)
 
 -- ---- what follows an answer of events
 
 abbrev pub next_of : Option ℕ → Bool → List ℕ → Plan
-next_of first whole body = watched first (if_whole whole (events_in body))
+next_of first whole body = watched first body whole
 
-pub watched_asks : (first : Option ℕ) (events : Option (List Event)) → IsAsking (watched first events)
-watched_asks None events = tt
-watched_asks (Some zero) (Some es) = all_printed_asks (map row_line (fold_of es)) 0
-watched_asks (Some zero) None = tt
-watched_asks (Some (suc n)) events = tt
+pub watched_asks : (first : Option ℕ) (body : List ℕ) (whole : Bool) → IsAsking (watched first body whole)
+watched_asks None body whole = tt
+watched_asks (Some zero) body true = by (events_in body)
+  where
+    by : (o : Option (List Event)) → IsAsking (watches o)
+    by (Some es) = all_printed_asks (map row_line (fold_of es)) 0
+    by None = tt
+watched_asks (Some zero) body false = tt
+watched_asks (Some (suc n)) body whole = tt
 
 pub watched_cut : (first : Option ℕ) (body : List ℕ) → (f : Fault) × (next_of first false body ≡ fails f)
 watched_cut None body = (F.Answer, refl)
-watched_cut (Some zero) body = (F.Answer, refl)
+watched_cut (Some zero) body = (cut_fault body, refl)
 watched_cut (Some (suc n)) body = (F.EventsGone, refl)
 
 pub next_as : (first : Option ℕ) (whole : Bool) (bytes body : List ℕ) (result : Result ℕ Fault) (o o' : Reach) → bytes ≡ body → Comes (next_of first whole bytes) result o o'

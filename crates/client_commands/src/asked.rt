@@ -11,8 +11,7 @@ ghost use Rattle.client_exchange.specs.Walks.{Does};
 
 use crate::printing::print;
 use client_exchange::{Got, ask, ask_numbered, show, show_with_input};
-use client_model::Fault;
-use client_streams::Showing;
+use client_model::{Fault, Showing};
 use engine_ports::{Link, Sink, Source};
 use engine_text::NoMemory;
 use std::alloc::Global;

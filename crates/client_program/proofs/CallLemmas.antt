@@ -67,7 +67,7 @@ module _ (words : List (List ℕ)) (o m : Outside) (asking : IsAsking (plan_for 
 
   fails_so : (fault : Fault) (status : ℕ) (e : SinkView) (input : List ℕ) (next : Plan) (p : Reach) (way : Walked (plan_for words) input (reach_of (address_in words) o) next p)
       → Finishes next (Fails fault) p (reach_of (address_in words) m) → SourceGave o.input input m.input
-      → InputStands (list_any (λ a. a.input) way.asked) false [] input o.input m.input → Tells fault status m.err e
+      → InputStands (list_any (λ a. a.input) way.asked) false [] input o.input m.input → Tells words fault status m.err e
       → IsEnded words status o (outside m.link m.input m.out e)
   fails_so fault status e input next p way f gave reads tells =
       ended words input next f.written (Fails fault) status o (outside m.link m.input m.out e) p m.err tells.part asking way f.is f.took f.link gave reads tells.took tells.line tells.status_is
@@ -80,7 +80,7 @@ module _ (words : List (List ℕ)) (o m : Outside) (asking : IsAsking (plan_for 
       (quiet_read d.walks.way.asked false [] o.input m.input d.walks.quiet refl same)
 
   comes_err : (fault : Fault) (status : ℕ) (e : SinkView) (next : Plan) (p : Reach) (walks : Walks (plan_for words) (reach_of (address_in words) o) next p) → m.input ≡ o.input
-      → Comes next (Err fault) p (reach_of (address_in words) m) → Tells fault status m.err e → Runs words status o (outside m.link m.input m.out e)
+      → Comes next (Err fault) p (reach_of (address_in words) m) → Tells words fault status m.err e → Runs words status o (outside m.link m.input m.out e)
   comes_err fault status e next p walks same (inl f) tells =
       inl (fails_so fault status e [] next p walks.way f (none_read o.input m.input same) (quiet_read walks.way.asked false [] o.input m.input walks.quiet refl same) tells)
   comes_err fault status e next p walks same (inr (inl b)) tells =
@@ -98,7 +98,7 @@ module _ (words : List (List ℕ)) (o m : Outside) (asking : IsAsking (plan_for 
       (loud_read d.feeds.way.asked false [] d.feeds.input o.input m.input d.feeds.loud d.feeds.ended)
 
   behind_err : (fault : Fault) (status : ℕ) (e : SinkView) (next : Plan) (p : Reach) (feeds : Feeds (plan_for words) o.input m.input (reach_of (address_in words) o) next p)
-      → Comes next (Err fault) p (reach_of (address_in words) m) → Tells fault status m.err e → Runs words status o (outside m.link m.input m.out e)
+      → Comes next (Err fault) p (reach_of (address_in words) m) → Tells words fault status m.err e → Runs words status o (outside m.link m.input m.out e)
   behind_err fault status e next p feeds (inl f) tells =
       inl (fails_so fault status e feeds.input next p feeds.way f feeds.gave
       (loud_read feeds.way.asked false [] feeds.input o.input m.input feeds.loud feeds.ended) tells)
@@ -109,7 +109,7 @@ module _ (words : List (List ℕ)) (o m : Outside) (asking : IsAsking (plan_for 
       inr (stopped_in words feeds.input next ⊥ fault status o m p e asking feeds.way (quiet_stop next feeds.input fault p (reach_of (address_in words) m) b) (λ never. absurd never) feeds.gave
       (loud_read feeds.way.asked _ _ feeds.input o.input m.input feeds.loud feeds.ended) tells)
 
-  feeding_err : (fault : Fault) (status : ℕ) (e : SinkView) → StopsFeeding (plan_for words) fault o.input m.input (reach_of (address_in words) o) (reach_of (address_in words) m) → Tells fault status m.err e
+  feeding_err : (fault : Fault) (status : ℕ) (e : SinkView) → StopsFeeding (plan_for words) fault o.input m.input (reach_of (address_in words) o) (reach_of (address_in words) m) → Tells words fault status m.err e
       → Runs words status o (outside m.link m.input m.out e)
   unfolding with_input
   feeding_err fault status e s tells =
@@ -154,7 +154,7 @@ module _ (words : List (List ℕ)) (o m : Outside) where
 
   judged_stops : (fault : Fault) (status : ℕ) (e : SinkView) (charter : Charter) (next : Verdict → Plan) → plan_for words ≡ Judges charter next
       → (j : replay.HasVerdict charter next (Err fault) o.input m.input (reach_of (address_in words) o) (reach_of (address_in words) m)) → StopsBefore (next j.verdict) fault (reach_of (address_in words) o) (reach_of (address_in words) m)
-      → Tells fault status m.err e → IsBrokenOff words status o (outside m.link m.input m.out e)
+      → Tells words fault status m.err e → IsBrokenOff words status o (outside m.link m.input m.out e)
   judged_stops fault status e charter next is j b tells =
       broken_off words (course [] j.input (Some j.verdict) (said_by (next j.verdict) None []) b.began.part) fault status o m e
       (subst (HaveCome o.link.coming []) (sym b.missed.coming) (came_none o.link.coming))
@@ -181,7 +181,7 @@ module _ (words : List (List ℕ)) (o m : Outside) where
   -- no verdict came
   unjudged : (fault : Fault) (status : ℕ) (e : SinkView) (charter : Charter) (next : Verdict → Plan) (input : List ℕ) → plan_for words ≡ Judges charter next
       → SourceGave o.input input m.input → reach_of (address_in words) m ≡ reach_of (address_in words) o
-      → (fault ≡ F.NoMemory) ⊎ ((fault ≡ F.Input) × Rose o.input.faults m.input.faults) → Tells fault status m.err e
+      → (fault ≡ F.NoMemory) ⊎ ((fault ≡ F.Input) × Rose o.input.faults m.input.faults) → Tells words fault status m.err e
       → IsBrokenOff words status o (outside m.link m.input m.out e)
   unjudged fault status e charter next input is gave same cause tells =
       broken_off words (record { xs = []; input = input; verdict = None; said = said [] nothing None; wrote = nothing }) fault status o m e
@@ -207,6 +207,7 @@ module _ (words : List (List ℕ)) (o m : Outside) where
   unread_cause F.Answer r = absurd r
   unread_cause F.NoCode r = absurd r
   unread_cause F.EventsGone r = absurd r
+  unread_cause F.TooLong r = absurd r
   unread_cause (F.Refused message) r = absurd r
   unread_cause F.Link r = absurd r
   unread_cause F.Connection r = absurd r
@@ -228,7 +229,7 @@ module _ (words : List (List ℕ)) (o m : Outside) where
   by_plan_ok status (Asks w asked next) is j = absurd j
 
   by_plan_err : (fault : Fault) (status : ℕ) (e : SinkView) (plan : Plan) → plan_for words ≡ plan
-      → replay.Judged plan (Err fault) o.input m.input (reach_of (address_in words) o) (reach_of (address_in words) m) → Tells fault status m.err e → IsBrokenOff words status o (outside m.link m.input m.out e)
+      → replay.Judged plan (Err fault) o.input m.input (reach_of (address_in words) o) (reach_of (address_in words) m) → Tells words fault status m.err e → IsBrokenOff words status o (outside m.link m.input m.out e)
   by_plan_err fault status e (Judges charter next) is (inl j) tells = by_print j.prints
     where
       by_print : PrintsOrLacks (next j.verdict) (Err fault) (reach_of (address_in words) o) (reach_of (address_in words) m)
@@ -249,7 +250,7 @@ ran_ok words status o o' (inl (asking, inr (inl d))) = inl (behind_ok words o o'
 ran_ok words status o o' (inl (asking, inr (inr (fault, is, s)))) = absurd (ok_err words o o' (Ok status) status fault refl is)
 ran_ok words status o o' (inr j) = inl (by_plan_ok words o o' status (plan_for words) refl j)
 
-pub ran_err : (words : List (List ℕ)) (fault : Fault) (status : ℕ) (o m : Outside) (e : SinkView) → Ran (address_in words) (plan_for words) (Err fault) o m → Tells fault status m.err e
+pub ran_err : (words : List (List ℕ)) (fault : Fault) (status : ℕ) (o m : Outside) (e : SinkView) → Ran (address_in words) (plan_for words) (Err fault) o m → Tells words fault status m.err e
     → Runs words status o (outside m.link m.input m.out e)
 ran_err words fault status o m e (inl (asking, inl (d, same))) tells = comes_err words o m asking fault status e d.next d.between d.walks same d.comes tells
 ran_err words fault status o m e (inl (asking, inr (inl d))) tells = behind_err words o m asking fault status e d.next d.between d.feeds d.comes tells

@@ -11,10 +11,10 @@ use Rattle.response_reader.specs.Answers.{Answer}
 use Rattle.journal_lines.specs.declared.verdict.Verdict.{Verdict}
 use Rattle.client_model.specs.Requests.{request_bytes}
 use Rattle.client_model.specs.Faults.{fault_line}
-use Rattle.client_model.specs.Lines.{command_names, address_in}
+use Rattle.client_model.specs.Lines.{address_in}
 use Rattle.client_model.specs.Plans.{Plan, Ends, Asks, Judges, Asked, Written, Ending, nothing, joined}
 use Rattle.client_model.specs.Client.{Said, said, said_by, plan_for, IsJudged, status_at, line_at}
-use Rattle.client_model.specs.Runs.{Outside, Exchange, HaveCome, AreLeft, sent_by, WasSent, asks_input, InputStands, AreFronts, WroteLine, AreWhole, IsEnded, Course, LacksVerdict, but_last, said_sooner, CauseBehind, BreaksBehind, CauseWithin, BreaksWithin, missed_by, IsBrokenOff}
+use Rattle.client_model.specs.Runs.{Outside, Exchange, shows_unfit, HaveCome, AreLeft, sent_by, WasSent, asks_input, InputStands, AreFronts, WroteLine, AreWhole, IsEnded, Course, LacksVerdict, but_last, said_sooner, CauseBehind, BreaksBehind, CauseWithin, BreaksWithin, missed_by, IsBrokenOff}
 use Rattle.client_model.specs.declared.fault.Fault.{Fault}
 use Rattle.client_model.specs.declared.fault.Fault.TheVariants as F
 use Rattle.client_streams.specs.Outputs.{Outputs, outputs, BothTook}
@@ -50,7 +50,7 @@ pub ended : (words : List (List ℕ)) (input : List ℕ) (next : Plan) (w : Writ
     → IsAsking (plan_for words) → (way : Walked (plan_for words) input (reach_of (address_in words) o) next p) → next ≡ Ends w ending → BothTook p.shown w (outputs o'.out e)
     → but_for (address_in words) o'.link ≡ p.link
     → SourceGave o.input input o'.input → InputStands (list_any (λ a. a.input) way.asked) false [] input o.input o'.input
-    → SinkTook e part o'.err → WroteLine e part (line_at ending) o'.err → status ≡ status_at ending → IsEnded words status o o'
+    → SinkTook e part o'.err → WroteLine e part (line_at words ending) o'.err → status ≡ status_at ending → IsEnded words status o o'
 ended words input next w ending status o o' p e part asking way next_is took link gave reads told line status_is = record {
   xs = way.xs;
   answers = way.answers;
@@ -72,7 +72,7 @@ ended words input next w ending status o o' p e part asking way next_is took lin
   input_read = read_so (plan_for words) way.asked false [] input o.input o'.input asking reads;
   out = both.out;
   err = sink_on o.err e o'.err all.err part both.err told;
-  line = line_since o.err e o'.err part (line_at ending) both.err.faults line;
+  line = line_since o.err e o'.err part (line_at words ending) both.err.faults line;
   status_is = status_is;
 }
   where
@@ -118,6 +118,7 @@ alone_cause next F.Words c sooner w o m p q is fronts took same one r = absurd r
 alone_cause next F.Answer c sooner w o m p q is fronts took same one r = absurd r
 alone_cause next F.NoCode c sooner w o m p q is fronts took same one r = absurd r
 alone_cause next F.EventsGone c sooner w o m p q is fronts took same one r = absurd r
+alone_cause next F.TooLong c sooner w o m p q is fronts took same one r = absurd r
 alone_cause next (F.Refused message) c sooner w o m p q is fronts took same one r = absurd r
 
 -- what is told behind it doesn't change it
@@ -133,6 +134,7 @@ behind_until F.Words c sooner more o m e r = absurd r
 behind_until F.Answer c sooner more o m e r = absurd r
 behind_until F.NoCode c sooner more o m e r = absurd r
 behind_until F.EventsGone c sooner more o m e r = absurd r
+behind_until F.TooLong c sooner more o m e r = absurd r
 behind_until (F.Refused message) c sooner more o m e r = absurd r
 
 -- ---- what was said before the last answer
@@ -158,9 +160,9 @@ rest_none (b ∷ bytes) more e = rest_none bytes more (ap (drop 1) e)
 module _ (starved : Type 0) (x : Exchange) (answer : Answer) (now : Asked) (c : Course) (o m : Outside) (p : Reach) (w part v old : Written) where
   within_cause : (fault : Fault) → old ≡ w → c.wrote ≡ joined w part → c.said.written ≡ joined w v
       → BothTook (outputs o.out o.err) w p.shown → (starved → (now.input ≡ true) × Rose o.input.faults m.input.faults) → FailsOn starved fault x p.shown (outputs m.out m.err)
-      → HadToWrite fault v → CountsAll fault x.given answer part v → CauseWithin fault x answer now c old o m
+      → HadToWrite fault v → CountsAll fault (shows_unfit now.showing answer) x.given answer part v → CauseWithin fault x answer now c old o m
   within_cause F.Connection is wrote said took rose r had all =
-      let counted = all refl in (r, counted.0, wrote ∙ ap (joined w) counted.1 ∙ sym said)
+      let counted = all refl in (r, counted.0, counted.1, wrote ∙ ap (joined w) counted.2 ∙ sym said)
   within_cause F.Input is wrote said took rose r had all = rose r
   within_cause F.Output is wrote said took rose r had all = (
     rose_since o.out.faults p.shown.out.faults m.out.faults took.out.faults r,
@@ -176,6 +178,7 @@ module _ (starved : Type 0) (x : Exchange) (answer : Answer) (now : Asked) (c : 
   within_cause F.Answer is wrote said took rose r had all = absurd r
   within_cause F.NoCode is wrote said took rose r had all = absurd r
   within_cause F.EventsGone is wrote said took rose r had all = absurd r
+  within_cause F.TooLong is wrote said took rose r had all = absurd r
   within_cause (F.Refused message) is wrote said took rose r had all = absurd r
   within_cause F.Link is wrote said took rose r had all = absurd r
 
@@ -191,6 +194,7 @@ within_until F.Words x answer now c old o m e le r = absurd r
 within_until F.Answer x answer now c old o m e le r = absurd r
 within_until F.NoCode x answer now c old o m e le r = absurd r
 within_until F.EventsGone x answer now c old o m e le r = absurd r
+within_until F.TooLong x answer now c old o m e le r = absurd r
 within_until (F.Refused message) x answer now c old o m e le r = absurd r
 
 -- behind another fault than the link's connecting failed as often
@@ -205,6 +209,7 @@ as_often F.Words n m other same = same
 as_often F.Answer n m other same = same
 as_often F.NoCode n m other same = same
 as_often F.EventsGone n m other same = same
+as_often F.TooLong n m other same = same
 as_often (F.Refused message) n m other same = same
 
 -- ---- broken off
@@ -251,7 +256,7 @@ pub broken_off : (words : List (List ℕ)) (c : Course) (fault : Fault) (status 
     → HaveCome o.link.coming (map (λ x. x.came) c.xs) m.link.coming → AreLeft o.link.past (map (λ x. x.left) c.xs) m.link.past
     → others (address_in words) m.link.addresses ≡ others (address_in words) o.link.addresses → SourceGave o.input c.input m.input
     → Breaks (plan_for words) fault c o m → AreFronts c.wrote c.said.written → BothTook (outputs o.out o.err) c.wrote (outputs m.out m.err)
-    → m.link.faults ≡ missed_by fault o.link.faults → Tells fault status m.err e → IsBrokenOff words status o (outside m.link m.input m.out e)
+    → m.link.faults ≡ missed_by fault o.link.faults → Tells words fault status m.err e → IsBrokenOff words status o (outside m.link m.input m.out e)
 broken_off words c fault status o m e came left others gave breaks fronts took missed tells = record {
   fault = fault;
   course = c;
@@ -262,7 +267,7 @@ broken_off words c fault status o m e came left others gave breaks fronts took m
   fronts = fronts;
   out = took.out;
   err = sink_on o.err m.err e c.wrote.err tells.part took.err tells.took;
-  line = line_since o.err m.err e tells.part (fault_line command_names fault) took.err.faults tells.line;
+  line = line_since o.err m.err e tells.part (fault_line words fault) took.err.faults tells.line;
   status_is = tells.status_is;
 }
 
@@ -292,7 +297,7 @@ course xs input verdict s wrote = record { xs = xs; input = input; verdict = ver
 -- before anything more was asked
 pub stopped_before : (words : List (List ℕ)) (input : List ℕ) (next : Plan) (fault : Fault) (status : ℕ) (o m : Outside) (p : Reach) (e : SinkView)
     → IsAsking (plan_for words) → (way : Walked (plan_for words) input (reach_of (address_in words) o) next p) → StopsBefore next fault p (reach_of (address_in words) m)
-    → SourceGave o.input input m.input → InputStands (list_any (λ a. a.input) way.asked) false [] input o.input m.input → Tells fault status m.err e
+    → SourceGave o.input input m.input → InputStands (list_any (λ a. a.input) way.asked) false [] input o.input m.input → Tells words fault status m.err e
     → IsBrokenOff words status o (outside m.link m.input m.out e)
 stopped_before words input next fault status o m p e asking way b gave reads tells =
     broken_off words (course way.xs input None (said_behind way.asked way.written (said_by next None [])) (joined way.written b.began.part)) fault status o m e
@@ -348,7 +353,7 @@ quiet_stop next input fault p q s = let b = s.stops in record {
 pub stopped_in : (words : List (List ℕ)) (input : List ℕ) (next : Plan) (starved : Type 0) (fault : Fault) (status : ℕ) (o m : Outside) (p : Reach) (e : SinkView)
     → IsAsking (plan_for words) → (way : Walked (plan_for words) input (reach_of (address_in words) o) next p) → (b : StopsIn next input starved fault p (reach_of (address_in words) m))
     → (starved → (b.asks.asked.input ≡ true) × Rose o.input.faults m.input.faults) → SourceGave o.input input m.input
-    → InputStands (list_any (λ a. a.input) way.asked) b.asks.asked.input b.exchange.given input o.input m.input → Tells fault status m.err e
+    → InputStands (list_any (λ a. a.input) way.asked) b.asks.asked.input b.exchange.given input o.input m.input → Tells words fault status m.err e
     → IsBrokenOff words status o (outside m.link m.input m.out e)
 stopped_in words input next starved fault status o m p e asking way b rose gave reads tells =
     broken_off words (course (way.xs ++ b.exchange ∷ []) input None (said_behind way.asked way.written (said_by next None (b.answer ∷ []))) (joined way.written b.began.part)) fault status o m e

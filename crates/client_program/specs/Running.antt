@@ -5,7 +5,6 @@ use Rattle.engine_ports.specs.Sink.{SinkView, SinkTook}
 use Rattle.engine_ports.specs.Link.{LinkView, but_for}
 use Rattle.machine_model.specs.History.{greatest_moment}
 use Rattle.client_model.specs.Faults.{status_of, fault_line}
-use Rattle.client_model.specs.Lines.{command_names}
 use Rattle.client_model.specs.Plans.{Plan}
 use Rattle.client_model.specs.Runs.{Outside, WroteLine}
 use Rattle.client_model.specs.declared.fault.Fault.{Fault}
@@ -35,8 +34,8 @@ IsTimed (command.Replay seed moment) = moment ≤ greatest_moment
 IsTimed other = ⊤
 
 -- the fault's line was written, or a front of it; and its status is this
-pub record Tells (fault : Fault) (status : ℕ) (e e' : SinkView) : Type 0 where
+pub record Tells (words : List (List ℕ)) (fault : Fault) (status : ℕ) (e e' : SinkView) : Type 0 where
   pub part : List ℕ
   pub took : SinkTook e part e'
-  pub line : WroteLine e part (fault_line command_names fault) e'
+  pub line : WroteLine e part (fault_line words fault) e'
   pub status_is : status ≡ status_of fault

@@ -43,10 +43,10 @@ fn run_words<W: Wait, L: Link, N: Source, K: Sink, E: Sink>(
 }
 
 /// Writes the line of a fault, and answers its status. A write that fails isn't told.
-fn tell<E: Sink>(errors: &mut E, fault: &Fault) -> u8
-    ensures { Tells fault.now result (E.takes errors.old) (E.takes errors.new) }
+fn tell<E: Sink>(errors: &mut E, words: &[Text], fault: &Fault) -> u8
+    ensures { Tells words.now fault.now result (E.takes errors.old) (E.takes errors.new) }
 {
-    let _ = write_fault(errors, fault);
+    let _ = write_fault(errors, words, fault);
     status_of(fault)
 }
 
@@ -66,6 +66,6 @@ pub fn run_client<W: Wait, L: Link, N: Source, K: Sink, E: Sink>(
 {
     match run_words(rt, alloc, words, link, input, out, errors) {
         Ok(status) => status,
-        Err(fault) => tell(errors, &fault),
+        Err(fault) => tell(errors, words, &fault),
     }
 }

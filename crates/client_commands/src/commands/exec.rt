@@ -9,8 +9,7 @@ ghost use Rattle.client_commands.specs.Steps.{inspects, executes};
 
 use crate::asked::{show_fed, show_some};
 use crate::asked_for::{ask_exit_code, ask_id};
-use client_model::Fault;
-use client_streams::Showing;
+use client_model::{Fault, Showing};
 use engine_client::{exec_create_request, exec_inspect_request, exec_start_request};
 use engine_ports::{Link, Sink, Source};
 use engine_text::Text;

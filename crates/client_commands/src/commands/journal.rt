@@ -5,8 +5,7 @@ ghost use Rattle.client_exchange.specs.Exchanges.{reach};
 ghost use Rattle.client_exchange.specs.Walks.{Does};
 
 use crate::asked::show_all;
-use client_model::Fault;
-use client_streams::Showing;
+use client_model::{Fault, Showing};
 use engine_client::journal_request;
 use engine_ports::{Link, Sink};
 use std::alloc::Global;

@@ -10,8 +10,7 @@ ghost use Rattle.client_commands.specs.Steps.{waits, attaches, starts};
 
 use crate::asked::{ask_all, show_fed, show_some};
 use crate::asked_for::{ask_id, ask_status_code};
-use client_model::{Fault, NewContainer};
-use client_streams::Showing;
+use client_model::{Fault, NewContainer, Showing};
 use engine_client::{attach_request, create_request, remove_request, start_request, wait_request};
 use engine_ports::{Link, Sink, Source};
 use std::alloc::Global;

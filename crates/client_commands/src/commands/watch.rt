@@ -2,7 +2,7 @@
 ghost use Rattle.std.specs.Prelude.{map, Some};
 ghost use Rattle.engine_ports.specs.Link.{LinkView, but_for};
 ghost use Rattle.engine_ports.specs.Sink.{SinkView};
-ghost use Rattle.client_model.specs.Plans.{if_whole, prints_all, done};
+ghost use Rattle.client_model.specs.Plans.{prints_all, done};
 ghost use Rattle.client_model.specs.Streams.{events_in};
 ghost use Rattle.client_model.specs.Commands.Watch.{row_line, watched, watch_plan};
 ghost use Rattle.client_exchange.specs.Exchanges.{reach};
@@ -15,6 +15,7 @@ use crate::printing::print_all;
 use crate::watching::{fold_events, row_lines};
 use client_exchange::Got;
 use client_model::Fault;
+use client_streams::cut_fault;
 use engine_client::events_request;
 use engine_ports::{Link, Sink};
 use engine_text::FoldRow;
@@ -46,14 +47,13 @@ fn print_events<K: Sink>(alloc: Global, body: &[u8], out: &mut K) -> Result<u8, 
 
 /// It prints what the events of a body tell, where all of that came.
 fn print_whole<K: Sink>(alloc: Global, whole: bool, body: &[u8], out: &mut K) -> Result<u8, Fault>
-    ensures { (link : LinkView) (e : SinkView)
-        → Comes (watches (if_whole whole (events_in body.now))) result
+    ensures { (link : LinkView) (e : SinkView) → Comes (watched (Some 0) body.now whole) result
         (reach link (K.takes out.old) e) (reach link (K.takes out.new) e) }
 {
     if whole {
         print_events(alloc, body, out)
     } else {
-        Err(Fault::Answer)
+        Err(cut_fault(body))
     }
 }
 
@@ -65,8 +65,7 @@ fn print_from<K: Sink>(
     body: &[u8],
     out: &mut K,
 ) -> Result<u8, Fault>
-    ensures { (link : LinkView) (e : SinkView)
-        → Comes (watched (Some first) (if_whole whole (events_in body.now))) result
+    ensures { (link : LinkView) (e : SinkView) → Comes (watched (Some first) body.now whole) result
         (reach link (K.takes out.old) e) (reach link (K.takes out.new) e) }
 {
     if first == 0 {
@@ -78,8 +77,7 @@ fn print_from<K: Sink>(
 
 /// It prints what an answer of events tells, where that tells the number of its first.
 fn print_watched<K: Sink>(alloc: Global, got: Got, body: &[u8], out: &mut K) -> Result<u8, Fault>
-    ensures { (link : LinkView) (e : SinkView)
-        → Comes (watched got.first (if_whole got.whole (events_in body.now))) result
+    ensures { (link : LinkView) (e : SinkView) → Comes (watched got.first body.now got.whole) result
         (reach link (K.takes out.old) e) (reach link (K.takes out.new) e) }
 {
     match got.first {
