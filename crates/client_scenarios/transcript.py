@@ -11,7 +11,7 @@ from exchange import answer, compact, created, id_of, message, shown, volume  # 
 
 COMMANDS = ("create|run|start|pause|unpause|stop|restart|kill|rm|rename|ps|inspect|version|logs|attach|exec|wait|events|watch"
             "|volume|journal|replay")
-USAGE = f"usage: dockc ADDR {COMMANDS} [OPTIONS] [WORD..]\n"
+ANY = f"{COMMANDS} [OPTIONS] [WORD..]"
 WEB, GONE, LONG, FLAKY, TRAP = (id_of(n) for n in range(5))
 LINES = []
 # parts of a line that stand for no connection
@@ -38,8 +38,8 @@ def refused(words, message, **more):
     line(words, err=message + "\n", status=125, **more)
 
 
-def usage(words):
-    line(words, err=USAGE, status=2, connections=0)
+def usage(words, form=ANY):
+    line(words, err=f"usage: dockc ADDR {form} (ADDR is 127.0.0.1:PORT)\n", status=2, connections=0)
 
 
 def body(answer):
@@ -156,9 +156,13 @@ refused("start nobody", "No such container: nobody")
 refused("volume inspect none", "get none: no such volume")
 line("version", compact({"ApiVersion": "1.43", "Arch": "amd64", "MinAPIVersion": "1.24", "Os": "linux", "Version": "1.0.0"}) + "\n")
 usage("frob")
-usage("stop")
-usage("stop -t")
-usage("ps web")
+usage("stop", "stop [-t N] REF")
+usage("stop -t", "stop [-t N] REF")
+usage("ps web", "ps [-a]")
+usage("exec web", "exec [-i] REF WORD..")
+usage("run --rm", "run [--rm] [--name NAME] [--restart POLICY[:MAX]] [-i] [-v VOLUME:PATH[:ro]].. IMAGE [WORD..]")
+usage("volume prune", "volume create|inspect|rm NAME, or volume ls")
+usage("version 2", "version")
 usage("--help")
 
 # ---- journals: this daemon's, one with another reply, with a line cut, and none
@@ -180,15 +184,15 @@ TAKEN = ("HTTP/1.1 101 UPGRADED\r\nContent-Type: application/vnd.docker.multiple
          "Upgrade: tcp\r\n\r\n")
 HI, LAST = "\1\0\0\0\0\0\0\3hi\n", "0\r\n\r\n"
 NO_ANSWER = "dockc: the answer isn't one of the Engine API's\n"
-NO_CONNECTION, NO_MORE = "dockc: can't connect to the daemon\n", "dockc: the connection to the daemon failed\n"
+NO_CONNECTION, NO_MORE = "dockc: can't connect to the daemon at 127.0.0.1:2375\n", "dockc: the connection to the daemon failed\n"
 
 
 def chunk(data):
     return f"{len(data):x}\r\n{data}\r\n"
 
 
-def no_answer(words, *instead, out=""):
-    by(words, *instead, out=out, err=NO_ANSWER, status=123)
+def no_answer(words, *instead, out="", given=""):
+    by(words, *instead, out=out, err=NO_ANSWER, status=123, given=given)
 
 
 by("logs web", FRAMES + chunk(HI) + LAST, out="hi\n")
@@ -201,6 +205,23 @@ no_answer("logs web", FRAMES + chunk(HI)[:-3], out="hi\n")
 by("attach web", TAKEN + HI, out="hi\n")
 no_answer("attach web", TAKEN + HI + HI[:3], out="hi\n")
 no_answer("attach web", TAKEN + HI + HI[:9], out="hi\nh\n")
+# connections that stay open: nothing is waited for behind a wrong byte of a frame, of a head or of a chunk
+WRONG = "\3\0\0\0\0\0\0\3hi\n"
+no_answer("logs -f web", "open " + FRAMES + chunk(HI + WRONG), out="hi\n")
+no_answer("logs -f web", "open " + FRAMES + chunk(HI) + chunk("\1\0\1"), out="hi\n")
+no_answer("attach web", "open " + TAKEN + HI + WRONG, out="hi\n")
+no_answer("run engine/tools", created(0), answer(204), "open " + TAKEN + HI + WRONG, out="hi\n")
+no_answer("exec -i web cat", created(0), "open " + TAKEN + WRONG, given="abc\n")
+no_answer("ps", "open HTTP/1.1 200 OK\r\nServer: x")
+no_answer("logs -f web", "open " + FRAMES + chunk(HI) + "x", out="hi\n")
+by("logs -f web", "open " + FRAMES + chunk(HI), out="hi\n", err=NO_MORE, status=125)
+
+# bodies that are kept have an end, and so has the patience for a refusal
+LONG_BODY = "Content-Length: 67108928\r\nContent-Type: application/json\r\nServer: engined\r\n\r\n times 1048577 " + "0123456789abcdef" * 4
+TOO_LONG = "dockc: the answer has more than 67108864 bytes\n"
+by("inspect web", BEGINS + LONG_BODY, err=TOO_LONG, status=123)
+by("logs web", "HTTP/1.1 404 Not Found\r\nApi-Version: 1.43\r\n" + LONG_BODY, err=TOO_LONG, status=123)
+
 no_answer("version", "HTTP/1.0 200 OK\r\n\r\n")
 no_answer("version", answer(200, "{}")[:-20])
 no_answer("version", answer(200, "{}")[:-1])

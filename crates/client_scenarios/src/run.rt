@@ -8,6 +8,9 @@ use std::alloc::Global;
 use std::str;
 use std::sync::Wait;
 
+/// The address of what stands in the place of the daemon.
+const ELSEWHERE: &str = "127.0.0.1:2375";
+
 /// Adds each line of what was written, with this before it.
 fn tell_lines(told: &mut Vec<u8>, before: &str, bytes: &[u8]) -> Result<(), NoMemory> {
     let text = str::from_utf8(bytes).unwrap_or("not UTF-8");
@@ -94,8 +97,8 @@ pub fn tell_all<W: Wait, L: Link>(
             tell_line(rt, alloc, address, line, link, told)?;
         } else {
             let mut link = link_of(alloc, line)?;
-            tell_line(rt, alloc, address, line, &mut link, told)?;
-            tell_asked(alloc, address, link.asked(), told)?;
+            tell_line(rt, alloc, ELSEWHERE, line, &mut link, told)?;
+            tell_asked(alloc, ELSEWHERE, link.asked(), told)?;
         }
     }
     Ok(())
