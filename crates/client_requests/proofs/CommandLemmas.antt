@@ -1,5 +1,5 @@
 -- The commands that ask at most one request ask only what is spelled by its bytes.
-use Rattle.std.proofs.Common.{ℕ, zero, suc, map, ◌+◌, ◌≤◌, List, [], ◌∷◌, length, false, codes, Option, Some, None, arith}
+use Rattle.std.proofs.Common.{ℕ, zero, suc, map, ◌+◌, ◌≤◌, List, [], ◌∷◌, length, Bool, false, codes, Option, Some, None, arith}
 use Rattle.std.specs.Prelude.{option_map}
 use Rattle.std.specs.Option.{IfSome}
 use Rattle.engine_text.specs.declared.pairs.Pair.{Pair}
