@@ -7,7 +7,6 @@ use Rattle.response_reader.specs.Answers.{Answer, NoHead, Answered}
 use Rattle.response_reader.specs.Heads.{first_in}
 use Rattle.journal_lines.specs.declared.verdict.Verdict.{Verdict}
 use Rattle.journal_lines.specs.declared.verdict.Verdict.TheVariants.{Legal, Illegal, BadLine}
-use Rattle.engine_text.specs.declared.event.Event.{Event}
 use Rattle.event_ring.specs.Fold.{fold_of}
 use Rattle.json_laws.specs.Pairs.{AreWordsUtf8}
 use Rattle.client_model.specs.Bodies.{id_in, status_code_in, container_lines_in, volume_names_in}
@@ -52,7 +51,7 @@ use Rattle.client_calls.proofs.IdLemmas.{id-bytes}
 use Rattle.client_calls.proofs.ClassLemmas.{literal, start-class, pause-class, unpause-class, stop-class, restart-class, kill-class, remove-class, rename-class, inspect-class, wait-class}
 use Rattle.client_calls.proofs.StreamClassLemmas.{logs-class, attach-class, exec-start-class, exec-inspect-class, events-class, journal-class, list-class, version-class, volume-inspect-class, volume-remove-class, volume-list-class}
 use Rattle.client_calls.proofs.BodyClassLemmas.{create-class, exec-create-class, volume-create-class}
-use Rattle.client_calls.proofs.PlanLemmas.{entries, AsksNone, all-printed, asked-first, asks-calls, streams-calls, none-behind, asks-once, streams-once, read-goes, refused, same-entry}
+use Rattle.client_calls.proofs.PlanLemmas.{entries, AsksNone, all-printed, asked-first, asks-calls, streams-calls, none-behind, asks-once, streams-once, read-goes, none-read, refused, same-entry}
 
 -- ---- run
 
@@ -146,11 +145,7 @@ watched-none None body whole verdict answers = refl
 watched-none (Some zero) body whole verdict answers =
     read-goes events_in (λ es. prints_all (map row_line (fold_of es)) done) body whole verdict answers (λ es. [])
     (λ es same. all-printed (map row_line (fold_of es)) verdict answers)
-    ∙ none (if_whole whole (events_in body))
-  where
-    none : (o : Option (List Event)) → option_map_or (λ es. []) o [] ≡ []
-    none None = refl
-    none (Some es) = refl
+    ∙ none-read (if_whole whole (events_in body))
 watched-none (Some (suc n)) body whole verdict answers = refl
 
 watch-on : (answer : Answer) → AsksNone (by_answer (λ h body whole. watched (first_in h.form) body whole) answer)

@@ -67,15 +67,16 @@ read-goes {A = A} read next body true verdict answers after on = found (read bod
     found (Some x) same = on x same
 read-goes read next body false verdict answers after on = refl
 
+-- nothing is asked, whatever is read
+pub none-read : {A : Type 0} (o : Option A) → option_map_or {U = List Entry} (λ x. []) o [] ≡ []
+none-read None = refl
+none-read (Some x) = refl
+
 -- a refusal ends the command
 pub refused : (whole : Bool) (body : List ℕ) (verdict : Option Verdict) (answers : List Answer) → entries (refuses body whole) verdict answers ≡ []
 refused whole body verdict answers =
     read-goes message_in (λ message. fails (F.Refused message)) body whole verdict answers (λ message. []) (λ message same. refl)
-    ∙ none (if_whole whole (message_in body))
-  where
-    none : (o : Option (List ℕ)) → option_map_or (λ message. []) o [] ≡ []
-    none None = refl
-    none (Some message) = refl
+    ∙ none-read (if_whole whole (message_in body))
 
 body-goes-by : {A : Type 0} (read : List ℕ → Option A) (next : A → Plan) (verdict : Option Verdict) (after : A → List Answer → List Entry)
     → ((x : A) (body : List ℕ) → read body ≡ Some x → (answers : List Answer) → entries (next x) verdict answers ≡ after x answers)
