@@ -6,7 +6,7 @@ use Rattle.std.specs.declared.alloc.Global.{Global}
 use Rattle.engine_ports.specs.Source.{SourceView}
 use Rattle.engine_text.specs.declared.memory.NoMemory.{NoMemory}
 use Rattle.http_edge.specs.Message.{Request}
-use Rattle.client_model.specs.Plans.{Plan, fails, goes_on, asks, ends}
+use Rattle.client_model.specs.Plans.{Plan, nothing, fails, goes_on, asks, ends}
 use Rattle.client_model.specs.Requests.{request_bytes}
 use Rattle.client_model.specs.Commands.Run.{removes}
 use Rattle.client_model.specs.Client.{said_by}
