@@ -13,7 +13,7 @@ use super::judging::journal_text;
 use super::making::requests;
 use super::reporting::report;
 use daemon_core::{Alone, Daemon};
-use drill_model::{Drill, Drilled, RunDrill};
+use drill_model::{Drill, Drilled};
 use engine_ports::{Clock, MemSink, Sink};
 use engine_serve::{Ending, serve};
 use engine_text::{NoMemory, Text};
@@ -50,24 +50,9 @@ fn memory_sink(alloc: Global) -> Result<MemSink, NoMemory>
     }
 }
 
-/// Runs a drill by one session of a new daemon.
-#[derive(Clone, Copy, Drop)]
-pub struct SessionDrill;
-
-impl RunDrill for SessionDrill {
-    fn run_drill<R: Threads + Wait + Sync, C: Clock>(
-        &self,
-        rt: &R,
-        alloc: Global,
-        drill: Drill,
-        clock: &mut C,
-    ) -> Result<Drilled, NoMemory> {
-        drilled(rt, alloc, drill, clock)
-    }
-}
-
-// Serves the requests of a drill, and reports what they came to.
-fn drilled<R: Threads + Wait + Sync, C: Clock>(
+/// Runs a drill: its requests are served on one connection by a new daemon, the daemon's journal is checked, and what
+/// they came to is reported. It may wait.
+pub fn drilled<R: Threads + Wait + Sync, C: Clock>(
     rt: &R,
     alloc: Global,
     drill: Drill,

@@ -12,6 +12,6 @@ mod making;
 mod reporting;
 mod request;
 
-pub use drilling::SessionDrill;
+pub use drilling::drilled;
 pub use given::Given;
 pub use making::requests;

@@ -8,7 +8,8 @@ ghost use Rattle.engine_program.specs.Drilling.{DrillsBy, RunsDrill, TellsDrille
 use crate::opening::{opening_by, steps_of};
 use crate::status::status_by;
 use daemon_shared::called_by;
-use drill_model::{Drill, Drilled, RunDrill};
+use drill_model::{Drill, Drilled};
+use engine_drill::drilled;
 use engine_line::Line;
 use engine_ports::{Clock, Failed, Sink};
 use engine_serve::OwnClock;
@@ -19,10 +20,9 @@ use std::sync::Wait;
 use std::thread::Threads;
 
 /// Runs a drill by its own clock, of this start and step, or by the handed one.
-fn drill_by<R: Threads + Wait + Sync, C: Clock, G: RunDrill>(
+fn drill_by<R: Threads + Wait + Sync, C: Clock>(
     rt: &R,
     alloc: Global,
-    drills: &G,
     drill: Drill,
     steps: Option<(u64, u64)>,
     clock: &mut C,
@@ -34,9 +34,9 @@ fn drill_by<R: Threads + Wait + Sync, C: Clock, G: RunDrill>(
     match steps {
         Some((moment, step)) => {
             let mut own = OwnClock { moment, step };
-            drills.run_drill(rt, alloc, drill, &mut own)
+            drilled(rt, alloc, drill, &mut own)
         }
-        None => drills.run_drill(rt, alloc, drill, clock),
+        None => drilled(rt, alloc, drill, clock),
     }
 }
 
@@ -62,10 +62,9 @@ fn tell_drilled<K: Sink>(sink: &mut K, drilled: Result<Drilled, NoMemory>) -> u8
 }
 
 /// Runs a drill of so many requests, as the line sets it, and writes its report.
-pub fn run_line_drill<R: Threads + Wait + Sync, K: Sink, C: Clock, G: RunDrill>(
+pub fn run_line_drill<R: Threads + Wait + Sync, K: Sink, C: Clock>(
     rt: &R,
     alloc: Global,
-    drills: &G,
     line: Line,
     requests: u32,
     sink: &mut K,
@@ -83,6 +82,6 @@ pub fn run_line_drill<R: Threads + Wait + Sync, K: Sink, C: Clock, G: RunDrill>(
         opening,
         entries: u64::from(line.entries),
     };
-    let drilled = drill_by(rt, alloc, drills, drill, steps_of(line.clock), clock);
+    let drilled = drill_by(rt, alloc, drill, steps_of(line.clock), clock);
     tell_drilled(sink, drilled)
 }

@@ -7,7 +7,6 @@ use crate::listening::{address_of, listen};
 use crate::running::run_session;
 use crate::status::status_by;
 use crate::telling::{USAGE, tell};
-use drill_model::RunDrill;
 use engine_line::{Work, read_line};
 use engine_ports::{Clock, Door, Sink, Source};
 use engine_text::Text;
@@ -16,8 +15,8 @@ use std::alloc::Global;
 use std::sync::Wait;
 use std::thread::Threads;
 
-/// Runs `engined` with the words after the program's name, and answers its status. What runs a drill is handed in.
-pub fn run_engined<R: Threads + Wait + Sync, S: Source, K: Sink, C: Clock, D: Door, G: RunDrill>(
+/// Runs `engined` with the words after the program's name, and answers its status.
+pub fn run_engined<R: Threads + Wait + Sync, S: Source, K: Sink, C: Clock, D: Door>(
     rt: &R,
     alloc: Global,
     words: &[Text],
@@ -25,7 +24,6 @@ pub fn run_engined<R: Threads + Wait + Sync, S: Source, K: Sink, C: Clock, D: Do
     sink: &mut K,
     clock: &mut C,
     door: &mut D,
-    drills: &G,
 ) -> u8
     ensures { RunsProgram words.now result
         (outside (S.gives source.old) (K.takes sink.old) (C.times clock.old))
@@ -43,9 +41,7 @@ pub fn run_engined<R: Threads + Wait + Sync, S: Source, K: Sink, C: Clock, D: Do
                 Ok(addr) => listen(rt, alloc, line, &addr, clock, door),
                 Err(_) => status_by(Worst::NoMemory),
             },
-            Work::Drill(requests) => {
-                run_line_drill(rt, alloc, drills, line, requests, sink, clock)
-            },
+            Work::Drill(requests) => { run_line_drill(rt, alloc, line, requests, sink, clock) },
         },
     }
 }

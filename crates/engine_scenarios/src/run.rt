@@ -5,7 +5,6 @@ use crate::course::Course;
 use crate::door::TalkDoor;
 use crate::scenario::{Coming, Scenario};
 use crate::talk::{MOMENT, read_talk};
-use engine_drill::SessionDrill;
 use engine_ports::{MemSink, MemSource, NoDoor, NoMemory, StepClock};
 use engine_program::run_engined;
 use engine_text::Text;
@@ -45,7 +44,6 @@ fn run_over<R: Threads + Wait + Sync + AllocGlobal>(
         &mut sink,
         &mut clock,
         &mut NoDoor::new(rt.alloc()),
-        &SessionDrill,
     );
     Ok(Ran { status, sink })
 }
@@ -105,7 +103,6 @@ fn run_talk<R: Threads + Wait + Sync + AllocGlobal>(
         &mut sink,
         &mut clock,
         &mut door,
-        &SessionDrill,
     );
     Ok(Ran { status, sink })
 }

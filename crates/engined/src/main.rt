@@ -2,7 +2,6 @@
 //! handed to the one top call.
 #![tactic(auto)]
 
-use engine_drill::SessionDrill;
 use engine_ports::{HeldStreams, ReadSource, SystemClock, TcpDoor, WriteSink};
 use engine_program::run_engined;
 use engine_text::Text;
@@ -46,7 +45,6 @@ fn main(rt: HostRuntime) -> ExitCode {
         &mut sink,
         &mut clock,
         &mut door,
-        &SessionDrill,
     );
     drop(held);
     ExitCode::from(status)

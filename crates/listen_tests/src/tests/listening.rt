@@ -2,7 +2,6 @@
 use super::attaches::copy_a_line;
 use super::clients::{keep_two_orders, leave_halfway};
 use super::waits::wait_before_the_start;
-use engine_drill::SessionDrill;
 use engine_ports::{Door, MemSink, MemSource, NoMemory, StepClock, TcpDoor};
 use engine_program::run_engined;
 use engine_text::Text;
@@ -44,16 +43,7 @@ fn runs<R: Threads + Wait + Sync + AllocGlobal, D: Door>(
     let mut source = MemSource::new(alloc, b"", 7, &[])?;
     let mut sink = MemSink::new(alloc, &[])?;
     let mut clock = StepClock::new(1_700_000_000_000, 0, None);
-    let status = run_engined(
-        rt,
-        alloc,
-        words,
-        &mut source,
-        &mut sink,
-        &mut clock,
-        door,
-        &SessionDrill,
-    );
+    let status = run_engined(rt, alloc, words, &mut source, &mut sink, &mut clock, door);
     Ok((status, sink.bytes().is_empty()))
 }
 
