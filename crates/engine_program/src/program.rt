@@ -41,7 +41,7 @@ pub fn run_engined<R: Threads + Wait + Sync, S: Source, K: Sink, C: Clock, D: Do
                 Ok(addr) => listen(rt, alloc, line, &addr, clock, door),
                 Err(_) => status_by(Worst::NoMemory),
             },
-            Work::Drill(requests) => { run_line_drill(rt, alloc, line, requests, sink, clock) },
+            Work::Drill(requests) => run_line_drill(rt, alloc, line, requests, sink, clock),
         },
     }
 }
