@@ -1,7 +1,7 @@
 -- What was told of a history's events, as it goes on, and where it ends.
 use Rattle.std.proofs.Common.{◌≡◌, ◌≤◌, ◌<◌, ◌&&◌, ℕ, List, [], ◌∷◌, ◌++◌, refl, sym, ◌∙◌, ap, subst, append-nil, arith, Bool, true, false, Option, Some, None, length, take, drop, take-append-drop, length-take, length-append}
-use Rattle.std.specs.Prelude.{nat_le}
-use Rattle.std.specs.List.{list_all}
+use Rattle.std.specs.Prelude.{nat_le, IsSomeAnd}
+use Rattle.std.specs.List.{list_all, last_or}
 use Rattle.std.proofs.lemmas.Bool.{false≢true}
 use Rattle.std.proofs.lemmas.Bool.Decides.{nat_tests}
 use Rattle.std.proofs.lemmas.List.{take-append-le, take-take, length-take-le, drop-append-le, drop_all}
@@ -16,11 +16,10 @@ use Rattle.machine_model.proofs.Histories.{events_append}
 use Rattle.session_model.specs.declared.followed.Followed.TheVariants as F
 use Rattle.session_model.specs.declared.turned.Part.TheVariants as P
 use Rattle.session_model.specs.Exchange.{EndsSo, IsBody}
-use Rattle.session_model.specs.Moments.{greatest_of}
+use Rattle.session_model.specs.Moments.{ComesTo}
 use Rattle.session_model.proofs.HistoryLemmas.{extends_same}
-use Rattle.daemon_core.specs.EventTurns.{EventsSay, comes_to, is_past}
+use Rattle.daemon_core.specs.EventTurns.{EventsSay, comes_to, is_over, is_past}
 use Rattle.daemon_core.proofs.LineLemmas.{lines_append}
-use Rattle.attach_hub.specs.Following.{HasReached}
 
 -- a body is the lines of a history's events up to that place
 pub record TellsEvents (ch : Charter) (first : ℕ) (until : Option ℕ) (filters : List FilterRow) (b : List Step) (body : List ℕ) (place : ℕ) : Type 0 where
@@ -154,11 +153,38 @@ events_whole ch first (Some u) filters a b handed body old new place t says =
     sym (all_lines ch first (Some u) filters b body place t
     ∙ ap (λ y. body ++ y) (no_lines filters u left all) ∙ append-nil body)
 
--- the clock had come to the end
-pub events_reached : (ch : Charter) (first : ℕ) (until : Option ℕ) (filters : List FilterRow) (b : List Step) (handed : ℕ) (old new ms : List ℕ)
-    (place : ℕ) → EventsSay ch b handed filters until place P.Whole old new → handed ≤ greatest_of ms
-    → HasReached (EventStream first until filters) true ms
-events_reached ch first None filters b handed old new ms place says late = tt
-events_reached ch first (Some u) filters b handed old new ms place says late =
+-- the last moment had come to the end
+pub events_came : (ch : Charter) (first : ℕ) (until : Option ℕ) (filters : List FilterRow) (b : List Step) (handed : ℕ) (old new ms : List ℕ)
+    (place : ℕ) → EventsSay ch b handed filters until place P.Whole old new → last_or None ms ≡ Some handed
+    → ComesTo (EventStream first until filters) F.Whole ms
+events_came ch first None filters b handed old new ms place says last = tt
+events_came ch first (Some u) filters b handed old new ms place says last =
     let comes = and_left (comes_to (Some u) handed) (list_all (is_past (Some u)) (drop place (events_of ch b))) says.0.1 in
-    let le : u ≤ handed = grind (arith, nat_tests, comes) in omega (arith, le, late)
+    let le : u ≤ handed = grind (arith, nat_tests, comes) in subst (λ o. IsSomeAnd o (λ m. u ≤ m)) (sym last) le
+
+-- ---- a stream that was stopped
+
+none_left : {A : Type 0} (xs : List A) (place : ℕ) → place ≡ length xs → drop place xs ≡ []
+none_left xs place is = drop_all place xs (omega (arith, is))
+
+-- all lines were told
+pub events_told : (ch : Charter) (first : ℕ) (until : Option ℕ) (filters : List FilterRow) (a b : List Step) (handed : ℕ) (body old new : List ℕ)
+    (place : ℕ) → TellsEvents ch first until filters b body place → EventsSay ch b handed filters until place P.UpToDate old new
+    → EndsSo ch (EventStream first until filters) F.Stopped body a b
+events_told ch first until filters a b handed body old new place t says =
+    sym (all_lines ch first until filters b body place t
+    ∙ ap (λ es. body ++ lines_of filters until es) (none_left (events_of ch b) place says.1) ∙ append-nil body)
+
+and_true : (x : Bool) → (x && true) ≡ false → x ≡ false
+and_true true h = absurd (false≢true (sym h))
+and_true false h = refl
+
+-- and the last moment lies before the end
+pub events_wait : (ch : Charter) (first : ℕ) (until : Option ℕ) (filters : List FilterRow) (b : List Step) (handed : ℕ) (old new ms : List ℕ)
+    (place : ℕ) → EventsSay ch b handed filters until place P.UpToDate old new → last_or None ms ≡ Some handed
+    → ComesTo (EventStream first until filters) F.Stopped ms
+events_wait ch first None filters b handed old new ms place says last = tt
+events_wait ch first (Some u) filters b handed old new ms place says last =
+    let unended = subst (λ es. is_over (Some u) handed es ≡ false) (none_left (events_of ch b) place says.1) says.0.1 in
+    let late = and_true (comes_to (Some u) handed) unended in
+    let less : handed < u = grind (arith, nat_tests, late) in subst (λ o. IsSomeAnd o (λ m. m < u)) (sym last) less

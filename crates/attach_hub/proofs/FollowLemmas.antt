@@ -1,26 +1,23 @@
 -- Following a stream goes on, and ends.
-use Rattle.std.proofs.Common.{◌≡◌, ◌≤◌, max, ℕ, List, [], ◌∷◌, ◌++◌, refl, sym, ◌∙◌, ap, subst, append_assoc, arith, Bool, true, false, Err}
-use Rattle.std.specs.Prelude.{IsTrue}
+use Rattle.std.proofs.Common.{◌≡◌, ◌≤◌, max, ℕ, List, [], ◌∷◌, ◌++◌, refl, sym, ◌∙◌, ap, subst, append_assoc, Bool, true, false, Err}
 use Rattle.engine_ports.specs.Rose.{Rose}
 use Rattle.engine_ports.specs.Sink.{SinkView, SinkTook, WriteSays}
 use Rattle.engine_ports.specs.Clock.{ClockView, ClockHanded, ClockStood}
 use Rattle.engine_ports.specs.declared.ports.Failed.{Failed}
-use Rattle.engine_ports.proofs.PortLemmas.{clock_none, sink_none, sink_on, rose_since}
+use Rattle.engine_ports.proofs.PortLemmas.{sink_none, sink_on, rose_since}
 use Rattle.engine_text.specs.declared.reply.Reply.{Reply}
 use Rattle.engine_text.specs.declared.reply.Reply.TheVariants as reply
 use Rattle.engine_text.specs.declared.step.Step.{Step}
 use Rattle.machine_model.specs.State.{State}
-use Rattle.machine_model.specs.History.{Charter, Extends, HasNone, IsLegal, opening_state, own_calls, state_after, state_from}
+use Rattle.machine_model.specs.History.{Charter, Extends, HasNone, IsLegal, state_from}
 use Rattle.session_model.specs.declared.followed.Followed.TheVariants as F
 use Rattle.session_model.specs.declared.turned.Part.{Part}
 use Rattle.session_model.specs.declared.turned.Part.TheVariants as P
-use Rattle.session_model.specs.Moments.{greatest_of}
 use Rattle.session_model.specs.Pass.{PassView, IsNumber}
-use Rattle.session_model.specs.Turning.{Turns}
 use Rattle.session_model.proofs.HistoryLemmas.{dues_none, extends_on, extends_same, some_none}
 use Rattle.session_model.proofs.DueLemmas.{dues_clock, some_clock}
-use Rattle.session_model.proofs.MomentLemmas.{greatest_append, moments_quiet}
-use Rattle.session_model.proofs.TurnLemmas.{clock_alone, moves_on, turn_quiet, turn_rests}
+use Rattle.session_model.proofs.MomentLemmas.{last_on}
+use Rattle.session_model.proofs.TurnLemmas.{moves_on}
 use Rattle.daemon_core.specs.JournalTurns.{JournalSays}
 use Rattle.daemon_core.specs.PartTurns.{PartDues, PartTurn}
 use Rattle.attach_hub.specs.Following.{CanFollow, FollowsFrom, IsSent, IsTimed, written_of}
@@ -28,7 +25,7 @@ use Rattle.attach_hub.specs.Streams.{JournalPart, PartOf, PartSays, StandsIn, fi
 use Rattle.attach_hub.proofs.StandLemmas.{Stands, look_stands, stands_on, stands_pause, stands_same, turn_stands}
 use Rattle.attach_hub.proofs.PieceLemmas.{sent_more, sent_none}
 use Rattle.attach_hub.proofs.JournalTellLemmas.{JournalSaid}
-use Rattle.attach_hub.proofs.TellLemmas.{Said, SaidAt, Told, said_short, told_first, told_later, told_more, told_broken, told_either, told_gone, told_whole, told_reached, told_stands, told_timed, timed_same, ends_whole, ends_stopped, ends_failed, ends_short, reached_not}
+use Rattle.attach_hub.proofs.TellLemmas.{Said, SaidAt, Told, said_short, told_first, told_later, told_more, told_broken, told_either, told_gone, told_whole, told_timed, timed_same, ends_whole, ends_stopped, ends_failed, ends_short, whole_comes, stopped_comes, lapsed_comes, short_comes}
 
 -- ---- where following stands
 
@@ -90,10 +87,6 @@ record Asked (base : List Step) (k : ℕ) (reply : Reply) (chunked : Bool) (part
   now : Following base k reply chunked p q u u' v v' place
   said : Said reply place part old new now.stands.moves.handed p.charter q.seen
 
--- the moment is the last that the clock handed
-late_on : (ms : List ℕ) (handed : ℕ) → handed ≤ greatest_of (ms ++ handed ∷ [])
-late_on ms handed = let e = greatest_append ms (handed ∷ []) in omega (arith, e)
-
 -- following goes on where the connection rests
 goes_on : (base : List Step) (k : ℕ) (reply : Reply) (chunked : Bool) (p q q2 : PassView) (u u' : SinkView) (v v1 v2 : ClockView) (place : ℕ)
     → Following base k reply chunked p q u u' v v1 place → Stands k q q2 v1 v2 → IsTimed reply v v2
@@ -122,7 +115,7 @@ asked_at base k handed reply chunked part old new p q q2 u u' v v1 v2 place f cl
       record {
         handed = handed;
         says = subst (λ ch. PartSays reply handed place part old new ch q2.seen) stays.charter turn.says;
-        late = late_on f.stands.moves.handed handed;
+        last = last_on None f.stands.moves.handed handed;
         legal = subst (λ ch. IsLegal ch q2.seen) (turn.turns.stays.charter ∙ stays.charter) turn.turns.legal;
       },
     )
@@ -218,6 +211,7 @@ more base k next reply chunked old new p q q2 u u1 u2 v v1 v2 place f turn empty
 pub stopped : (base : List Step) (k : ℕ) (reply : Reply) (chunked : Bool) (old new : List ℕ) (p q q2 : PassView) (u u' : SinkView) (v v0 v1 v2 : ClockView) (place : ℕ)
     → Following base k reply chunked p q u u' v v0 place → PartOf k reply place P.UpToDate old new q q2 v0 v1
     → ClockStood v1 v2 → Rose v1.stops v2.stops → FollowsFrom base k reply chunked F.Stopped p q2 u u' v v2
+unfolding stands_pause
 stopped base k reply chunked old new p q q2 u u' v v0 v1 v2 place f turn stood rose =
     let a = asked base k reply chunked P.UpToDate old new p q q2 u u' v v0 v1 place f turn in
     let stands = stands_pause k p q2 v v1 v2 a.now.stands stood in
@@ -226,15 +220,15 @@ stopped base k reply chunked old new p q q2 u u' v v0 v1 v2 place f turn stood r
       still = a.now.stands.still;
       quiet = a.now.stands.quiet;
       timed = told_timed reply p.charter base q2.seen a.now.body old new a.now.stands.moves.handed place v v2 a.now.told a.said;
-      reached = reached_not reply stands.moves.handed;
       whole = false;
       by_end = refl;
+      comes = stopped_comes reply p.charter q2.seen old new a.now.stands.moves.handed place a.said;
       body = a.now.body;
       sent = a.now.sent;
       part = a.now.sent;
       tells = told_broken reply p.charter base q2.seen a.now.body place
           (said_short reply p.charter q2.seen P.UpToDate old new a.now.stands.moves.handed place tt a.said) a.now.told;
-      ends = ends_stopped reply p.charter base q2.seen a.now.body old new a.now.stands.moves.handed place (extends_on base p.seen q2.seen a.now.from a.now.stands.moves.extends) a.now.told a.said;
+      ends = ends_stopped reply p.charter base q2.seen a.now.body old new a.now.stands.moves.handed place a.now.told a.said;
       pieces = a.now.pieces;
       taken = refl;
       sink = a.now.sink;
@@ -251,9 +245,9 @@ short base k reply chunked old new p q q2 u u' v v1 v2 place f turn =
       still = a.now.stands.still;
       quiet = a.now.stands.quiet;
       timed = a.now.timed;
-      reached = reached_not reply a.now.stands.moves.handed;
       whole = false;
       by_end = refl;
+      comes = short_comes reply a.now.stands.moves.handed;
       body = a.now.body;
       sent = a.now.sent;
       part = a.now.sent;
@@ -277,9 +271,9 @@ gone base k next first reply chunked old new p q q2 u u' v v1 v2 place f turn =
       still = a.now.stands.still;
       quiet = a.now.stands.quiet;
       timed = a.now.timed;
-      reached = reached_not reply a.now.stands.moves.handed;
       whole = false;
       by_end = refl;
+      comes = lapsed_comes reply next first a.now.stands.moves.handed;
       body = a.now.body;
       sent = a.now.sent;
       part = a.now.sent;
@@ -310,7 +304,7 @@ failed base k next reply chunked old new x p q q2 u u1 u2 v v1 v2 place f turn e
       timed = a.now.timed;
       whole = either.whole;
       by_end = tt;
-      reached = either.reached a.now.stands.moves.handed;
+      comes = either.comes a.now.stands.moves.handed;
       body = a.now.body ++ new;
       sent = a.now.sent ++ bytes;
       part = a.now.sent ++ part;
@@ -334,9 +328,9 @@ whole base k reply chunked old new p q q2 u u' v v1 v2 place may f turn =
       still = a.now.stands.still;
       quiet = a.now.stands.quiet;
       timed = a.now.timed;
-      reached = told_reached reply p.charter q2.seen old new a.now.stands.moves.handed place a.said;
       whole = true;
       by_end = refl;
+      comes = whole_comes reply p.charter q2.seen old new a.now.stands.moves.handed place a.said;
       body = a.now.body;
       sent = a.now.sent;
       part = a.now.sent;

@@ -1,9 +1,7 @@
 -- A call of a connection's input is asked for until it is ready.
-use Rattle.std.proofs.Common.{◌≡◌, ◌∷◌, ℕ, Bool, List, [], ◌++◌, refl, sym, ◌∙◌, ap, subst, append_assoc, append-nil, arith, true, false, Some, ◌⊎◌, inl, inr, cond, Ok, Err}
+use Rattle.std.proofs.Common.{◌≡◌, ◌∷◌, ℕ, Bool, List, [], ◌++◌, refl, sym, ◌∙◌, ap, subst, append_assoc, arith, true, false, Some, ◌⊎◌, inl, inr, Ok, Err}
 use Rattle.std.specs.Prelude.{IsTrue, IsFalse}
-use Rattle.std.specs.List.{filter}
 use Rattle.std.proofs.lemmas.Bool.{false≢true}
-use Rattle.std.proofs.lemmas.List.Elements.{filter-append}
 use Rattle.engine_ports.specs.Rose.{Rose}
 use Rattle.engine_ports.specs.Clock.{ClockView, ClockHanded, ClockStood}
 use Rattle.engine_ports.proofs.PortLemmas.{rose_since}
@@ -15,21 +13,19 @@ use Rattle.engine_text.specs.declared.reply.Reply.TheVariants as reply
 use Rattle.engine_text.specs.declared.step.Step.{Step}
 use Rattle.machine_model.specs.State.{State}
 use Rattle.machine_model.specs.Calls.Feed.{feed_by, feed_end_by}
-use Rattle.machine_model.specs.History.{Charter, DuesUntil, Extends, HasNone, HasNoCall, bears, calls_of, input_of, is_drop, after_step, moment_used, opening_state, reply_of, state_after, state_from}
+use Rattle.machine_model.specs.History.{Charter, HasNone, input_of, is_drop, moment_used, opening_state, reply_of, state_after, state_from}
 use Rattle.journal_lines.specs.Room.{HasRoom}
 use Rattle.machine_model.specs.Statuses.{is_feed}
 use Rattle.machine_model.specs.Step.{at_moment}
 use Rattle.machine_model.specs.Streams.{Coming, Live, Over, RunState, run_state}
-use Rattle.session_model.specs.declared.followed.PumpEnd.{PumpEnd}
 use Rattle.session_model.specs.declared.followed.PumpEnd.TheVariants as P
 use Rattle.session_model.specs.declared.turned.Turned.{Turned}
 use Rattle.session_model.specs.declared.turned.Turned.TheVariants as T
 use Rattle.session_model.specs.Pass.{PassView}
 use Rattle.session_model.specs.Exchange.{IsMade, IsQuiet}
-use Rattle.session_model.specs.Moments.{ComesTo}
 use Rattle.session_model.specs.Progress.{Moves}
 use Rattle.session_model.specs.Turning.{HasTicket, Turn, Turns, found}
-use Rattle.session_model.proofs.HistoryLemmas.{dues_none, extends_on, extends_same, made_behind, none_append, quiet_same, run_append, some_none, uncalled}
+use Rattle.session_model.proofs.HistoryLemmas.{dues_none, extends_same, made_behind, none_append, quiet_same, run_append, some_none}
 use Rattle.session_model.proofs.DueLemmas.{dues_clock, some_clock}
 use Rattle.session_model.proofs.AddsLemmas.{turn_adds}
 use Rattle.session_model.proofs.TurnLemmas.{clock_alone, makes_call, moves_on, moves_same, seen_made, state_made, state_seen}
@@ -37,7 +33,7 @@ use Rattle.daemon_core.proofs.CallLemmas.{call_at}
 use Rattle.attach_hub.specs.Following.{IsStill}
 use Rattle.attach_hub.specs.Pumping.{Hears, IsFed}
 use Rattle.attach_hub.proofs.StandLemmas.{Stands, stands_on, stands_pause, stands_same, turn_extends, turn_stands}
-use Rattle.attach_hub.proofs.StillLemmas.{none_of_both, none_parts, quiet_both, still_between, still_rest, untimed_calls}
+use Rattle.attach_hub.proofs.StillLemmas.{none_of_both, none_parts, quiet_both, still_between, still_rest}
 
 -- ---- a feed, and the end of input
 
@@ -51,11 +47,6 @@ no_drop : (c : Call) → IsTrue (is_feed c) → IsFalse (is_drop c)
 no_drop (call.Feed owner run bytes) is = refl
 no_drop (call.FeedEnd owner run) is = refl
 no_drop c is = absurd (false≢true is)
-
-comes_so : (c : Call) (ms : List ℕ) → IsTrue (is_feed c) → ComesTo true c ms
-comes_so (call.Feed owner run bytes) ms is = tt
-comes_so (call.FeedEnd owner run) ms is = tt
-comes_so c ms is = absurd (false≢true is)
 
 fed_by : (x : RunState) (owner : Owner) (bytes : List ℕ) (s : State) → IsFed (feed_by x owner bytes s).reply
 fed_by Live owner bytes s = tt
@@ -112,9 +103,9 @@ asks_quiet k p q u v f still = quiet_both k p.seen q.seen f.moves.extends still 
 
 -- the call was made
 takes : (n handed : ℕ) (c : Call) (p q : PassView) (turns : Turns n p q) (dues : List Step) (v w : ClockView) → HasNone n dues
-    → turns.own ≡ dues ++ Step.Call n (moment_used (found n p q turns) handed) c ∷ [] → ComesTo true c (handed ∷ [])
-    → ClockHanded v (handed ∷ []) w → Moves n true p q v w
-takes n handed c p q turns dues v w none is comes clock =
+    → turns.own ≡ dues ++ Step.Call n (moment_used (found n p q turns) handed) c ∷ []
+    → ClockHanded v (handed ∷ []) w → Moves n p q v w
+takes n handed c p q turns dues v w none is clock =
     let t : ℕ = moment_used (found n p q turns) handed in
     let at = seen_made n t c p q turns dues is in
     record {
@@ -123,19 +114,6 @@ takes n handed c p q turns dues v w none is comes clock =
       adds = turn_adds n p q turns;
       handed = handed ∷ [];
       clock = clock;
-      moments = inr (
-        c,
-        q.seen,
-        record {
-          front = turns.others;
-          back = dues;
-          untimed = untimed_calls n turns.others turns.apart;
-          uncalled = uncalled n dues none;
-          at = at;
-        },
-        comes,
-        ([], refl, sym (append-nil q.seen)),
-      );
       within = λ h.
           let e = ap (λ x. (state_after p.charter x).clock) at
           ∙ ap (λ (s : State). s.clock) (state_made p.charter (p.seen ++ turns.others ++ dues) (Step.Call n t c))
@@ -175,9 +153,9 @@ pub heard : (k handed : ℕ) (c : Call) (taken : Bool) (p q q2 : PassView) (u v 
 heard k handed c taken p q q2 u v w is f clock t =
     let n : ℕ = input_of k in
     let m = makes_call q.charter _ n handed c t.turns.own (reply.Fed taken) (no_drop c is) t.says.1 in
-    let moves = takes n handed c q q2 t.turns m.0 v w (dues_none n _ _ m.0 m.1) m.2.1 (comes_so c (handed ∷ []) is) clock in
+    let moves = takes n handed c q q2 t.turns m.0 v w (dues_none n _ _ m.0 m.1) m.2.1 clock in
     record {
-      moves = moves_on n true p q q2 u v w f.moves moves;
+      moves = moves_on n p q q2 u v w f.moves moves;
       says = λ still.
           let parts = still_between k p.seen q.seen q2.seen f.moves.extends moves.extends still in
           made_behind p.charter k n c p.seen q.seen q2.seen (reply.Fed taken) (asks_quiet k p q u v f parts.0)
@@ -222,7 +200,7 @@ heard_short k handed c p q q2 u v w f clock t =
 -- no memory for the call itself
 pub heard_none : (k : ℕ) (c : Call) (p : PassView) (v : ClockView) → Hears k c (Err P.NoMemory) p p v v
 heard_none k c p v =
-    record { moves = moves_same (input_of k) true p v; says = λ still. quiet_same k p.seen; cause = tt }
+    record { moves = moves_same (input_of k) p v; says = λ still. quiet_same k p.seen; cause = tt }
 
 -- it gives no ticket, and a turn with a call answers it
 pub feed_never : (n handed : ℕ) (c : Call) (x : Turned) (p q : PassView) → IsTrue (is_feed c) → Turn n handed (Some c) x p q

@@ -1,5 +1,5 @@
 -- What was told of a log, as its history goes on, and where it ends.
-use Rattle.std.proofs.Common.{◌≡◌, ◌≤◌, ◌<◌, ℕ, List, [], ◌++◌, refl, sym, ◌∙◌, ap, arith, Bool, true, false, Option, Some, None, length}
+use Rattle.std.proofs.Common.{◌≡◌, ◌≤◌, ◌<◌, ℕ, List, [], ◌++◌, refl, sym, ◌∙◌, ap, arith, Bool, true, false, Option, Some, None, length, length-append}
 use Rattle.std.specs.Prelude.{IsTrue}
 use Rattle.std.proofs.lemmas.Bool.{false≢true}
 use Rattle.std.proofs.lemmas.Bool.Decides.{nat_tests}
@@ -13,7 +13,7 @@ use Rattle.machine_model.specs.History.{Charter, Extends, IsLegal, state_after}
 use Rattle.machine_model.proofs.Laws.{log_grows_law}
 use Rattle.session_model.specs.declared.followed.Followed.TheVariants as F
 use Rattle.session_model.specs.declared.turned.Part.TheVariants as P
-use Rattle.session_model.specs.Exchange.{EndsBehind, EndsSo, IsBody, IsShort}
+use Rattle.session_model.specs.Exchange.{EndsBehind, EndsSo, IsBody}
 use Rattle.session_model.proofs.HistoryLemmas.{extends_same, extends_on}
 use Rattle.daemon_core.specs.LogTurns.{LogSays, ends_by, is_whole_at}
 use Rattle.attach_hub.specs.Following.{MayFollow}
@@ -117,19 +117,41 @@ goes_behind : (s : State) (spec : LogSpec) (place : ℕ) → is_whole_at s spec 
 goes_behind s spec place unended end is =
     let h : ends_by (Some end) place ≡ false = sym (ap (λ x. ends_by x place) is) ∙ unended in grind (arith, nat_tests, h)
 
--- it wasn't whole at that place
-pub log_short : (ch : Charter) (spec : LogSpec) (a b : List Step) (body : List ℕ) (place : ℕ) → Extends a b
-    → TellsLog ch spec a b body place → is_whole_at (state_after ch b) spec place ≡ false → IsShort ch spec body a b
-log_short ch spec a b body place extends t unended =
-    (place, (b, extends, extends_same b, (goes_behind (state_after ch b) spec place unended, (t.at, t.from, t.to, (t.kept, t.begins, t.logged, t.tells)))))
-
--- the log is no longer kept
+-- the log is no longer kept: it is told to that place, as it last was
 pub log_gone : (ch : Charter) (spec : LogSpec) (a b : List Step) (body old new : List ℕ) (place next first : ℕ) → Extends a b
     → TellsLog ch spec a b body place → LogSays (state_after ch b) spec place (P.Gone next first) old new
     → EndsSo ch (LogStream spec) (F.Lagged next first) body a b
 log_gone ch spec a b body old new place next first extends t says =
-    let behind = says.0 in
-    (behind.4, log_short ch spec a b body place extends t behind.0, (b, extends, extends_same b, (behind.2, behind.3)))
+    let s : State = state_after ch b in
+    let behind = says.0 in (
+      place,
+      (
+        b,
+        extends,
+        extends_same b,
+        (
+          record { lost = behind.1; removed = behind.2; kept = behind.3; before = behind.4 },
+          goes_behind s spec place behind.0,
+          (t.at, t.from, t.to, (t.kept, t.begins, t.logged, t.tells)),
+        ),
+      ),
+    )
+
+-- it was up to date: all that the log has was told
+pub log_told : (ch : Charter) (spec : LogSpec) (a b : List Step) (body old new : List ℕ) (place : ℕ) → IsLegal ch b
+    → TellsLog ch spec a b body place → LogSays (state_after ch b) spec place P.UpToDate old new
+    → EndsSo ch (LogStream spec) F.Stopped body a b
+log_told ch spec a b body old new place legal t says =
+    let s : State = state_after ch b in
+    let reached : length (log_of s spec.owner) ≤ place = says.1 in (
+      λ kept.
+          let more = grown ch spec a b body place t legal kept in
+          let sum = ap length more.1 ∙ length-append (log_of (state_after ch t.at) spec.owner) more.0 in
+          let logged = t.logged in
+          let same : place ≡ length (log_of s spec.owner) = omega (arith, sum, logged, reached) in
+          still_tells ch spec a b body place t legal kept ∙ ap (log_bytes s spec spec.first) same,
+      λ end is. let far = goes_behind s spec place says.0.0 end is in omega (arith, far, reached),
+    )
 
 -- ---- a stream that is whole
 

@@ -9,7 +9,7 @@ use Rattle.engine_ports.specs.Source.{SourceEnded, SourceGave, SourceView}
 use Rattle.engine_ports.specs.Sink.{SinkView}
 use Rattle.engine_ports.specs.Clock.{ClockView}
 use Rattle.engine_ports.specs.Door.{outside}
-use Rattle.engine_ports.proofs.PortLemmas.{rose_since, rose_until, source_none, source_on}
+use Rattle.engine_ports.proofs.PortLemmas.{rose_since, source_none, source_on}
 use Rattle.engine_text.specs.declared.call.Call.TheVariants.{Feed, FeedEnd}
 use Rattle.engine_text.specs.declared.owner.Owner.{Owner}
 use Rattle.engine_text.specs.declared.reply.LogSpec.{LogSpec}
@@ -75,7 +75,7 @@ cause_since P.NoMemory s s1 s2 u u' v v1 v2 faults ends stops cause = tt
 
 -- these pieces were fed, and taken
 pub record Pumping (k : ℕ) (spec : LogSpec) (run : ℕ) (p q : PassView) (ahead ahead' : List ℕ) (s s' : SourceView) (v v' : ClockView) : Type 0 where
-  pub moves : Moves (input_of k) true p q v v'
+  pub moves : Moves (input_of k) p q v v'
   pub read : List ℕ
   pub source : SourceGave s read s'
   pub pieces : List (List ℕ)
@@ -84,7 +84,7 @@ pub record Pumping (k : ℕ) (spec : LogSpec) (run : ℕ) (p q : PassView) (ahea
 
 pub pumps_first : (k : ℕ) (spec : LogSpec) (run : ℕ) (p : PassView) (ahead : List ℕ) (s : SourceView) (v : ClockView) → Pumping k spec run p p ahead ahead s s v v
 pumps_first k spec run p ahead s v = record {
-  moves = moves_same (input_of k) true p v;
+  moves = moves_same (input_of k) p v;
   read = [];
   source = source_none s;
   pieces = [];
@@ -96,7 +96,7 @@ pumps_first k spec run p ahead s v = record {
 pub pumps_more : (k : ℕ) (spec : LogSpec) (run : ℕ) (p q r : PassView) (a b c : List ℕ) (s s1 s2 : SourceView) (v v1 v2 : ClockView)
     → Pumping k spec run p q a b s s1 v v1 → FeedsPiece k spec run q r b c s1 s2 v1 v2 → Pumping k spec run p r a c s s2 v v2
 pumps_more k spec run p q r a b c s s1 s2 v v1 v2 f g = record {
-  moves = moves_on (input_of k) true p q r v v1 v2 f.moves g.heard.moves;
+  moves = moves_on (input_of k) p q r v v1 v2 f.moves g.heard.moves;
   read = f.read ++ g.read;
   source = source_on s s1 s2 f.read g.read f.source g.source;
   pieces = f.pieces ++ g.piece ∷ [];
@@ -134,7 +134,7 @@ pub pumps_end : (k : ℕ) (spec : LogSpec) (run : ℕ) (end : PumpEnd) (p q r : 
     → spec.feed ≡ Some run → Pumping k spec run p q a b s s1 v v1 → PumpsInput k spec end q r b s1 s2 v1 v2
     → PumpsInput k spec end p r a s s2 v v2
 pumps_end k spec run end p q r a b s s1 s2 v v1 v2 feed f g = record {
-  moves = moves_on (input_of k) true p q r v v1 v2 f.moves g.moves;
+  moves = moves_on (input_of k) p q r v v1 v2 f.moves g.moves;
   read = f.read ++ g.read;
   source = source_on s s1 s2 f.read g.read f.source g.source;
   says = λ still.
@@ -236,7 +236,7 @@ input_ended k spec run end p q a s s' v v' feed none gave ended (heard, h, is) =
 pub read_failed : (k : ℕ) (spec : LogSpec) (run : ℕ) (p : PassView) (a : List ℕ) (s s' : SourceView) (v : ClockView) → spec.feed ≡ Some run
     → SourceGave s [] s' → Rose s.faults s'.faults → PumpsInput k spec P.ReadFault p p a s s' v v
 read_failed k spec run p a s s' v feed gave rose = record {
-  moves = moves_same (input_of k) true p v;
+  moves = moves_same (input_of k) p v;
   read = [];
   source = gave;
   says = λ still. at_once p.charter k spec run P.ReadFault (a ++ []) p.seen p.seen feed (quiet_same k p.seen);
@@ -247,7 +247,7 @@ read_failed k spec run p a s s' v feed gave rose = record {
 pub no_place : (k : ℕ) (spec : LogSpec) (run : ℕ) (p : PassView) (a : List ℕ) (s : SourceView) (v : ClockView) → spec.feed ≡ Some run
     → PumpsInput k spec P.NoMemory p p a s s v v
 no_place k spec run p a s v feed = record {
-  moves = moves_same (input_of k) true p v;
+  moves = moves_same (input_of k) p v;
   read = [];
   source = source_none s;
   says = λ still. at_once p.charter k spec run P.NoMemory (a ++ []) p.seen p.seen feed (quiet_same k p.seen);

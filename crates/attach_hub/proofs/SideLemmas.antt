@@ -1,23 +1,23 @@
 -- Both sides of a takeover, one after the other and side by side.
-use Rattle.std.proofs.Common.{◌≡◌, ◌≤◌, ◌+◌, ℕ, Bool, List, [], ◌∷◌, ◌++◌, inl, refl, sym, ◌∙◌, ap, subst, append-nil, arith, true, false, Some, max}
-use Rattle.std.specs.Prelude.{IsTrue, IsFalse}
+use Rattle.std.proofs.Common.{◌≡◌, ◌+◌, ℕ, Bool, List, [], ◌∷◌, ◌++◌, inl, refl, sym, ◌∙◌, ap, subst, append-nil, arith, false, if◌then◌else◌, Some, max}
+use Rattle.std.specs.Prelude.{IsTrue}
 use Rattle.engine_ports.specs.Rose.{Rose}
-use Rattle.engine_ports.specs.Source.{SourceGave, SourceView}
-use Rattle.engine_ports.specs.Sink.{FinishSays, SinkTook, SinkView}
+use Rattle.engine_ports.specs.Source.{SourceView}
+use Rattle.engine_ports.specs.Sink.{SinkTook, SinkView}
 use Rattle.engine_ports.specs.Clock.{ClockHanded, ClockView, rejoined, twin_of}
 use Rattle.engine_ports.specs.Door.{outside}
 use Rattle.engine_ports.proofs.PortLemmas.{rose_since, rose_until, sink_on}
 use Rattle.engine_text.specs.declared.reply.LogSpec.{LogSpec}
 use Rattle.engine_text.specs.declared.reply.Reply.TheVariants.{LogStream}
 use Rattle.engine_text.specs.declared.step.Step.{Step}
-use Rattle.machine_model.specs.State.{State}
 use Rattle.machine_model.specs.History.{Charter, Extends, IsLegal, calls_of, input_of, state_after}
 use Rattle.session_model.specs.declared.followed.Followed.{Followed}
 use Rattle.session_model.specs.declared.followed.Followed.TheVariants as F
 use Rattle.session_model.specs.declared.followed.PumpEnd.{PumpEnd}
 use Rattle.session_model.specs.declared.followed.PumpEnd.TheVariants as P
-use Rattle.session_model.specs.Pass.{Every, HasItsCalls, KeepsInput, Only, PassView, Stays}
+use Rattle.session_model.specs.Pass.{Every, HasItsCalls, Only, PassView, Stays}
 use Rattle.session_model.specs.Exchange.{AtSome, EndsSo, Feeds, IsBody, IsQuiet, Pumps, PumpsOut}
+use Rattle.session_model.specs.Moments.{ComesTo}
 use Rattle.session_model.specs.Session.{PumpCause}
 use Rattle.session_model.proofs.AddsLemmas.{input_owns, owns, owns_on}
 use Rattle.session_model.proofs.HistoryLemmas.{extends_on, extends_same, made_before, made_behind, quiet_on, quiet_same}
@@ -35,14 +35,6 @@ at_some a b c P behind (at, from, to, holds) = (at, from, extends_on at b c to b
 body_before : (ch : Charter) (spec : LogSpec) (whole : Bool) (a b c : List Step) (body : List ℕ) → Extends b c
     → IsBody ch (LogStream spec) whole a b body → IsBody ch (LogStream spec) whole a c body
 body_before ch spec whole a b c body behind says = at_some a b c _ behind says
-
-ends_before : (ch : Charter) (spec : LogSpec) (followed : Followed) (a b c : List Step) (body : List ℕ) → Extends b c
-    → EndsSo ch (LogStream spec) followed body a b → EndsSo ch (LogStream spec) followed body a c
-ends_before ch spec F.Whole a b c body behind says = tt
-ends_before ch spec F.Stopped a b c body behind says = (says.0, at_some a b c _ behind says.1)
-ends_before ch spec (F.Lagged next first) a b c body behind says = (says.0, (says.1.0, at_some a b c _ behind says.1.1), at_some a b c _ behind says.2)
-ends_before ch spec F.WriteFault a b c body behind says = tt
-ends_before ch spec F.NoMemory a b c body behind says = tt
 
 -- the end of a pump, behind steps of others and before them
 out_before : (ch : Charter) (k : ℕ) (spec : LogSpec) (n : ℕ) (left : List ℕ) (end : PumpEnd) (a b c : List Step) → IsQuiet k b c → Extends b c
@@ -131,7 +123,12 @@ one_by_one k spec end f p0 p q r ahead s s' u u' v t mine twin w pair may alone 
       body = followed.body;
       part = followed.part;
       tells = subst (λ ch. IsBody ch (LogStream spec) followed.whole p.seen r.seen followed.body) stays.charter followed.tells;
-      ends = subst (λ ch. EndsSo ch (LogStream spec) f followed.body p.seen r.seen) stays.charter followed.ends;
+      ends = (
+        r.seen,
+        extends_on p.seen q.seen r.seen pumped.moves.extends behind,
+        extends_same r.seen,
+        subst (λ ch. EndsSo ch (LogStream spec) f followed.body p.seen r.seen) stays.charter followed.ends,
+      );
       taken = subst (IsTaken f followed.part) followed.pieces followed.taken;
       sink = followed.sink;
       handed = followed.moves.handed;
@@ -202,8 +199,12 @@ side_by_side k spec end f p q o q2 o2 r ahead s s' u u' v t mine twin w may part
       part = followed.part;
       tells = body_before p.charter spec followed.whole p.seen q2.seen r.seen followed.body joined.mine
           (subst (λ ch. IsBody ch (LogStream spec) followed.whole p.seen q2.seen followed.body) charter followed.tells);
-      ends = ends_before p.charter spec f p.seen q2.seen r.seen followed.body joined.mine
-          (subst (λ ch. EndsSo ch (LogStream spec) f followed.body p.seen q2.seen) charter followed.ends);
+      ends = (
+        q2.seen,
+        extends_on p.seen q.seen q2.seen parted.behind q_on,
+        joined.mine,
+        subst (λ ch. EndsSo ch (LogStream spec) f followed.body p.seen q2.seen) charter followed.ends,
+      );
       taken = subst (IsTaken f followed.part) followed.pieces followed.taken;
       sink = followed.sink;
       handed = followed.moves.handed;
@@ -228,6 +229,10 @@ side_by_side k spec end f p q o q2 o2 r ahead s s' u u' v t mine twin w may part
 -- ---- the end of writing
 
 -- a stream that was whole, whose end couldn't be told
+-- of a log the clock is asked for no end
+log_comes : (spec : LogSpec) (f : Followed) (ms : List ℕ) → ComesTo (LogStream spec) f ms
+log_comes spec f ms = tt
+
 unfinished : (base : List Step) (k : ℕ) (spec : LogSpec) (p q : PassView) (u u' u2 : SinkView) (v v' : ClockView)
     → FollowsFrom base k (LogStream spec) false F.Whole p q u u' v v' → SinkTook u' [] u2 → Rose u'.faults u2.faults
     → FollowsFrom base k (LogStream spec) false F.WriteFault p q u u2 v v'
@@ -238,7 +243,7 @@ unfinished base k spec p q u u' u2 v v' f took rose = record {
   timed = f.timed;
   whole = f.whole;
   by_end = tt;
-  reached = f.reached;
+  comes = log_comes spec (if f.whole then F.Whole else F.WriteFault) f.moves.handed;
   body = f.body;
   sent = f.sent;
   part = f.part;
@@ -260,7 +265,7 @@ finished base k spec p q u u' u2 v v' f took = record {
   timed = f.timed;
   whole = f.whole;
   by_end = f.by_end;
-  reached = f.reached;
+  comes = f.comes;
   body = f.body;
   sent = f.sent;
   part = f.part;

@@ -1,9 +1,8 @@
 -- A connection makes no call of its own number, and time goes on.
-use Rattle.std.proofs.Common.{◌≡◌, ◌≤◌, ◌∷◌, ℕ, max, List, [], ◌++◌, refl, sym, ◌∙◌, ap, subst, append_assoc, append-nil, arith, true}
+use Rattle.std.proofs.Common.{◌≡◌, ◌≤◌, ◌∷◌, ℕ, max, [], ◌++◌, refl, sym, ◌∙◌, ap, subst, append_assoc, append-nil, arith}
 use Rattle.std.specs.Prelude.{IsTrue}
 use Rattle.engine_ports.specs.Clock.{ClockView, ClockHanded, ClockStood}
 use Rattle.engine_ports.proofs.PortLemmas.{clock_none, clock_on, clock_stood}
-use Rattle.engine_text.specs.declared.step.Step.{Step}
 use Rattle.machine_model.specs.State.{State}
 use Rattle.machine_model.specs.History.{Extends, HasNone, moment_used, opening_state, own_calls, state_after, state_from}
 use Rattle.session_model.specs.Exchange.{IsQuiet}
@@ -14,25 +13,25 @@ use Rattle.session_model.proofs.HistoryLemmas.{quiet_on, quiet_same, run_append,
 use Rattle.session_model.proofs.AddsLemmas.{turn_adds}
 use Rattle.session_model.proofs.TurnLemmas.{clock_alone, moves_on, moves_same, turn_quiet}
 use Rattle.attach_hub.specs.Following.{IsStill}
-use Rattle.attach_hub.proofs.StillLemmas.{moments_still, no_calls, rest_still}
+use Rattle.attach_hub.proofs.StillLemmas.{no_calls, rest_still}
 
 pub record Stands (k : ℕ) (p q : PassView) (v v' : ClockView) : Type 0 where
-  pub moves : Moves k true p q v v'
+  pub moves : Moves k p q v v'
   pub still : IsStill k p.seen q.seen
   pub quiet : IsTrue p.pair → IsQuiet k p.seen q.seen
 
 pub stands_same : (k : ℕ) (p : PassView) (v : ClockView) → Stands k p p v v
-stands_same k p v = record { moves = moves_same k true p v; still = refl; quiet = λ pair. quiet_same k p.seen }
+stands_same k p v = record { moves = moves_same k p v; still = refl; quiet = λ pair. quiet_same k p.seen }
 
 unfoldable pub stands_on : (k : ℕ) (p q r : PassView) (u v w : ClockView) → Stands k p q u v → Stands k q r v w → Stands k p r u w
 stands_on k p q r u v w f g = record {
-  moves = moves_on k true p q r u v w f.moves g.moves;
+  moves = moves_on k p q r u v w f.moves g.moves;
   still = g.still ∙ f.still;
   quiet = λ pair. quiet_on k p.seen q.seen r.seen (f.quiet pair) (g.quiet (f.moves.stays.pair ∙ pair));
 }
 
 -- it stands in a pause of the clock too
-pub stands_pause : (k : ℕ) (p q : PassView) (u v w : ClockView) → Stands k p q u v → ClockStood v w → Stands k p q u w
+unfoldable pub stands_pause : (k : ℕ) (p q : PassView) (u v w : ClockView) → Stands k p q u v → ClockStood v w → Stands k p q u w
 stands_pause k p q u v w f stood = record {
   moves = record {
     extends = f.moves.extends;
@@ -40,7 +39,6 @@ stands_pause k p q u v w f stood = record {
     adds = f.moves.adds;
     handed = f.moves.handed;
     clock = subst (λ ms. ClockHanded u ms w) (append-nil f.moves.handed) (clock_on u v w f.moves.handed [] f.moves.clock (clock_stood v w stood));
-    moments = f.moves.moments;
     within = f.moves.within;
   };
   still = f.still;
@@ -71,7 +69,6 @@ turn_stands k handed p q turns v w none late clock =
         adds = turn_adds k p q turns;
         handed = handed ∷ [];
         clock = clock;
-        moments = moments_still p.charter k true p.seen q.seen (handed ∷ []) extends still;
         within = λ h.
             let e = ap (λ x. (state_after p.charter x).clock) turns.seen
             ∙ ap (λ (s : State). s.clock) (run_append (opening_state p.charter) (p.seen ++ turns.others) turns.own) in
@@ -94,7 +91,6 @@ look_stands k p q turns v w unmoved same =
         adds = turn_adds k p q turns;
         handed = [];
         clock = subst (ClockHanded v []) (sym same) (clock_none v);
-        moments = moments_still p.charter k true p.seen q.seen [] extends still;
         within = λ h.
             let e = ap (λ x. (state_after p.charter x).clock) turns.seen
             ∙ ap (λ (s : State). s.clock) (run_append (opening_state p.charter) (p.seen ++ turns.others) turns.own)

@@ -1,15 +1,14 @@
 -- A number makes no call between two histories, whoever makes others.
-use Rattle.std.proofs.Common.{◌≡◌, ◌+◌, ◌==◌, ℕ, max, List, [], ◌∷◌, ◌++◌, cond, inl, inr, refl, sym, ◌∙◌, ap, subst, append_assoc, arith, Bool, true, false, length, length-append}
-use Rattle.std.specs.Prelude.{IsTrue, ◌||◌, ◌&&◌, not}
+use Rattle.std.proofs.Common.{◌≡◌, ◌+◌, ◌==◌, ℕ, List, [], ◌∷◌, ◌++◌, cond, refl, sym, ◌∙◌, ap, subst, append_assoc, arith, Bool, true, false, length, length-append}
+use Rattle.std.specs.Prelude.{◌||◌}
 use Rattle.std.specs.List.{filter}
 use Rattle.std.proofs.lemmas.Bool.{eqb-true, false≢true}
 use Rattle.std.proofs.lemmas.List.Elements.{filter-append}
 use Rattle.engine_text.specs.declared.call.Call.{Call}
 use Rattle.engine_text.specs.declared.step.Step.{Step}
-use Rattle.machine_model.specs.History.{Charter, Extends, HasNoCall, HasNone, bears, calls_of, input_of, is_drop, own_calls}
+use Rattle.machine_model.specs.History.{Extends, HasNoCall, HasNone, bears, calls_of, input_of, own_calls}
 use Rattle.session_model.specs.Pass.{PassView, Every, HasItsCalls, calls_by, is_call}
 use Rattle.session_model.specs.Exchange.{IsQuiet}
-use Rattle.session_model.specs.Moments.{TakesMoments, HasNoTimed, is_timed}
 use Rattle.session_model.specs.Progress.{AddsCalls}
 use Rattle.attach_hub.specs.Following.{IsStill}
 
@@ -83,23 +82,6 @@ input_none k (Step.Call j t c ∷ xs) h =
 -- neither makes a call
 pub quiet_both : (k : ℕ) (a b : List Step) → Extends a b → IsStill k a b → IsStill (input_of k) a b → IsQuiet k a b
 quiet_both k a b e f g = (e.0, none_of_both k e.0 (still_rest k a b e f) (still_rest (input_of k) a b e g), e.1)
-
--- ---- moments
-
-timed_none : (x y : Bool) (s : Step) (xs ys : List Step) → cond x (s ∷ xs) xs ≡ [] → (xs ≡ [] → ys ≡ []) → cond (x && y) (s ∷ ys) ys ≡ []
-timed_none true y s xs ys f more = absurd (cc)
-timed_none false y s xs ys f more = more f
-
--- who makes no call makes no timed one
-pub untimed_calls : (n : ℕ) (xs : List Step) → HasNoCall n xs → HasNoTimed n xs
-untimed_calls n [] h = refl
-untimed_calls n (Step.Due ∷ xs) h = untimed_calls n xs h
-untimed_calls n (Step.Call j t c ∷ xs) h =
-    timed_none (j == n) (not (is_drop c)) (Step.Call j t c) (calls_of n xs) (filter (is_timed n) xs) h (untimed_calls n xs)
-
-pub moments_still : (ch : Charter) (n : ℕ) (whole : Bool) (a b : List Step) (ms : List ℕ) → Extends a b → IsStill n a b → TakesMoments ch n whole a b ms
-moments_still ch n whole a b [] e still = (e.0, untimed_calls n e.0 (still_rest n a b e still), e.1)
-moments_still ch n whole a b (m ∷ ms) e still = inl (moments_still ch n whole a b ms e still)
 
 -- ---- of who takes all turns
 

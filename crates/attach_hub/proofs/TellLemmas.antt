@@ -1,5 +1,6 @@
 -- What was told of a stream, by the reply that gives it.
-use Rattle.std.proofs.Common.{◌≡◌, ◌≤◌, ◌<◌, ℕ, Bool, List, [], ◌++◌, true, false, Some, None, arith, refl}
+use Rattle.std.proofs.Common.{◌≡◌, ◌<◌, ℕ, Bool, List, [], ◌++◌, true, false, if◌then◌else◌, Some, None, arith, refl}
+use Rattle.std.specs.List.{last_or}
 use Rattle.engine_ports.specs.Clock.{ClockView}
 use Rattle.engine_text.specs.declared.reply.Reply.{Reply}
 use Rattle.engine_text.specs.declared.reply.Reply.TheVariants as reply
@@ -9,11 +10,11 @@ use Rattle.session_model.specs.declared.followed.Followed.TheVariants as F
 use Rattle.session_model.specs.declared.turned.Part.{Part}
 use Rattle.session_model.specs.declared.turned.Part.TheVariants as P
 use Rattle.session_model.specs.Exchange.{EndsSo, IsBody}
-use Rattle.session_model.specs.Moments.{greatest_of}
-use Rattle.attach_hub.specs.Following.{CanFollow, HasReached, IsTimed}
+use Rattle.session_model.specs.Moments.{ComesTo}
+use Rattle.attach_hub.specs.Following.{CanFollow, IsTimed}
 use Rattle.attach_hub.specs.Streams.{PartSays, StandsIn, first_of}
-use Rattle.attach_hub.proofs.LogTellLemmas.{TellsLog, log_first, log_later, log_more, log_broken, log_short, log_gone, log_whole}
-use Rattle.attach_hub.proofs.EventTellLemmas.{TellsEvents, events_first, events_later, events_more, events_broken, events_gone, events_whole, events_reached}
+use Rattle.attach_hub.proofs.LogTellLemmas.{TellsLog, log_first, log_later, log_more, log_broken, log_told, log_gone, log_whole}
+use Rattle.attach_hub.proofs.EventTellLemmas.{TellsEvents, events_first, events_later, events_more, events_broken, events_gone, events_whole, events_came, events_told, events_wait}
 use Rattle.attach_hub.proofs.JournalTellLemmas.{JournalSaid, TellsJournal, journal_broken, journal_either, journal_first, journal_later, journal_more, journal_whole}
 
 -- between two histories a body is what the stream had to that place
@@ -27,7 +28,7 @@ Told r ch a b body place = ⊥
 pub record SaidAt (r : Reply) (place : ℕ) (part : Part) (old new ms : List ℕ) (ch : Charter) (b : List Step) : Type 0 where
   pub handed : ℕ
   pub says : PartSays r handed place part old new ch b
-  pub late : handed ≤ greatest_of ms
+  pub last : last_or None ms ≡ Some handed
   pub legal : IsLegal ch b
 
 -- what a part says
@@ -121,35 +122,56 @@ told_whole (reply.JournalStream count) ch a b body old new ms place may on t le 
 told_whole r ch a b body old new ms place may on t said = absurd t
 
 -- the clock had come to the end
-pub told_reached : (r : Reply) (ch : Charter) (b : List Step) (old new ms : List ℕ) (place : ℕ) → Said r place P.Whole old new ms ch b
-    → HasReached r true ms
-told_reached (reply.EventStream first until filters) ch b old new ms place said =
-    events_reached ch first until filters b said.handed old new ms place said.says said.late
-told_reached r ch b old new ms place said = tt
+pub whole_comes : (r : Reply) (ch : Charter) (b : List Step) (old new ms : List ℕ) (place : ℕ) → Said r place P.Whole old new ms ch b
+    → ComesTo r F.Whole ms
+whole_comes (reply.EventStream first until filters) ch b old new ms place said =
+    events_came ch first until filters b said.handed old new ms place said.says said.last
+whole_comes r ch b old new ms place said = tt
 
--- which nothing asks of a stream that isn't whole
-pub reached_not : (r : Reply) (ms : List ℕ) → HasReached r false ms
-reached_not (reply.EventStream first None filters) ms = tt
-reached_not (reply.EventStream first (Some u) filters) ms = tt
-reached_not r ms = tt
+-- or not yet, where it was stopped
+pub stopped_comes : (r : Reply) (ch : Charter) (b : List Step) (old new ms : List ℕ) (place : ℕ) → Said r place P.UpToDate old new ms ch b
+    → ComesTo r F.Stopped ms
+stopped_comes (reply.EventStream first until filters) ch b old new ms place said =
+    events_wait ch first until filters b said.handed old new ms place said.says said.last
+stopped_comes r ch b old new ms place said = tt
+
+-- which nothing asks of a stream that ended otherwise
+pub lapsed_comes : (r : Reply) (next first : ℕ) (ms : List ℕ) → ComesTo r (F.Lagged next first) ms
+lapsed_comes (reply.EventStream from None filters) next first ms = tt
+lapsed_comes (reply.EventStream from (Some u) filters) next first ms = tt
+lapsed_comes r next first ms = tt
+
+pub short_comes : (r : Reply) (ms : List ℕ) → ComesTo r F.NoMemory ms
+short_comes (reply.EventStream from None filters) ms = tt
+short_comes (reply.EventStream from (Some u) filters) ms = tt
+short_comes r ms = tt
+
+pub failed_comes : (r : Reply) (ms : List ℕ) → ComesTo r F.WriteFault ms
+failed_comes (reply.EventStream from None filters) ms = tt
+failed_comes (reply.EventStream from (Some u) filters) ms = tt
+failed_comes r ms = tt
 
 -- behind a write that failed it may be told whole
 pub record Either (r : Reply) (ch : Charter) (a b : List Step) (body : List ℕ) : Type 0 where
   pub whole : Bool
   pub tells : IsBody ch r whole a b body
-  pub reached : (ms : List ℕ) → HasReached r whole ms
+  pub comes : (ms : List ℕ) → ComesTo r (if whole then F.Whole else F.WriteFault) ms
+
+journal_comes : (whole : Bool) (count : ℕ) (ms : List ℕ) → ComesTo (reply.JournalStream count) (if whole then F.Whole else F.WriteFault) ms
+journal_comes true count ms = tt
+journal_comes false count ms = tt
 
 pub told_either : (r : Reply) (ch : Charter) (a b : List Step) (body : List ℕ) (place : ℕ) → Told r ch a b body place → Either r ch a b body
 told_either (reply.LogStream spec) ch a b body place t =
-    record { whole = false; tells = log_broken ch spec a b body place t; reached = λ ms. reached_not (reply.LogStream spec) ms }
+    record { whole = false; tells = log_broken ch spec a b body place t; comes = λ ms. tt }
 told_either (reply.EventStream first until filters) ch a b body place t = record {
   whole = false;
   tells = events_broken ch first until filters a b body place t;
-  reached = λ ms. reached_not (reply.EventStream first until filters) ms;
+  comes = λ ms. failed_comes (reply.EventStream first until filters) ms;
 }
 told_either (reply.JournalStream count) ch a b body place t =
     let e = journal_either ch count a b body place t in
-    record { whole = e.0; tells = e.1; reached = λ ms. tt }
+    record { whole = e.0; tells = e.1; comes = λ ms. journal_comes e.0 count ms }
 told_either r ch a b body place t = absurd t
 
 -- who didn't fall behind lacks nothing
@@ -157,11 +179,15 @@ pub ends_whole : (r : Reply) (ch : Charter) (body : List ℕ) (a b : List Step) 
 ends_whole (reply.LogStream spec) ch body a b = tt
 ends_whole r ch body a b = tt
 
--- who was up to date when it was stopped wasn't at the end
-pub ends_stopped : (r : Reply) (ch : Charter) (a b : List Step) (body old new ms : List ℕ) (place : ℕ) → Extends a b
+-- who was up to date when it was stopped was told all; a journal never is up to date
+pub ends_stopped : (r : Reply) (ch : Charter) (a b : List Step) (body old new ms : List ℕ) (place : ℕ)
     → Told r ch a b body place → Said r place P.UpToDate old new ms ch b → EndsSo ch r F.Stopped body a b
-ends_stopped (reply.LogStream spec) ch a b body old new ms place on t said = log_short ch spec a b body place on t said.says.0.0
-ends_stopped r ch a b body old new ms place on t said = tt
+ends_stopped (reply.LogStream spec) ch a b body old new ms place t said = log_told ch spec a b body old new place said.legal t said.says
+ends_stopped (reply.EventStream first until filters) ch a b body old new ms place t said =
+    events_told ch first until filters a b said.handed body old new place t said.says
+ends_stopped (reply.JournalStream count) ch a b body old new ms place t (below, (none, same)) =
+    let counted = t.counted in absurd (omega (arith, below, none, counted))
+ends_stopped r ch a b body old new ms place t said = absurd t
 
 pub ends_failed : (r : Reply) (ch : Charter) (body : List ℕ) (a b : List Step) → EndsSo ch r F.WriteFault body a b
 ends_failed (reply.LogStream spec) ch body a b = tt

@@ -1,5 +1,5 @@
 -- Waiting for a ticket goes on, and ends.
-use Rattle.std.proofs.Common.{◌≡◌, ◌⊎◌, inl, inr, ◌==◌, ◌&&◌, ◌||◌, ℕ, List, [], ◌∷◌, ◌++◌, cond, refl, sym, ◌∙◌, ap, subst, append_assoc, append-nil, arith, Bool, true, false, Some}
+use Rattle.std.proofs.Common.{◌≡◌, ◌⊎◌, inl, inr, ◌==◌, ◌||◌, ℕ, List, [], ◌∷◌, ◌++◌, cond, refl, sym, ◌∙◌, ap, subst, append_assoc, append-nil, arith, Bool, true, false, Some}
 use Rattle.std.specs.Prelude.{IsTrue}
 use Rattle.std.specs.List.{filter}
 use Rattle.std.proofs.lemmas.Bool.{false≢true}
@@ -21,13 +21,12 @@ use Rattle.session_model.specs.declared.turned.Turned.TheVariants as T
 use Rattle.session_model.specs.declared.turned.Awaited.TheVariants as A
 use Rattle.session_model.specs.Pass.{PassView}
 use Rattle.session_model.specs.Turning.{Turn, Makes, HasBegun, ends_ticket, found}
-use Rattle.session_model.specs.Exchange.{IsQuiet, IsMade}
-use Rattle.session_model.specs.Moments.{HasNoTimed}
+use Rattle.session_model.specs.Exchange.{IsQuiet, IsMade, IsMadeAt}
 use Rattle.session_model.specs.Progress.{Moves}
-use Rattle.session_model.proofs.HistoryLemmas.{run_append, quiet_same, quiet_on, made_behind, dues_none, some_none, untimed, untimed_append}
+use Rattle.session_model.proofs.HistoryLemmas.{run_append, quiet_same, quiet_on, made_behind, made_behind_at, dues_none, some_none}
 use Rattle.session_model.proofs.DueLemmas.{dues_clock, some_clock}
 use Rattle.session_model.proofs.AddsLemmas.{turn_adds}
-use Rattle.session_model.proofs.TurnLemmas.{moves_same, moves_on, makes_call, seen_made, turn_made, turn_opens, turn_quiet, turn_rests, state_made, clock_alone}
+use Rattle.session_model.proofs.TurnLemmas.{moves_same, moves_on, makes_call, seen_made, turn_made, turn_made_at, turn_opens, turn_quiet, turn_rests, state_made, clock_alone}
 use Rattle.daemon_core.specs.Whole.{IsAnswer}
 use Rattle.daemon_core.proofs.CallLemmas.{call_at, have_replies, take_answers}
 use Rattle.attach_hub.specs.Waiting.{Awaits, Drops, IsDropped}
@@ -69,14 +68,14 @@ begun_on ch k n a b (before, behind, t, c, none, is, begun) (others, quiet, at) 
 -- ---- the connection makes no call
 
 pub record Rests (k : ℕ) (p q : PassView) (v v' : ClockView) : Type 0 where
-  pub moves : Moves k true p q v v'
+  pub moves : Moves k p q v v'
   pub quiet : IsQuiet k p.seen q.seen
 
 pub rests_same : (k : ℕ) (p : PassView) (v : ClockView) → Rests k p p v v
-rests_same k p v = record { moves = moves_same k true p v; quiet = quiet_same k p.seen }
+rests_same k p v = record { moves = moves_same k p v; quiet = quiet_same k p.seen }
 
 unfoldable pub rests_on : (k : ℕ) (p q r : PassView) (u v w : ClockView) → Rests k p q u v → Rests k q r v w → Rests k p r u w
-rests_on k p q r u v w f g = record { moves = moves_on k true p q r u v w f.moves g.moves; quiet = quiet_on k p.seen q.seen r.seen f.quiet g.quiet }
+rests_on k p q r u v w f g = record { moves = moves_on k p q r u v w f.moves g.moves; quiet = quiet_on k p.seen q.seen r.seen f.quiet g.quiet }
 
 -- nor does the clock in a pause
 pub rests_pause : (k : ℕ) (p q : PassView) (u v w : ClockView) → Rests k p q u v → ClockStood v w → Rests k p q u w
@@ -87,7 +86,6 @@ rests_pause k p q u v w f stood = record {
     adds = f.moves.adds;
     handed = f.moves.handed;
     clock = subst (λ ms. ClockHanded u ms w) (append-nil f.moves.handed) (clock_on u v w f.moves.handed [] f.moves.clock (clock_stood v w stood));
-    moments = f.moves.moments;
     within = f.moves.within;
   };
   quiet = f.quiet;
@@ -141,15 +139,19 @@ begun_whole k handed n m p q t = made_whole k handed n (reply.Begun m) (T.Begun 
 
 pub taken : (k handed n : ℕ) (r : Reply) (p q q2 : PassView) (u v w : ClockView) → IsTrue q.pair → Rests k p q u v → ClockHanded v (handed ∷ []) w
     → Turn k handed (Some (Take n)) (T.Replied r) q q2 → Awaits k n (A.Replied r) p q2 u w
+unfolding moves_on turn_opens
 taken k handed n r p q q2 u v w pair rests clock t =
     let m = makes_call q.charter _ k handed (Take n) t.turns.own r refl t.says.1 in
     let none = dues_none k _ _ m.0 m.1 in
     record {
-      moves = moves_on k true p q q2 u v w rests.moves (turn_opens true k handed (Take n) q q2 t.turns m.0 v w pair none m.2.1 (call_at (Take n) k) tt clock);
+      moves = moves_on k p q q2 u v w rests.moves (turn_opens k handed (Take n) q q2 t.turns m.0 v w pair none m.2.1 (call_at (Take n) k) clock);
       says = (
-        made_behind p.charter k k (Take n) p.seen q.seen q2.seen r rests.quiet
-            (subst (λ ch. IsMade ch k k (Take n) q.seen q2.seen r) rests.moves.stays.charter
-            (turn_made k _ (Take n) r q q2 t.turns m.0 pair none m.2.1 m.2.0 m.2.2)),
+        rests.moves.handed,
+        handed,
+        refl,
+        made_behind_at p.charter k handed (Take n) p.seen q.seen q2.seen r rests.quiet
+            (subst (λ ch. IsMadeAt ch k handed (Take n) q.seen q2.seen r) rests.moves.stays.charter
+            (turn_made_at k handed (Take n) r q q2 t.turns m.0 pair none m.2.1 m.2.0 m.2.2)),
         take_whole k handed n r q q2 t,
       );
     }
@@ -167,13 +169,6 @@ take_never k handed n x p q turn (inr (inr is)) =
 
 -- ---- a drop
 
-and_false : (b : Bool) → (b && false) ≡ false
-and_false true = refl
-and_false false = refl
-
-drop_untimed : (k t n : ℕ) → HasNoTimed k (Step.Call k t (Drop n) ∷ [])
-drop_untimed k t n = rw (and_false (k == k)) refl
-
 pub drop_says : (k n handed : ℕ) (r : Reply) (p q : PassView) → IsTrue p.pair → Turn k handed (Some (Drop n)) (T.Replied r) p q → Drops k n p q
 drop_says k n handed r p q pair t =
     let s : State = found k p q t.turns in
@@ -188,11 +183,6 @@ drop_says k n handed r p q pair t =
         adds = turn_adds k p q t.turns;
         handed = [];
         clock = clock_none v;
-        moments = (
-          t.turns.others ++ last,
-          untimed_append k t.turns.others last (untimed k t.turns.others (t.turns.strangers pair)) (drop_untimed k s.clock n),
-          at ∙ append_assoc p.seen t.turns.others last,
-        );
         within = λ alone.
             let e = ap (λ x. (state_after p.charter x).clock) at
             ∙ ap (λ (x : State). x.clock) (state_made p.charter (p.seen ++ t.turns.others) (Step.Call k s.clock (Drop n)))
@@ -225,12 +215,12 @@ dropped k n p q r u v rests d = (
 pub stopped : (k n : ℕ) (p q r : PassView) (u v w : ClockView) → Rests k p q u v → ClockStood v w → Rose v.stops w.stops → Drops k n q r
     → Awaits k n A.Stopped p r u w
 stopped k n p q r u v w rests stood rose d = record {
-  moves = moves_on k true p q r u w w (rests_pause k p q u v w rests stood).moves (d.moves w);
+  moves = moves_on k p q r u w w (rests_pause k p q u v w rests stood).moves (d.moves w);
   says = (dropped k n p q r u v rests d, rose_since u.stops v.stops w.stops rests.moves.clock.stops rose);
 }
 
 pub given_up : (k n : ℕ) (p q r : PassView) (u v : ClockView) → Rests k p q u v → Drops k n q r → Awaits k n A.NoMemory p r u v
 given_up k n p q r u v rests d = record {
-  moves = moves_on k true p q r u v v rests.moves (d.moves v);
+  moves = moves_on k p q r u v v rests.moves (d.moves v);
   says = dropped k n p q r u v rests d;
 }

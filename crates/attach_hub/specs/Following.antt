@@ -1,5 +1,5 @@
 -- How following a stream goes on and ends (own: a follower asks for one part after another, and pauses where it is up to date).
-use Rattle.std.specs.Prelude.{ℕ, ◌≡◌, ◌≤◌, Bool, true, false, List, [], ◌∷◌, Some, length, IfSome, IsTrue}
+use Rattle.std.specs.Prelude.{ℕ, ◌≡◌, ◌≤◌, Bool, true, false, List, [], ◌∷◌, length, IfSome, IsTrue, if◌then◌else◌}
 use Rattle.engine_ports.specs.Rose.{Rose}
 use Rattle.engine_ports.specs.Sink.{SinkView, SinkTook, IsFront}
 use Rattle.engine_ports.specs.Clock.{ClockView}
@@ -16,7 +16,7 @@ use Rattle.session_model.specs.declared.followed.Followed.{Followed}
 use Rattle.session_model.specs.declared.followed.Followed.TheVariants as F
 use Rattle.session_model.specs.Pass.{PassView}
 use Rattle.session_model.specs.Exchange.{IsQuiet, IsBody, EndsSo, is_whole}
-use Rattle.session_model.specs.Moments.{greatest_of}
+use Rattle.session_model.specs.Moments.{ComesTo}
 use Rattle.session_model.specs.Progress.{Moves}
 
 -- ---- pieces of a body
@@ -53,11 +53,6 @@ CanFollow ch h (EventStream first until filter) = first ≤ length (events_of ch
 CanFollow ch h (JournalStream count) = count ≤ length (history_entries ch h)
 CanFollow ch h reply = ⊥
 
--- where events up to a moment are whole, the clock has come to it
-abbrev pub HasReached : Reply → Bool → List ℕ → Type 0
-HasReached (EventStream first (Some u) filter) true ms = u ≤ greatest_of ms
-HasReached reply whole ms = Unit {0}
-
 -- whether its body is whole, by how it ended; a write that fails may be that of the last piece
 abbrev pub IsWholeBy : Followed → Bool → Type 0
 IsWholeBy F.WriteFault whole = Unit {0}
@@ -82,18 +77,18 @@ IsStill k a b = calls_of k b ≡ calls_of k a
 -- input while that number was its own; and of the body that the stream has between an earlier history and the last one
 -- the sink took these pieces
 pub record FollowsFrom (base : List Step) (k : ℕ) (reply : Reply) (chunked : Bool) (result : Followed) (p q : PassView) (u u' : SinkView) (v v' : ClockView) : Type 0 where
-  pub moves : Moves k true p q v v'
+  pub moves : Moves k p q v v'
   pub still : IsStill k p.seen q.seen
   pub quiet : IsTrue p.pair → IsQuiet k p.seen q.seen
   pub timed : IsTimed reply v v'
   pub whole : Bool
   pub by_end : IsWholeBy result whole
-  pub reached : HasReached reply whole moves.handed
   pub body : List ℕ
   pub sent : List ℕ
   pub part : List ℕ
   pub tells : IsBody p.charter reply whole base q.seen body
   pub ends : EndsSo p.charter reply result body base q.seen
+  pub comes : ComesTo reply (if whole then F.Whole else result) moves.handed
   pub pieces : IsSent chunked body sent
   pub taken : IsTaken result part sent
   pub sink : SinkTook u part u'

@@ -1,5 +1,5 @@
 -- How pumping standard input goes on and ends (own: input comes as calls, one for each piece that is read, and one for its end).
-use Rattle.std.specs.Prelude.{ℕ, ◌≡◌, Bool, true, false, List, ◌++◌, Option, Some, None, Result, Ok, Err}
+use Rattle.std.specs.Prelude.{ℕ, ◌≡◌, Bool, true, List, ◌++◌, Some, Result, Ok, Err}
 use Rattle.engine_ports.specs.Rose.{Rose}
 use Rattle.engine_ports.specs.Source.{SourceView, SourceGave}
 use Rattle.engine_ports.specs.Sink.{SinkView}
@@ -50,7 +50,7 @@ HeardCause (Err end) v v' = ⊥
 -- a call of connection k's input was asked for until it was ready; what is said of it holds where the connection itself makes
 -- no call meanwhile
 pub record Hears (k : ℕ) (c : Call) (heard : Result Bool PumpEnd) (p q : PassView) (v v' : ClockView) : Type 0 where
-  pub moves : Moves (input_of k) true p q v v'
+  pub moves : Moves (input_of k) p q v v'
   pub says : IsStill k p.seen q.seen → HeardSays p.charter k c heard p.seen q.seen
   pub cause : HeardCause heard v v'
 
@@ -68,7 +68,7 @@ EndsInput k owner run end p q v v' =
 -- the input of connection k was pumped to the run that a stream names: the bytes ahead of its reader, and those that the
 -- source gave. It was pumped so where the connection itself makes no call meanwhile
 pub record PumpsInput (k : ℕ) (spec : LogSpec) (end : PumpEnd) (p q : PassView) (ahead : List ℕ) (s s' : SourceView) (v v' : ClockView) : Type 0 where
-  pub moves : Moves (input_of k) true p q v v'
+  pub moves : Moves (input_of k) p q v v'
   pub read : List ℕ
   pub source : SourceGave s read s'
   pub says : IsStill k p.seen q.seen → Pumps p.charter k spec (ahead ++ read) (Some end) p.seen q.seen

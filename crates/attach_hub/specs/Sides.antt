@@ -1,5 +1,5 @@
 -- How both sides of a takeover end: its input is pumped while its stream is followed (own).
-use Rattle.std.specs.Prelude.{ℕ, ◌≡◌, Bool, true, false, List, ◌++◌, Some, IsFalse}
+use Rattle.std.specs.Prelude.{ℕ, ◌≡◌, Bool, List, ◌++◌, Some, IsFalse}
 use Rattle.engine_ports.specs.Source.{SourceView, SourceGave}
 use Rattle.engine_ports.specs.Sink.{SinkView, SinkTook}
 use Rattle.engine_ports.specs.Clock.{ClockView, ClockHanded}
@@ -10,8 +10,7 @@ use Rattle.machine_model.specs.History.{Extends, IsLegal}
 use Rattle.session_model.specs.declared.followed.Followed.{Followed}
 use Rattle.session_model.specs.declared.followed.PumpEnd.{PumpEnd}
 use Rattle.session_model.specs.Pass.{PassView, Every, Stays, KeepsInput}
-use Rattle.session_model.specs.Exchange.{EndsSo, IsBody, Pumps}
-use Rattle.session_model.specs.Moments.{TakesMoments}
+use Rattle.session_model.specs.Exchange.{AtSome, EndsSo, IsBody, Pumps}
 use Rattle.session_model.specs.Progress.{AddsOwn}
 use Rattle.session_model.specs.Session.{PumpCause}
 use Rattle.attach_hub.specs.Following.{HasCause, IsStill, IsTaken, IsWholeBy}
@@ -30,7 +29,7 @@ pub record Paired (k : ℕ) (spec : LogSpec) (end : PumpEnd) (followed : Followe
   pub body : List ℕ
   pub part : List ℕ
   pub tells : IsBody p.charter (LogStream spec) whole p.seen q.seen body
-  pub ends : EndsSo p.charter (LogStream spec) followed body p.seen q.seen
+  pub ends : AtSome p.seen q.seen (EndsSo p.charter (LogStream spec) followed body p.seen)
   pub taken : IsTaken followed part body
   pub sink : SinkTook u part u'
   pub handed : List ℕ

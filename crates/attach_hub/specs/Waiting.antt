@@ -1,5 +1,5 @@
 -- How a wait for a ticket ends (own: a ticket is taken once its reply is there, or dropped).
-use Rattle.std.specs.Prelude.{ℕ, true, List}
+use Rattle.std.specs.Prelude.{ℕ, ◌≡◌, List, [], ◌∷◌, ◌++◌}
 use Rattle.engine_ports.specs.Rose.{Rose}
 use Rattle.engine_ports.specs.Clock.{ClockView}
 use Rattle.engine_text.specs.declared.call.Call.TheVariants.{Take, Drop}
@@ -9,7 +9,7 @@ use Rattle.machine_model.specs.History.{Charter}
 use Rattle.session_model.specs.declared.turned.Awaited.{Awaited}
 use Rattle.session_model.specs.declared.turned.Awaited.TheVariants.{Replied, Stopped, NoMemory}
 use Rattle.session_model.specs.Pass.{PassView}
-use Rattle.session_model.specs.Exchange.{IsMade}
+use Rattle.session_model.specs.Exchange.{IsMade, IsMadeAt}
 use Rattle.session_model.specs.Progress.{Moves}
 use Rattle.daemon_core.specs.Whole.{IsAnswer}
 
@@ -18,18 +18,19 @@ module _ (ch : Charter) (k n : ℕ) (a b : List Step) where
   abbrev pub IsDropped : Type 0
   IsDropped = (reply : Reply) × IsMade ch k k (Drop n) a b reply
 
-  -- it is the take, answered whole; or a drop, where the clock was stopped or memory was refused
-  abbrev pub AwaitSays : Awaited → ClockView → ClockView → Type 0
-  AwaitSays (Replied reply) v v' = IsMade ch k k (Take n) a b reply × IsAnswer reply
-  AwaitSays Stopped v v' = IsDropped × Rose v.stops v'.stops
-  AwaitSays NoMemory v v' = IsDropped
+  -- it is the take, at the last of these moments, answered whole; or a drop, where the clock was stopped or memory was refused
+  abbrev pub AwaitSays : Awaited → List ℕ → ClockView → ClockView → Type 0
+  AwaitSays (Replied reply) ms v v' =
+      (others : List ℕ) × (last : ℕ) × (ms ≡ others ++ last ∷ []) × IsMadeAt ch k last (Take n) a b reply × IsAnswer reply
+  AwaitSays Stopped ms v v' = IsDropped × Rose v.stops v'.stops
+  AwaitSays NoMemory ms v v' = IsDropped
 
 -- connection k waited for ticket n
 pub record Awaits (k n : ℕ) (result : Awaited) (p q : PassView) (v v' : ClockView) : Type 0 where
-  pub moves : Moves k true p q v v'
-  pub says : AwaitSays p.charter k n p.seen q.seen result v v'
+  pub moves : Moves k p q v v'
+  pub says : AwaitSays p.charter k n p.seen q.seen result moves.handed v v'
 
 -- it gave the ticket up, and asked no clock
 pub record Drops (k n : ℕ) (p q : PassView) : Type 0 where
   pub made : IsDropped p.charter k n p.seen q.seen
-  pub moves : (v : ClockView) → Moves k true p q v v
+  pub moves : (v : ClockView) → Moves k p q v v

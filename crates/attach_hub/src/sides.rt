@@ -4,7 +4,7 @@ ghost use Rattle.engine_text.specs.declared.reply.Reply.TheVariants.{LogStream};
 ghost use Rattle.machine_model.specs.History.{input_of, state_after};
 ghost use Rattle.session_model.specs.Pass.{IsConnection, IsNumber};
 ghost use Rattle.attach_hub.specs.Sides.{Paired};
-ghost use Rattle.attach_hub.specs.Following.{FollowsSince, MayFollow};
+ghost use Rattle.attach_hub.specs.Following.{Follows, FollowsSince, MayFollow};
 ghost use Rattle.attach_hub.specs.Pumping.{PumpsInput};
 
 use crate::following::{Stream, follow};
@@ -18,9 +18,9 @@ use std::alloc::Global;
 use std::sync::Wait;
 use std::thread::{Threads, join_mut};
 
-/// Follows the stream, from wherever it could once be followed, and tells the peer its end as soon as it is whole, so that one
-/// that waits for the end may close.
-pub fn follow_whole<W: Wait, T: Turns, K: Sink, C: Clock>(
+// Follows the stream, from wherever it could once be followed, and tells the peer its end as soon as it is whole, so that one
+// that waits for the end may close.
+fn follow_since<W: Wait, T: Turns, K: Sink, C: Clock>(
     rt: &W,
     turns: &mut T,
     alloc: Global,
@@ -43,6 +43,26 @@ pub fn follow_whole<W: Wait, T: Turns, K: Sink, C: Clock>(
         },
         followed => followed,
     }
+}
+
+/// Writes the stream of a log as it is, until it is whole, and tells the peer its end then. It may wait.
+pub fn follow_whole<W: Wait, T: Turns, K: Sink, C: Clock>(
+    rt: &W,
+    turns: &mut T,
+    alloc: Global,
+    conn: u32,
+    spec: &LogSpec,
+    sink: &mut K,
+    clock: &mut C,
+) -> Followed
+    requires number { IsNumber (T.pass turns.old).number conn }
+    requires may { MayFollow (state_after (T.pass turns.old).charter (T.pass turns.old).seen)
+        spec.now }
+    ensures { Follows conn (LogStream spec.now) false result
+        (T.pass turns.old) (T.pass turns.new) (K.takes sink.old) (K.takes sink.new)
+        (C.times clock.old) (C.times clock.new) }
+{
+    follow_since(rt, turns, alloc, conn, spec, sink, clock)
 }
 
 /// Both sides in two threads, each with turns of its own.
@@ -77,7 +97,7 @@ fn side_by_side<R: Threads + Wait + Sync, T: Turns + Send, U: Turns, S: Source, 
     { pump_stdin(rt, theirs, alloc, conn, spec, reader, source, twin) };
     let mut two = move ||
         requires { IsNumber (U.pass mine.now).number conn }
-    { follow_whole(rt, mine, alloc, conn, spec, sink, clock) };
+    { follow_since(rt, mine, alloc, conn, spec, sink, clock) };
     join_mut(rt, &mut one, &mut two)
 }
 
@@ -117,7 +137,7 @@ pub fn both<R: Threads + Wait + Sync, T: Pairs, S: Source, K: Sink, C: Clock>(
         }
         None => {
             let end = pump_stdin(rt, turns, alloc, conn, spec, reader, source, &mut twin);
-            let followed = follow_whole(rt, turns, alloc, conn, spec, sink, clock);
+            let followed = follow_since(rt, turns, alloc, conn, spec, sink, clock);
             clock.rejoin(twin);
             (end, followed)
         }

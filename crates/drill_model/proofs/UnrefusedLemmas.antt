@@ -17,7 +17,9 @@ use Rattle.session_model.specs.declared.ending.Ending.{Ending}
 use Rattle.session_model.specs.declared.ending.Ending.TheVariants as E
 use Rattle.session_model.specs.declared.followed.Followed.{Followed}
 use Rattle.session_model.specs.declared.followed.Followed.TheVariants as F
-use Rattle.session_model.specs.Exchange.{Kind, FromItsBytes, ByItsCall, ByItsTicket, OutOfMemory, DroppedForMemory, DroppedAtStop, ByItsTicketEarly, BrokenOffEarly, JournalIsFull, Chunked, TakenOver, HeadIsLost, BreaksWait, Closes, GoesOn, Leaves, flow_by}
+use Rattle.session_model.specs.Exchange.{Flow, IsAnswered, IsSentInChunks, AtOnce, InChunks, TakenOver, HeadIsLost, WaitIsStopped, OfStream, OfWait, OfBrokenWait, BreaksWait, Closes, GoesOn, flow_behind}
+use Rattle.session_model.specs.Responses.{terms_of}
+use Rattle.session_model.specs.declared.terms.Terms.{Terms}
 use Rattle.session_model.specs.Session.{Span, EndsAt, EndsBy, Ends, IsSession, ending_of}
 use Rattle.drill_model.specs.Requests.{drill_word, drill_requests, request_by, deed_of, box_of, program_of}
 use Rattle.drill_model.specs.declared.deed.Deed.TheVariants.{ListAll}
@@ -125,36 +127,33 @@ by_whole : (closing : Bool) → EndsUnrefused (ending_of (if closing then Closes
 by_whole true = tt
 by_whole false = tt
 
-by_break : (f : Followed) → BreaksWait f → EndsUnrefused (ending_of (Leaves f None))
-by_break F.Stopped broke = tt
-by_break F.WriteFault broke = tt
-by_break F.NoMemory broke = tt
-by_break F.Whole broke = absurd broke
-by_break (F.Lagged next first) broke = absurd broke
+by_break : (terms : Terms) (f : Followed) → BreaksWait f → EndsUnrefused (ending_of (flow_behind terms f))
+by_break terms F.Stopped broke = tt
+by_break terms F.WriteFault broke = tt
+by_break terms F.NoMemory broke = tt
+by_break terms F.Whole broke = absurd broke
+by_break terms (F.Lagged next first) broke = absurd broke
 
-by_kind : (ch : Charter) (k : ℕ) (r : Request) (behind : List ℕ) (a b : List Step) (x : Kind ch k r behind a b) → IsNoStream (class_of r)
-    → EndsUnrefused (ending_of (flow_by ch k r behind a b x))
-by_kind ch k r behind a b (DroppedAtStop c reply asks late waited) none = tt
-by_kind ch k r behind a b (BrokenOffEarly c reply f asks early broke waited) none = by_break f broke
-by_kind ch k r behind a b (Chunked c reply f mid body chunks asks made quiet body_is ends cut) none = absurd (subst IsNoStream asks none)
-by_kind ch k r behind a b (TakenOver c t spec f pumped mid body asks over made pumps body_is ends) none = absurd (subst IsNoStream asks none)
-by_kind ch k r behind a b (HeadIsLost c t reply asks made stream) none = absurd (subst IsNoStream asks none)
-by_kind ch k r behind a b (FromItsBytes answer asks quiet) none = by_whole _
-by_kind ch k r behind a b (ByItsCall c status body asks made) none = by_whole _
-by_kind ch k r behind a b (ByItsTicket c status body asks late waited) none = by_whole _
-by_kind ch k r behind a b (ByItsTicketEarly c body chunks asks early waited cut) none = by_whole _
-by_kind ch k r behind a b (OutOfMemory quiet) none = by_whole _
-by_kind ch k r behind a b (DroppedForMemory c reply asks late waited) none = by_whole _
-by_kind ch k r behind a b (JournalIsFull c asks quiet full) none = by_whole _
+by_chunks : (ch : Charter) (k : ℕ) (r : Request) (behind : List ℕ) (a b : List Step) (f : Followed) (head body ms : List ℕ)
+    → IsSentInChunks ch k r behind a b f head body ms → IsNoStream (class_of r) → EndsUnrefused (ending_of (flow_behind (terms_of r) f))
+by_chunks ch k r behind a b f head body ms (OfStream c reply g mid m bytes ns asks made quiet tells ends comes) none = absurd (subst IsNoStream asks none)
+by_chunks ch k r behind a b f head body ms (OfWait c bytes ns asks early waited) none = by_whole _
+by_chunks ch k r behind a b f head body ms (OfBrokenWait c g ns asks early broke given) none = by_break (terms_of r) g broke
+
+by_row : (ch : Charter) (k : ℕ) (r : Request) (behind : List ℕ) (a b : List Step) (flow : Flow) (w ms : List ℕ)
+    → IsAnswered ch k r behind a b flow w ms → IsNoStream (class_of r) → EndsUnrefused (ending_of flow)
+by_row ch k r behind a b flow w ms (AtOnce v ns row) none = by_whole _
+by_row ch k r behind a b flow w ms (InChunks f head body chunks ns row cut) none = by_chunks ch k r behind a b f head body ns row none
+by_row ch k r behind a b flow w ms (TakenOver c t spec f pumped mid m body ns asks over made pumps tells ends) none = absurd (subst IsNoStream asks none)
+by_row ch k r behind a b flow w ms (HeadIsLost c t reply m asks made stream) none = absurd (subst IsNoStream asks none)
+by_row ch k r behind a b flow w ms (WaitIsStopped c ns asks late given) none = tt
 
 by_answer : (ch : Charter) (k : ℕ) (r : Request) (behind : List ℕ) (e : Ending) (pumps : Bool) (s : Span) → IsNoStream (class_of r)
     → EndsBy ch k r behind e pumps s → IsUnrefused e
-by_answer ch k r behind e pumps s none x =
-    let kind = x.exchange.kind in
-    elim (x.written) [
-      | inl g ↦ subst EndsUnrefused (ap ending_of (sym x.exchange.flow_is) ∙ g.0) (by_kind ch k r behind s.from s.to kind none)
-      | inr g ↦ subst IsUnrefused (sym g.0) tt
-    ]
+by_answer ch k r behind e pumps s none x = elim (x.written) [
+  | inl g ↦ subst EndsUnrefused g.0 (by_row ch k r behind s.from s.to x.flow x.whole s.handed x.answered none)
+  | inr g ↦ subst IsUnrefused (sym g.0) tt
+]
 
 -- ---- how a session over a drill's requests ends
 

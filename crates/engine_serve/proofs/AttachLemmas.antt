@@ -1,5 +1,5 @@
 -- What a call for the connection is answered: a log's stream that can be followed from there on, or its refusal.
-use Rattle.std.proofs.Common.{◌≡◌, ◌⊎◌, inl, inr, ℕ, List, [], ◌∷◌, ◌++◌, refl, sym, ◌∙◌, ap, subst, Bool, true, false, Option, Some, None}
+use Rattle.std.proofs.Common.{◌≡◌, ◌⊎◌, inl, inr, ℕ, [], ◌∷◌, refl, sym, ◌∙◌, ap, subst, Bool, true, false, Some, None}
 use Rattle.std.specs.Prelude.{IsTrue, IsFalse}
 use Rattle.std.proofs.lemmas.Bool.{false≢true}
 use Rattle.engine_ports.specs.Clock.{ClockView, ClockHanded}
@@ -13,7 +13,7 @@ use Rattle.engine_text.specs.declared.step.Step.{Step}
 use Rattle.machine_model.specs.Consistency.{IsConsistent}
 use Rattle.machine_model.specs.State.{State}
 use Rattle.machine_model.specs.Statuses.{ends_ticket, gives_ticket, is_feed, is_reply_of}
-use Rattle.machine_model.specs.History.{Charter, IsLegal, after_step, moment_used, reply_of, state_after, state_from}
+use Rattle.machine_model.specs.History.{IsLegal, after_step, moment_used, reply_of, state_after, state_from}
 use Rattle.machine_model.proofs.Laws.{consistency_law}
 use Rattle.http_edge.specs.Message.{Request}
 use Rattle.api_routes.specs.Class.{class_of}
@@ -22,13 +22,12 @@ use Rattle.api_routes.specs.declared.class.Class.TheVariants.{Stream}
 use Rattle.session_model.specs.declared.terms.Terms.{Terms}
 use Rattle.session_model.specs.declared.turned.Turned.{Turned}
 use Rattle.session_model.specs.declared.turned.Turned.TheVariants as T
-use Rattle.session_model.specs.Exchange.{IsMade, call_of, flow_of}
-use Rattle.session_model.specs.Moments.{ComesTo}
+use Rattle.session_model.specs.Exchange.{IsMadeAt, call_of, flow_of}
 use Rattle.session_model.specs.Pass.{PassView}
 use Rattle.session_model.specs.Responses.{terms_of, journal_full_response, out_of_memory_response}
 use Rattle.session_model.specs.Turning.{Turn, found}
 use Rattle.session_model.proofs.HistoryLemmas.{dues_none, run_append}
-use Rattle.session_model.proofs.TurnLemmas.{makes_call, state_seen, turn_made, turn_opens}
+use Rattle.session_model.proofs.TurnLemmas.{makes_call, state_seen, turn_made_at, turn_opens}
 use Rattle.daemon_core.specs.Whole.{IsAnswer, IsPlain}
 use Rattle.daemon_core.proofs.CallLemmas.{call_at}
 use Rattle.attach_hub.proofs.AttachLemmas.{attach_opens, exec_opens}
@@ -60,12 +59,6 @@ feeds_none : (c : Call) → IsAttaching c → IsFalse (is_feed c)
 feeds_none (call.Attach target ask) attaching = refl
 feeds_none (call.ExecStart id false) attaching = refl
 feeds_none c attaching = absurd attaching
-
--- it comes to no moment
-comes_none : (c : Call) (ms : List ℕ) → IsAttaching c → ComesTo true c ms
-comes_none (call.Attach target ask) ms attaching = tt
-comes_none (call.ExecStart id false) ms attaching = tt
-comes_none c ms attaching = absurd attaching
 
 asks_over : (r : Request) (c : Call) (upgrade : Bool) → class_of r ≡ Stream c (takeover upgrade) → call_of (class_of r) ≡ Some c
 asks_over r c upgrade class = ap call_of class
@@ -128,6 +121,7 @@ opens_at c k t s attaching runs consistent = absurd attaching
 pub attach_opened : (k handed : ℕ) (r : Request) (c : Call) (upgrade : Bool) (x : Reply) (spec : LogSpec) (p q : PassView) (v w : ClockView)
     → IsTrue p.pair → class_of r ≡ Stream c (takeover upgrade) → IsAttaching c → stream_of x ≡ Some spec → ClockHanded v (handed ∷ []) w
     → Turn k handed (Some c) (T.Replied x) p q → OpensOver k r upgrade spec p q v w
+unfolding turn_opens
 attach_opened k handed r c upgrade x spec p q v w pair class attaching is clock turn =
     let s : State = found k p q turn.turns in
     let u : ℕ = moment_used s handed in
@@ -146,10 +140,12 @@ attach_opened k handed r c upgrade x spec p q v w pair class attaching is clock 
     record {
       call = c;
       class = class;
-      made = subst (IsMade p.charter k k c p.seen q.seen) (its_stream x spec is)
-          (turn_made k u c x p q turn.turns m.0 pair none m.2.1 m.2.0 m.2.2);
+      handed = handed;
+      made = subst (IsMadeAt p.charter k handed c p.seen q.seen) (its_stream x spec is)
+          (turn_made_at k handed c x p q turn.turns m.0 pair none m.2.1 m.2.0 m.2.2);
       may = subst (λ ch. Opens (reply.LogStream spec) (state_after ch q.seen)) (sym turn.turns.stays.charter) opens;
-      moves = turn_opens true k handed c p q turn.turns m.0 v w pair none m.2.1 (call_at c k) (comes_none c (handed ∷ []) attaching) clock;
+      moves = turn_opens k handed c p q turn.turns m.0 v w pair none m.2.1 (call_at c k) clock;
+      one = refl;
     }
 
 -- ---- its refusal
@@ -158,7 +154,7 @@ pub attach_refused : (k handed : ℕ) (r : Request) (terms : Terms) (c : Call) (
     (u u' : SinkView) (t t' : ClockView) → terms ≡ terms_of r → IsTrue p.pair → class_of r ≡ Stream c (takeover upgrade) → IsAttaching c
     → ClockHanded t (handed ∷ []) t' → Turn k handed (Some c) (T.Replied x) p q → SendsReply terms x result u u' → Tries k r result p q u u' t t'
 attach_refused k handed r terms c upgrade x result p q u u' t t' is pair class attaching clock turn sends =
-    replied k handed r c x result p q u u' t t' pair (asks_over r c upgrade class) (comes_none c (handed ∷ []) attaching) (ends_none c attaching) clock turn
+    replied k handed r c x result p q u u' t t' pair (asks_over r c upgrade class) (ends_none c attaching) clock turn
     (subst (λ y. SendsReply y x result u u') is sends)
 
 pub attach_full : (k handed : ℕ) (r : Request) (terms : Terms) (c : Call) (upgrade : Bool) (result : Went) (p q : PassView)

@@ -1,5 +1,5 @@
 -- What answers a wait whose head comes before it is over.
-use Rattle.std.proofs.Common.{◌≡◌, ◌≤◌, ◌<◌, length, inl, inr, ℕ, List, [], ◌∷◌, ◌++◌, append-nil, append_assoc, refl, sym, ◌∙◌, ap, subst, arith, true, Some, Result, Ok}
+use Rattle.std.proofs.Common.{◌≡◌, ◌≤◌, ◌<◌, length, inl, inr, ℕ, List, [], ◌∷◌, ◌++◌, append-nil, append_assoc, refl, sym, ◌∙◌, ap, subst, arith, true, if◌then◌else◌, Some, None, Result, Ok}
 use Rattle.std.specs.Prelude.{IsTrue, IsFalse}
 use Rattle.std.proofs.lemmas.Bool.{false≢true}
 use Rattle.std.proofs.lemmas.List.Elements.{All-nil, All-cons}
@@ -24,20 +24,19 @@ use Rattle.session_model.specs.declared.followed.Followed.TheVariants as F
 use Rattle.session_model.specs.declared.terms.Terms.{Terms}
 use Rattle.session_model.specs.declared.turned.Awaited.{Awaited}
 use Rattle.session_model.specs.declared.turned.Turned.TheVariants as T
-use Rattle.session_model.specs.Exchange.{Flow, is_early, BreaksWait, IsMade, ByItsTicketEarly, BrokenOffEarly}
+use Rattle.session_model.specs.Exchange.{Flow, Leaves, flow_behind, is_early, is_whole, BreaksWait, IsMade, IsAnswered, IsSentInChunks, InChunks, OfWait, OfBrokenWait}
 use Rattle.session_model.specs.Pass.{PassView}
 use Rattle.session_model.specs.Progress.{Moves}
 use Rattle.session_model.specs.Responses.{terms_of, early_head}
 use Rattle.session_model.specs.Session.{FollowCause}
 use Rattle.session_model.specs.Turning.{Turn}
 use Rattle.session_model.proofs.TurnLemmas.{moves_on}
-use Rattle.daemon_core.specs.Whole.{gives_stream}
 use Rattle.attach_hub.specs.Waiting.{AwaitSays, IsDropped}
 use Rattle.attach_hub.proofs.StatusLemmas.{wait_status}
 use Rattle.engine_serve.specs.declared.went.Went.{Went}
 use Rattle.engine_serve.specs.Serving.{Sends, GoesSo, Tries}
 use Rattle.engine_serve.specs.Early.{one_chunk, broken_flow, SendsBehind, WaitsEarly, Waited, HeadWasLost}
-use Rattle.engine_serve.proofs.AnswerLemmas.{begins_wait, tries_whole, left_tries, asks, asks_for}
+use Rattle.engine_serve.proofs.AnswerLemmas.{BeginsWait, begins_wait, wait_dropped, wait_taken, tries_whole, left_tries}
 
 -- ---- what was sent
 
@@ -95,59 +94,75 @@ early_status ch k n r (call.Wait target until) a b d status body early legal beg
     wait_status ch k n target until a b d status body legal begun took
 early_status ch k n r c a b d status body early legal begun took = absurd (false≢true early)
 
+-- nothing but the head
+bare : (head : List ℕ) → head ≡ head ++ [] ++ []
+bare head = sym (append-nil (head ++ []) ∙ append-nil head)
+
+-- what is sent in chunks, with these bytes
+in_chunks : (ch : Charter) (k : ℕ) (r : Request) (behind : List ℕ) (a b : List Step) (f : Followed) (head body chunks w v ms : List ℕ) → w ≡ v
+    → v ≡ head ++ chunks ++ (if is_whole f then last_chunk else []) → IsSentInChunks ch k r behind a b f head body ms → IsChunked body chunks
+    → IsAnswered ch k r behind a b (flow_behind (terms_of r) f) w ms
+in_chunks ch k r behind a b f head body chunks w v ms is same row cut =
+    subst (λ x. IsAnswered ch k r behind a b (flow_behind (terms_of r) f) x ms) (sym (is ∙ same)) (InChunks f head body chunks ms row cut)
+
+-- a wait that was broken off isn't whole, and has no body
+broken : (ch : Charter) (k : ℕ) (r : Request) (behind : List ℕ) (a b : List Step) (f : Followed) (head ms : List ℕ) → BreaksWait f
+    → IsSentInChunks ch k r behind a b f head [] ms → IsAnswered ch k r behind a b (Leaves f None) head ms
+broken ch k r behind a b F.Stopped head ms broke row = in_chunks ch k r behind a b F.Stopped head [] [] head head ms refl (bare head) row (is_chunked [])
+broken ch k r behind a b F.WriteFault head ms broke row = in_chunks ch k r behind a b F.WriteFault head [] [] head head ms refl (bare head) row (is_chunked [])
+broken ch k r behind a b F.NoMemory head ms broke row = in_chunks ch k r behind a b F.NoMemory head [] [] head head ms refl (bare head) row (is_chunked [])
+broken ch k r behind a b F.Whole head ms broke row = absurd broke
+broken ch k r behind a b (F.Lagged next first) head ms broke row = absurd broke
+
 -- the head was sent, or its write failed, and the session ends
 broke_off : (k n : ℕ) (r : Request) (c : Call) (f : Followed) (result : Went) (p q s : PassView) (u u' : SinkView) (v w x : ClockView)
-    → class_of r ≡ Ask c → IsTrue (is_early r c) → IsMade p.charter k k c p.seen q.seen (reply.Begun n) → Moves k true p q v w
-    → IsDropped p.charter k n q.seen s.seen → Moves k true q s w x → BreaksWait f
+    → class_of r ≡ Ask c → IsTrue (is_early r c) → BeginsWait k n c p q v w
+    → IsDropped p.charter k n q.seen s.seen → Moves k q s w x → BreaksWait f
     → ((o o' : SourceView) → FollowCause f (outside o u v) (outside o' u' x))
     → Sends (broken_flow f) result (early_head (terms_of r)) u u' → Tries k r result p s u u' v x
-broke_off k n r c f result p q s u u' v w x class early made first dropped last breaks cause sends =
-    left_tries k r f result (early_head (terms_of r)) p s u u' v x sends cause
-    (λ behind. record {
-      kind = BrokenOffEarly c dropped.0 f class early breaks (n, q.seen, made, dropped.1);
-      flow_is = refl;
-      bytes = refl;
-    })
-    (asks k r c true p s v x (asks_for r c class) (moves_on k true p q s v w x first last))
+unfolding moves_on
+broke_off k n r c f result p q s u u' v w x class early first dropped last breaks cause sends =
+    left_tries k r f result (early_head (terms_of r)) p s u u' v x sends cause (moves_on k p q s v w x first.moves last)
+    (λ behind. broken p.charter k r behind p.seen s.seen f (early_head (terms_of r)) _ breaks
+    (OfBrokenWait c f _ class early breaks (wait_dropped k n c p q s v w last.handed first dropped)))
 
 early_so : (k n : ℕ) (r : Request) (c : Call) (awaited : Awaited) (result : Went) (p q s : PassView) (u u' : SinkView) (v w x : ClockView)
-    → class_of r ≡ Ask c → IsTrue (is_early r c) → IsMade p.charter k k c p.seen q.seen (reply.Begun n) → IsLegal p.charter q.seen
-    → Moves k true p q v w → AwaitSays p.charter k n q.seen s.seen awaited w x → Moves k true q s w x → v.stops ≤ w.stops
+    → class_of r ≡ Ask c → IsTrue (is_early r c) → BeginsWait k n c p q v w → IsLegal p.charter q.seen
+    → (last : Moves k q s w x) → AwaitSays p.charter k n q.seen s.seen awaited last.handed w x → v.stops ≤ w.stops
     → SendsBehind (terms_of r) (early_head (terms_of r)) awaited result u u' → Tries k r result p s u u' v x
-early_so k n r c (Awaited.Replied given) result p q s u u' v w x class early made legal first says last le (status, body, is, sends) =
-    let took : IsMade p.charter k k (call.Take n) q.seen s.seen (reply.Answer status body) =
-    subst (IsMade p.charter k k (call.Take n) q.seen s.seen) is says.0 in
-    let fine : status ≡ 200 = early_status p.charter k n r c p.seen q.seen s.seen status body early legal made took in
-    tries_whole k r _ result _ p s u u' v x refl sends
-    (λ behind. record {
-      kind = ByItsTicketEarly c body (one_chunk body) class early
-          (n, q.seen, made, subst (λ y. IsMade p.charter k k (call.Take n) q.seen s.seen (reply.Answer y body)) fine took) (is_chunked body);
-      flow_is = refl;
-      bytes = sym (append_assoc (early_head (terms_of r)) (one_chunk body) last_chunk);
-    })
-    (asks k r c true p s v x (asks_for r c class) (moves_on k true p q s v w x first last))
-early_so k n r c Awaited.Stopped result p q s u u' v w x class early made legal first says last le sends =
-    broke_off k n r c F.Stopped result p q s u u' v w x class early made first says.0 last tt
+unfolding moves_on
+early_so k n r c (Awaited.Replied given) result p q s u u' v w x class early first legal last says le (status, body, is, sends) =
+    let took : AwaitSays p.charter k n q.seen s.seen (Awaited.Replied (reply.Answer status body)) last.handed w x =
+    subst (λ y. AwaitSays p.charter k n q.seen s.seen (Awaited.Replied y) last.handed w x) is says in
+    let fine : status ≡ 200 = early_status p.charter k n r c p.seen q.seen s.seen status body early legal first.made.0 took.3.0 in
+    tries_whole k r _ result _ p s u u' v x refl sends (moves_on k p q s v w x first.moves last)
+    (λ behind. in_chunks p.charter k r behind p.seen s.seen F.Whole (early_head (terms_of r)) body (one_chunk body) _ _ _ refl
+    (sym (append_assoc (early_head (terms_of r)) (one_chunk body) last_chunk))
+    (OfWait c body _ class early
+    (wait_taken k n c p q s v w x last.handed (reply.Answer 200 body) first
+    (subst (λ y. AwaitSays p.charter k n q.seen s.seen (Awaited.Replied (reply.Answer y body)) last.handed w x) fine took)))
+    (is_chunked body))
+early_so k n r c Awaited.Stopped result p q s u u' v w x class early first legal last says le sends =
+    broke_off k n r c F.Stopped result p q s u u' v w x class early first says.0 last tt
     (λ o o'. rose_since v.stops w.stops x.stops le says.1) sends
-early_so k n r c Awaited.NoMemory result p q s u u' v w x class early made legal first says last le sends =
-    broke_off k n r c F.NoMemory result p q s u u' v w x class early made first says last tt (λ o o'. tt) sends
+early_so k n r c Awaited.NoMemory result p q s u u' v w x class early first legal last says le sends =
+    broke_off k n r c F.NoMemory result p q s u u' v w x class early first says last tt (λ o o'. tt) sends
 
 early_by : (k n : ℕ) (r : Request) (c : Call) (result : Went) (p q s : PassView) (u u' : SinkView) (v w x : ClockView)
-    → q.charter ≡ p.charter → class_of r ≡ Ask c → IsTrue (is_early r c) → IsMade p.charter k k c p.seen q.seen (reply.Begun n)
-    → IsLegal q.charter q.seen → Moves k true p q v w → v.stops ≤ w.stops → WaitsEarly k n (terms_of r) result q s u u' w x
+    → q.charter ≡ p.charter → class_of r ≡ Ask c → IsTrue (is_early r c) → BeginsWait k n c p q v w
+    → IsLegal q.charter q.seen → v.stops ≤ w.stops → WaitsEarly k n (terms_of r) result q s u u' w x
     → Tries k r result p s u u' v x
-early_by k n r c result p q s u u' v w x same class early made legal first le (Waited awaited awaits sends) =
-    early_so k n r c awaited result p q s u u' v w x class early made (subst (λ ch. IsLegal ch q.seen) same legal) first
-    (subst (λ ch. AwaitSays ch k n q.seen s.seen awaited w x) same awaits.says) awaits.moves le sends
-early_by k n r c result p q s u u' v w x same class early made legal first le (HeadWasLost dropped moves rose sends) =
-    broke_off k n r c F.WriteFault result p q s u u' v w x class early made first
+early_by k n r c result p q s u u' v w x same class early first legal le (Waited awaited awaits sends) =
+    early_so k n r c awaited result p q s u u' v w x class early first (subst (λ ch. IsLegal ch q.seen) same legal) awaits.moves
+    (subst (λ ch. AwaitSays ch k n q.seen s.seen awaited awaits.moves.handed w x) same awaits.says) le sends
+early_by k n r c result p q s u u' v w x same class early first legal le (HeadWasLost dropped moves rose sends) =
+    broke_off k n r c F.WriteFault result p q s u u' v w x class early first
     (subst (λ ch. IsDropped ch k n q.seen s.seen) same dropped) moves tt (λ o o'. rose) sends
 
 pub waited_early : (k handed n : ℕ) (r : Request) (terms : Terms) (c : Call) (result : Went) (p q s : PassView) (u u' : SinkView)
-    (v w x : ClockView) → terms ≡ terms_of r → IsTrue p.pair → class_of r ≡ Ask c → IsFalse (gives_stream c) → IsFalse (ends_ticket c)
+    (v w x : ClockView) → terms ≡ terms_of r → IsTrue p.pair → class_of r ≡ Ask c → IsFalse (ends_ticket c)
     → IsTrue (is_early r c) → ClockHanded v (handed ∷ []) w → Turn k handed (Some c) (T.Begun n) p q
     → WaitsEarly k n terms result q s u u' w x → Tries k r result p s u u' v x
-waited_early k handed n r terms c result p q s u u' v w x is pair class whole kind early clock turn waits =
-    let first = begins_wait k handed n c p q v w pair whole kind clock turn in
-    early_by k n r c result p q s u u' v w x turn.turns.stays.charter class early first.0 turn.turns.legal first.1 clock.stops
-    (subst (λ y. WaitsEarly k n y result q s u u' w x) is waits)
+waited_early k handed n r terms c result p q s u u' v w x is pair class kind early clock turn waits =
+    early_by k n r c result p q s u u' v w x turn.turns.stays.charter class early (begins_wait k handed n c p q v w pair kind clock turn)
+    turn.turns.legal clock.stops (subst (λ y. WaitsEarly k n y result q s u u' w x) is waits)

@@ -1,5 +1,5 @@
 -- A log's stream that takes its connection over, alone or beside the pump of its input.
-use Rattle.std.proofs.Common.{◌≡◌, inl, ℕ, List, [], ◌++◌, append-nil, sym, ◌∙◌, ap, subst, Bool, true, false, length, Some, None}
+use Rattle.std.proofs.Common.{◌≡◌, inl, ℕ, List, [], append-nil, sym, ◌∙◌, ap, subst, Bool, true, false, length, Some, None}
 use Rattle.std.specs.Prelude.{IsTrue, unwrap_or}
 use Rattle.std.proofs.lemmas.Bool.{false≢true}
 use Rattle.engine_ports.specs.Clock.{ClockView}
@@ -21,12 +21,10 @@ use Rattle.session_model.specs.Pass.{PassView}
 use Rattle.session_model.specs.Progress.{Moves}
 use Rattle.session_model.specs.Session.{FollowCause}
 use Rattle.session_model.proofs.HistoryLemmas.{extends_same}
-use Rattle.session_model.proofs.MomentLemmas.{moments_weak}
 use Rattle.session_model.proofs.AddsLemmas.{owns}
 use Rattle.session_model.proofs.TurnLemmas.{same_pass}
 use Rattle.attach_hub.specs.Following.{FollowsSince, HasCause, IsTaken, IsWholeBy, MayFollow}
 use Rattle.attach_hub.specs.Sides.{Paired}
-use Rattle.attach_hub.proofs.StillLemmas.{moments_still}
 use Rattle.engine_serve.specs.Overtaking.{GoesOver, RunsOver}
 
 -- ---- its body
@@ -62,12 +60,11 @@ follow_cause F.NoMemory s s' u u' v v' cause = tt
 
 -- ---- where nothing is pumped
 
-goes_alone : (k : ℕ) (pumped : Bool) (p q : PassView) (v v' : ClockView) → IsTrue p.pair → Moves k true p q v v' → GoesOver k pumped p q v v'
+goes_alone : (k : ℕ) (pumped : Bool) (p q : PassView) (v v' : ClockView) → IsTrue p.pair → Moves k p q v v' → GoesOver k pumped p q v v'
 goes_alone k pumped p q v v' pair moves = record {
   handed = moves.handed;
   clock = moves.clock;
   extends = moves.extends;
-  moments = moments_weak p.charter k p.seen q.seen moves.handed moves.moments;
   same = same_pass p q moves.stays;
   adds = λ every. owns k p q moves.adds;
   stays = λ b. moves.stays;
@@ -111,7 +108,6 @@ runs_both k spec end f p q ahead s s' u u' v v' both = record {
     handed = both.handed;
     clock = both.clock;
     extends = both.extends;
-    moments = moments_still p.charter k false p.seen q.seen both.handed both.extends both.still;
     same = both.same;
     adds = both.adds;
     stays = λ b. absurd (false≢true (sym b));

@@ -1,9 +1,9 @@
 -- A session that ends by a takeover.
-use Rattle.std.proofs.Common.{◌≡◌, inl, inr, ℕ, List, [], ◌∷◌, ◌++◌, append_assoc, refl, sym, ◌∙◌, ap, subst, arith, Bool, true, false, Option, Some, None, Result, Err}
+use Rattle.std.proofs.Common.{◌≡◌, inl, inr, ℕ, List, [], ◌∷◌, ◌++◌, append_assoc, refl, sym, ◌∙◌, ap, subst, arith, Bool, true, false, Option, None, Err}
 use Rattle.std.specs.Prelude.{IsTrue}
 use Rattle.engine_ports.specs.Clock.{ClockView}
 use Rattle.engine_ports.specs.Door.{Outside, outside}
-use Rattle.engine_ports.specs.Sink.{SinkView, SinkTook, IsFront, WriteSays}
+use Rattle.engine_ports.specs.Sink.{SinkView, SinkTook, WriteSays}
 use Rattle.engine_ports.specs.Source.{SourceView}
 use Rattle.engine_ports.specs.declared.ports.Failed.{Failed}
 use Rattle.engine_ports.proofs.PortLemmas.{clock_none, clock_on, rose_since, sink_on, source_none}
@@ -30,21 +30,21 @@ use Rattle.session_model.specs.declared.followed.Followed.{Followed}
 use Rattle.session_model.specs.declared.followed.Followed.TheVariants as F
 use Rattle.session_model.specs.declared.followed.PumpEnd.{PumpEnd}
 use Rattle.session_model.specs.declared.terms.Terms.{Terms}
-use Rattle.session_model.specs.Exchange.{Flow, Leaves, call_of, IsMade, HeadIsLost, TakenOver}
+use Rattle.session_model.specs.Exchange.{Flow, Leaves, IsMadeAt, IsAnswered, HeadIsLost, TakenOver}
 use Rattle.session_model.specs.Guarantee.{Serves}
-use Rattle.session_model.specs.Moments.{TakesMoments, StaysWithin, is_whole_flow}
+use Rattle.session_model.specs.Moments.{StaysWithin}
 use Rattle.session_model.specs.Pass.{PassView, Stays}
 use Rattle.session_model.specs.Responses.{takeover_head, head_of_stream, terms_of}
-use Rattle.session_model.specs.Session.{Cause, Exchange, FollowCause, IsWritten, ending_of_ends, is_pumped}
+use Rattle.session_model.specs.Session.{FollowCause, IsWritten, ending_of_ends, is_pumped}
 use Rattle.session_model.proofs.CauseLemmas.{IsLater, cause_since, written_since}
 use Rattle.session_model.proofs.HistoryLemmas.{extends_same, extends_on}
-use Rattle.session_model.proofs.MomentLemmas.{moments_on, moments_quiet, moments_weak, within_on}
-use Rattle.session_model.proofs.HistoryLemmas.{quiet_same}
+use Rattle.session_model.proofs.MomentLemmas.{within_on}
 use Rattle.session_model.proofs.SessionLemmas.{begins_more}
 use Rattle.session_model.proofs.AddsLemmas.{adds_none, adds_on, owns, owns_on}
 use Rattle.session_model.proofs.TurnLemmas.{stays_on, stays_same, same_pass}
 use Rattle.attach_hub.specs.Following.{IsTaken}
 use Rattle.engine_serve.specs.Overtaking.{GoesOver, IsTakenSo, OpensOver, Overtakes, RunsOver}
+use Rattle.engine_serve.proofs.AnswerLemmas.{as_told}
 use Rattle.engine_serve.proofs.ServeLemmas.{SoFar, read_on}
 use Rattle.engine_serve.proofs.NextLemmas.{Stands, begun}
 
@@ -58,31 +58,16 @@ head_is : (terms : Terms) (upgrade : Bool) (x : Reply) → takeover_head (takeov
 head_is terms true x = refl
 head_is terms false x = refl
 
-some_not : (c : Call) → Some c ≡ None → ⊥
-some_not c h = cc
-
-broken : (ch : Charter) (k : ℕ) (flow : Flow) (f : Followed) (end : Option PumpEnd) (a b : List Step) (ms : List ℕ) → flow ≡ Leaves f end
-    → TakesMoments ch k false a b ms → TakesMoments ch k (is_whole_flow flow) a b ms
-broken ch k flow f end a b ms is moments = subst (λ x. TakesMoments ch k (is_whole_flow x) a b ms) (sym is) moments
-
 -- the call was made, and then the connection was taken over, or the head was lost
-exchange_over : (ch : Charter) (k : ℕ) (r : Request) (upgrade : Bool) (spec : LogSpec) (flow : Flow) (whole behind : List ℕ) (a b d : List Step)
-    (ms ns : List ℕ) (c : Call) → class_of r ≡ Stream c (takeover upgrade) → IsMade ch k k c a b (LogStream spec) → TakesMoments ch k true a b ms
-    → TakesMoments ch k false b d ns → IsTakenSo ch k upgrade spec flow whole b d behind → Exchange ch k r behind flow a d whole (ms ++ ns)
-exchange_over ch k r upgrade spec flow whole behind a b d ms ns c class made first last (inl (same, flows, is)) = record {
-  kind = HeadIsLost c (takeover upgrade) (LogStream spec) class (subst (λ h. IsMade ch k k c a h (LogStream spec)) same made) refl;
-  flow_is = flows;
-  bytes = is ∙ head_is (terms_of r) upgrade (LogStream spec);
-  moments = broken ch k flow F.WriteFault None a d (ms ++ ns) flows (moments_on ch k false a b d ms ns (moments_weak ch k a b ms first) last);
-  unasked = λ none. absurd (some_not c (sym (ap call_of class) ∙ none));
-}
-exchange_over ch k r upgrade spec flow whole behind a b d ms ns c class made first last (inr (f, end, body, pumps, tells, ends, flows, is)) = record {
-  kind = TakenOver c (takeover upgrade) spec f end b body class (none_not upgrade) made pumps tells ends;
-  flow_is = flows;
-  bytes = is;
-  moments = broken ch k flow f end a d (ms ++ ns) flows (moments_on ch k false a b d ms ns (moments_weak ch k a b ms first) last);
-  unasked = λ none. absurd (some_not c (sym (ap call_of class) ∙ none));
-}
+answered_over : (ch : Charter) (k : ℕ) (r : Request) (upgrade : Bool) (spec : LogSpec) (flow : Flow) (whole behind : List ℕ) (a b d : List Step)
+    (m : ℕ) (ns : List ℕ) (c : Call) → class_of r ≡ Stream c (takeover upgrade) → IsMadeAt ch k m c a b (LogStream spec)
+    → IsTakenSo ch k upgrade spec flow whole b d ns behind → IsAnswered ch k r behind a d flow whole (m ∷ ns)
+answered_over ch k r upgrade spec flow whole behind a b d m ns c class made (inl (same, none, flows, is)) =
+    as_told ch k r behind a d flow _ whole _ (m ∷ ns) _ flows (is ∙ head_is (terms_of r) upgrade (LogStream spec)) (ap (λ x. m ∷ x) none)
+    (HeadIsLost c (takeover upgrade) (LogStream spec) m class (subst (λ h. IsMadeAt ch k m c a h (LogStream spec)) same made) refl)
+answered_over ch k r upgrade spec flow whole behind a b d m ns c class made (inr (f, end, body, pumps, tells, ends, flows, is)) =
+    as_told ch k r behind a d flow _ whole _ (m ∷ ns) _ flows is refl
+    (TakenOver c (takeover upgrade) spec f end b m body ns class (none_not upgrade) made pumps tells ends)
 
 -- ---- the session
 
@@ -146,12 +131,12 @@ ended_over k r upgrade spec e p q m n s s1 s2 s3 u u1 u3 t t1 t2 t3 held ahead s
           record {
             flow = over.flow;
             whole = over.whole;
-            exchange = exchange_over p.charter k r upgrade spec over.flow over.whole (ahead ++ more) q.seen m.seen n.seen
-                opens.moves.handed over.goes.handed opens.call opens.class
-                (subst (λ ch. IsMade ch k k opens.call q.seen m.seen (LogStream spec)) all.stays.charter opens.made)
-                (subst (λ ch. TakesMoments ch k true q.seen m.seen opens.moves.handed) all.stays.charter opens.moves.moments)
-                (subst (λ ch. TakesMoments ch k false m.seen n.seen over.goes.handed) stays.charter over.goes.moments)
-                (subst (λ ch. IsTakenSo ch k upgrade spec over.flow over.whole m.seen n.seen (ahead ++ more)) stays.charter over.told.holds);
+            answered = subst (IsAnswered p.charter k r (ahead ++ more) q.seen n.seen over.flow over.whole)
+                (sym (ap (λ x. x ++ over.goes.handed) opens.one))
+                (answered_over p.charter k r upgrade spec over.flow over.whole (ahead ++ more) q.seen m.seen n.seen
+                opens.handed over.goes.handed opens.call opens.class
+                (subst (λ ch. IsMadeAt ch k opens.handed opens.call q.seen m.seen (LogStream spec)) all.stays.charter opens.made)
+                (subst (λ ch. IsTakenSo ch k upgrade spec over.flow over.whole m.seen n.seen over.goes.handed (ahead ++ more)) stays.charter over.told.holds));
             written = written_since e over.flow over.whole over.part u u1 u3 now.sink.faults over.written;
             cause = cause_since over.flow (outside s u t) (outside s2 u1 t2) (outside s3 u3 t3) later over.cause;
             pumped = refl;
@@ -179,7 +164,6 @@ goes_same k pumped p v pair = record {
   handed = [];
   clock = clock_none v;
   extends = extends_same p.seen;
-  moments = moments_quiet p.charter k false p.seen p.seen [] (quiet_same k p.seen);
   same = same_pass p p (stays_same p);
   adds = λ every. owns k p p (adds_none k p);
   stays = λ b. stays_same p;
@@ -191,11 +175,12 @@ goes_same k pumped p v pair = record {
 pub head_lost : (k : ℕ) (upgrade : Bool) (spec : LogSpec) (f : Failed) (p : PassView) (ahead : List ℕ) (s : SourceView) (u u' : SinkView)
     (t : ClockView) → IsTrue p.pair → WriteSays (Err f) (takeover_head (takeover upgrade)) u u'
     → Overtakes k upgrade spec E.WriteFault p p ahead (outside s u t) (outside s u' t)
+unfolding goes_same
 head_lost k upgrade spec f p ahead s u u' t pair (part, front, took, rose) = record {
   flow = Leaves F.WriteFault None;
   whole = takeover_head (takeover upgrade);
   part = part;
-  told = record { read = []; gave = source_none s; holds = inl (refl, refl, refl) };
+  told = record { read = []; gave = source_none s; holds = inl (refl, refl, refl, refl) };
   written = inr (refl, front, rose);
   sink = took;
   cause = (rose, tt);

@@ -1,21 +1,16 @@
 -- What answers a request for a log, for events or for the journal: the stream that its call gives, by chunks, or its refusal.
-use Rattle.std.proofs.Common.{◌≡◌, ◌≤◌, inl, inr, ℕ, List, [], ◌∷◌, ◌++◌, append-nil, append_assoc, refl, sym, ◌∙◌, ap, subst, arith, Bool, true, false, if◌then◌else◌, Some, None, Err}
+use Rattle.std.proofs.Common.{◌≡◌, inl, inr, ℕ, List, [], ◌∷◌, ◌++◌, append-nil, append_assoc, refl, sym, ◌∙◌, ap, subst, arith, Bool, true, false, if◌then◌else◌, Some, None, Err}
 use Rattle.std.specs.Prelude.{IsSome, IsTrue, unwrap_or}
-use Rattle.std.proofs.lemmas.Bool.{false≢true}
 use Rattle.engine_ports.specs.Sink.{SinkView, SinkTook, IsFront, WriteSays}
 use Rattle.engine_ports.specs.Source.{SourceView}
 use Rattle.engine_ports.specs.Clock.{ClockView, ClockHanded}
 use Rattle.engine_ports.specs.Door.{outside}
 use Rattle.engine_ports.specs.declared.ports.Failed.{Failed}
-use Rattle.engine_ports.proofs.PortLemmas.{clock_on, rose_since, sink_on}
+use Rattle.engine_ports.proofs.PortLemmas.{rose_since, sink_on}
 use Rattle.engine_text.specs.declared.call.Call.{Call}
-use Rattle.engine_text.specs.declared.call.Call.TheVariants as call
 use Rattle.engine_text.specs.declared.reply.Reply.{Reply}
-use Rattle.engine_text.specs.declared.reply.Reply.TheVariants as reply
 use Rattle.engine_text.specs.declared.step.Step.{Step}
-use Rattle.machine_model.specs.State.{State}
-use Rattle.machine_model.specs.Statuses.{is_reply_of}
-use Rattle.machine_model.specs.History.{Charter, HasNone, after_step, moment_used, reply_of, state_from}
+use Rattle.machine_model.specs.History.{Charter}
 use Rattle.http_edge.specs.Chunks.{last_chunk}
 use Rattle.http_edge.specs.Message.{Request}
 use Rattle.http_edge.specs.Response.{head_text}
@@ -28,28 +23,25 @@ use Rattle.session_model.specs.declared.followed.Followed.{Followed}
 use Rattle.session_model.specs.declared.followed.Followed.TheVariants as F
 use Rattle.session_model.specs.declared.terms.Terms.{Terms}
 use Rattle.session_model.specs.declared.turned.Turned.TheVariants as T
-use Rattle.session_model.specs.Exchange.{Flow, Leaves, flow_of, is_whole, IsBody, IsMade, IsQuiet, Chunked, HeadIsLost}
-use Rattle.session_model.specs.Moments.{ComesTo, StaysWithin, TakesMoments, greatest_of, is_whole_flow}
+use Rattle.session_model.specs.Exchange.{Flow, Leaves, flow_behind, flow_of, is_whole, IsBody, IsMadeAt, IsQuiet, IsAnswered, InChunks, OfStream, HeadIsLost}
+use Rattle.session_model.specs.Moments.{ComesTo}
 use Rattle.session_model.specs.Pass.{PassView}
-use Rattle.session_model.specs.Progress.{Moves}
 use Rattle.session_model.specs.Responses.{chunked_form, terms_of, head_of_stream, journal_full_response, out_of_memory_response}
 use Rattle.session_model.specs.Session.{FollowCause, IsWritten}
-use Rattle.session_model.specs.Turning.{Turn, Turns, found}
+use Rattle.session_model.specs.Turning.{Turn}
 use Rattle.session_model.proofs.CauseLemmas.{IsLater, cause_since}
-use Rattle.session_model.proofs.HistoryLemmas.{quiet_same, dues_none, extends_on, untimed, uncalled}
-use Rattle.session_model.proofs.MomentLemmas.{moments_weak, within_on}
-use Rattle.session_model.proofs.AddsLemmas.{adds_on}
-use Rattle.session_model.proofs.TurnLemmas.{moves_same, makes_call, turn_made, turn_opens, seen_made, stays_on}
+use Rattle.session_model.proofs.HistoryLemmas.{quiet_same, dues_none}
+use Rattle.session_model.proofs.TurnLemmas.{moves_on, moves_same, makes_call, turn_made_at, turn_opens}
 use Rattle.daemon_core.proofs.CallLemmas.{call_at}
-use Rattle.attach_hub.specs.Following.{Follows, HasReached}
-use Rattle.attach_hub.proofs.TellLemmas.{ends_whole}
+use Rattle.attach_hub.specs.Following.{Follows}
+use Rattle.attach_hub.proofs.TellLemmas.{ends_whole, failed_comes}
 use Rattle.engine_serve.specs.declared.went.Went.{Went}
-use Rattle.engine_serve.specs.Serving.{Sends, Answers, Tries}
+use Rattle.engine_serve.specs.Serving.{Sends, Tries}
 use Rattle.engine_serve.specs.Answering.{SendsReply}
-use Rattle.engine_serve.specs.Streaming.{IsStreamed, EndsStream, IsSentAs, SendsStream, flow_behind}
+use Rattle.engine_serve.specs.Streaming.{IsStreamed, EndsStream, IsSentAs, SendsStream}
 use Rattle.engine_serve.proofs.EarlyLemmas.{sends_behind}
-use Rattle.engine_serve.proofs.ReplyLemmas.{asks_stream, feeds_none, made_reply, streams_end_none}
-use Rattle.engine_serve.proofs.AnswerLemmas.{MovesBy, asks, if_cause, if_pumped, if_whole, no_drop, replied, full, no_memory}
+use Rattle.engine_serve.proofs.ReplyLemmas.{asks_stream, streams_end_none}
+use Rattle.engine_serve.proofs.AnswerLemmas.{as_told, if_cause, if_pumped, no_drop, replied, full, no_memory}
 
 -- ---- what was sent of the stream
 
@@ -63,26 +55,20 @@ head_by terms form = head_text (record { status = 200; form = form; close = term
 head_is : (terms : Terms) (x : Reply) (form : Form) → chunked_form x ≡ Some form → head_by terms form ≡ head_of terms x
 head_is terms x form is = ap (λ o. head_by terms (unwrap_or o Form.Empty)) (sym is)
 
--- a stream that isn't whole need have come to no moment
-unreached : (x : Reply) (ms : List ℕ) → HasReached x false ms
-unreached (reply.EventStream first (Some until) filter) ms = tt
-unreached (reply.EventStream first None filter) ms = tt
-unreached x ms = tt
-
 -- the head's write failed
 lost : (k : ℕ) (terms : Terms) (x : Reply) (f : Failed) (p : PassView) (u u' : SinkView) (t : ClockView)
     → WriteSays (Err f) (head_of terms x) u u' → SendsStream k terms x (Went.Ends Ending.WriteFault) p p u u' t t
+unfolding moves_same
 lost k terms x f p u u' t (part, front, took, rose) = record {
   flow = Leaves F.WriteFault None;
   whole = head_of terms x;
   part = part;
-  told = inl (refl, refl, refl);
+  told = inl (refl, refl, refl, refl);
   goes = inr (refl, front, rose);
   sink = took;
   cause = λ s s'. (rose, tt);
   quiet = quiet_same k p.seen;
-  moves = moves_same k true p t;
-  reached = unreached x _;
+  moves = moves_same k p t;
   pumped = refl;
 }
 
@@ -95,11 +81,11 @@ stream_lost k terms x form f p u u' t is says =
 -- the stream broke off behind its head: nothing more is written
 broke_off : (k : ℕ) (terms : Terms) (g : Reply) (f : Followed) (e : Ending) (result : Went) (p q : PassView)
     (u v w x : SinkView) (t t' : ClockView) → IsTrue p.pair → is_whole f ≡ false → SinkTook u (head_of terms g) v
-    → (sent : Follows k g true f p q v w t t') → IsBody p.charter g (is_whole f) p.seen q.seen sent.body → result ≡ Went.Ends e → x ≡ w
+    → (sent : Follows k g true f p q v w t t') → IsBody p.charter g (is_whole f) p.seen q.seen sent.body → ComesTo g f sent.moves.handed → result ≡ Went.Ends e → x ≡ w
     → IsWritten e (Leaves f None) (head_of terms g ++ sent.sent) (head_of terms g ++ sent.part) u w
     → ((s s' : SourceView) → FollowCause f (outside s u t) (outside s' w t'))
     → SendsStream k terms g result p q u x t t'
-broke_off k terms g f e result p q u v w x t t' pair broken head sent tells is same written cause =
+broke_off k terms g f e result p q u v w x t t' pair broken head sent tells comes is same written cause =
     let last : (if is_whole f then last_chunk else []) ≡ [] = ap (λ b. if b then last_chunk else []) broken in
     let flow : flow_behind terms f ≡ Leaves f None = ap (λ b. if b then flow_of terms else Leaves f None) broken in
     let whole : List ℕ = head_of terms g ++ sent.sent in
@@ -109,13 +95,12 @@ broke_off k terms g f e result p q u v w x t t' pair broken head sent tells is s
       flow = Leaves f None;
       whole = whole;
       part = head_of terms g ++ sent.part;
-      told = inr (f, sent.body, sent.sent, tells, sent.ends, sent.pieces, sym flow, all);
+      told = inr (f, sent.body, sent.sent, tells, sent.ends, comes, sent.pieces, sym flow, all);
       goes = written;
       sink = sink_on u v w (head_of terms g) sent.part head sent.sink;
       cause = λ s s'. (cause s s', tt);
       quiet = sent.quiet pair;
       moves = sent.moves;
-      reached = unreached g sent.moves.handed;
       pumped = refl;
     }))
 
@@ -123,6 +108,10 @@ broke_off k terms g f e result p q u v w x t t' pair broken head sent tells is s
 told_by : (k : ℕ) (g : Reply) (f : Followed) (p q : PassView) (v w : SinkView) (t t' : ClockView) (sent : Follows k g true f p q v w t t')
     → sent.whole ≡ is_whole f → IsBody p.charter g (is_whole f) p.seen q.seen sent.body
 told_by k g f p q v w t t' sent is = subst (λ b. IsBody p.charter g b p.seen q.seen sent.body) is sent.tells
+
+comes_by : (k : ℕ) (g : Reply) (f : Followed) (p q : PassView) (v w : SinkView) (t t' : ClockView) (sent : Follows k g true f p q v w t t')
+    → sent.whole ≡ is_whole f → ComesTo g (if is_whole f then F.Whole else f) sent.moves.handed
+comes_by k g f p q v w t t' sent is = subst (λ b. ComesTo g (if b then F.Whole else f) sent.moves.handed) is sent.comes
 
 -- a write failed in it: of a whole stream, or of one that isn't
 failed_so : (k : ℕ) (terms : Terms) (g : Reply) (result : Went) (p q : PassView)
@@ -133,7 +122,7 @@ failed_so k terms g result p q u v w x t t' pair head sent is same false told =
     let rose = rose_since u.faults v.faults w.faults head.faults sent.cause in
     let front : IsFront (head_of terms g ++ sent.part) (head_of terms g ++ sent.sent) =
     (sent.taken.0, append_assoc (head_of terms g) sent.part sent.taken.0 ∙ ap (λ y. head_of terms g ++ y) sent.taken.1) in
-    broke_off k terms g F.WriteFault Ending.WriteFault result p q u v w x t t' pair refl head sent (told_by k g F.WriteFault p q v w t t' sent told) is same
+    broke_off k terms g F.WriteFault Ending.WriteFault result p q u v w x t t' pair refl head sent (told_by k g F.WriteFault p q v w t t' sent told) (failed_comes g sent.moves.handed) is same
     (inr (refl, front, rose)) (λ s s'. rose)
 failed_so k terms g result p q u v w x t t' pair head sent is same true told =
     let rose = rose_since u.faults v.faults w.faults head.faults sent.cause in
@@ -155,6 +144,7 @@ failed_so k terms g result p q u v w x t t' pair head sent is same true told =
         sent.sent,
         subst (λ b. IsBody p.charter g b p.seen q.seen sent.body) told sent.tells,
         ends_whole g p.charter sent.body p.seen q.seen,
+        subst (λ b. ComesTo g (if b then F.Whole else F.WriteFault) sent.moves.handed) told sent.comes,
         sent.pieces,
         refl,
         refl,
@@ -164,7 +154,6 @@ failed_so k terms g result p q u v w x t t' pair head sent is same true told =
       cause = λ s s'. if_cause terms.close (outside s u t) (outside s' w t');
       quiet = sent.quiet pair;
       moves = sent.moves;
-      reached = subst (λ b. HasReached g b sent.moves.handed) (told ∙ sym (if_whole terms.close)) sent.reached;
       pumped = if_pumped terms.close;
     }))
 
@@ -181,23 +170,25 @@ sent_so k terms g F.Whole result p q u v w x t t' pair head sent ends =
       flow = flow_of terms;
       whole = head_of terms g ++ sent.sent ++ last_chunk;
       part = all.0;
-      told = inr (F.Whole, sent.body, sent.sent, told_by k g F.Whole p q v w t t' sent sent.by_end, sent.ends, sent.pieces, refl, refl);
+      told = inr (F.Whole, sent.body, sent.sent, told_by k g F.Whole p q v w t t' sent sent.by_end, sent.ends, comes_by k g F.Whole p q v w t t' sent sent.by_end, sent.pieces, refl, refl);
       goes = all.2;
       sink = all.1;
       cause = λ s s'. if_cause terms.close (outside s u t) (outside s' x t');
       quiet = sent.quiet pair;
       moves = sent.moves;
-      reached = subst (λ b. HasReached g b sent.moves.handed) (sent.by_end ∙ sym (if_whole terms.close)) sent.reached;
       pumped = if_pumped terms.close;
     }
 sent_so k terms g F.Stopped result p q u v w x t t' pair head sent ends =
-    broke_off k terms g F.Stopped Ending.Stopped result p q u v w x t t' pair refl head sent (told_by k g F.Stopped p q v w t t' sent sent.by_end) ends.0 ends.1
+    broke_off k terms g F.Stopped Ending.Stopped result p q u v w x t t' pair refl head sent (told_by k g F.Stopped p q v w t t' sent sent.by_end)
+    (comes_by k g F.Stopped p q v w t t' sent sent.by_end) ends.0 ends.1
     (inl (refl, ap (λ y. head_of terms g ++ y) sent.taken)) (λ s s'. sent.cause)
 sent_so k terms g (F.Lagged next first) result p q u v w x t t' pair head sent ends =
-    broke_off k terms g (F.Lagged next first) (Ending.Lagged next first) result p q u v w x t t' pair refl head sent (told_by k g (F.Lagged next first) p q v w t t' sent sent.by_end) ends.0 ends.1
+    broke_off k terms g (F.Lagged next first) (Ending.Lagged next first) result p q u v w x t t' pair refl head sent (told_by k g (F.Lagged next first) p q v w t t' sent sent.by_end)
+    (comes_by k g (F.Lagged next first) p q v w t t' sent sent.by_end) ends.0 ends.1
     (inl (refl, ap (λ y. head_of terms g ++ y) sent.taken)) (λ s s'. tt)
 sent_so k terms g F.NoMemory result p q u v w x t t' pair head sent ends =
-    broke_off k terms g F.NoMemory Ending.NoMemory result p q u v w x t t' pair refl head sent (told_by k g F.NoMemory p q v w t t' sent sent.by_end) ends.0 ends.1
+    broke_off k terms g F.NoMemory Ending.NoMemory result p q u v w x t t' pair refl head sent (told_by k g F.NoMemory p q v w t t' sent sent.by_end)
+    (comes_by k g F.NoMemory p q v w t t' sent sent.by_end) ends.0 ends.1
     (inl (refl, ap (λ y. head_of terms g ++ y) sent.taken)) (λ s s'. tt)
 sent_so k terms g F.WriteFault result p q u v w x t t' pair head sent ends = failed_so k terms g result p q u v w x t t' pair head sent ends.0 ends.1 sent.whole refl
 
@@ -207,98 +198,39 @@ pub stream_sent : (k : ℕ) (terms : Terms) (g : Reply) (form : Form) (f : Follo
 stream_sent k terms g form f result p q u v w x t t' pair is head sent ends =
     sent_so k terms g f result p q u v w x t t' pair (subst (λ y. SinkTook u y v) (head_is terms g form is) head) sent ends
 
--- ---- the moments that it took
-
--- where the stream is whole, a call for events up to a moment came to it
-comes_by : (c : Call) (x : Reply) (whole : Bool) (z : State) (k t handed : ℕ) (ms : List ℕ) → IsStreamed c → x ≡ reply_of z k t c
-    → HasReached x whole ms → ComesTo whole c (handed ∷ ms)
-comes_by (call.Events since (Some until) filter) x true z k t handed ms streams is reached =
-    let late : until ≤ greatest_of ms = subst (λ y. HasReached y true ms) is reached in omega (arith, late)
-comes_by (call.Events since None filter) x true z k t handed ms streams is reached = tt
-comes_by (call.Logs target ask) x true z k t handed ms streams is reached = tt
-comes_by call.JournalRead x true z k t handed ms streams is reached = tt
-comes_by c x true z k t handed ms streams is reached = absurd streams
-comes_by c x false z k t handed ms streams is reached = tt
-
-moments_any : (ch : Charter) (k : ℕ) (whole : Bool) (a b : List Step) (ms : List ℕ) → TakesMoments ch k true a b ms → TakesMoments ch k whole a b ms
-moments_any ch k true a b ms moments = moments
-moments_any ch k false a b ms moments = moments_weak ch k a b ms moments
-
--- a call behind due steps took a moment, and what follows took more
-opens_on : (whole : Bool) (k handed : ℕ) (c : Call) (p q s : PassView) (turns : Turns k p q) (dues : List Step) (v w y : ClockView)
-    → IsTrue p.pair → HasNone k dues → turns.own ≡ dues ++ Step.Call k (moment_used (found k p q turns) handed) c ∷ []
-    → ((z : State) (t : ℕ) → (after_step z (Step.Call k t c)).clock ≡ t) → ClockHanded v (handed ∷ []) w
-    → (more : Moves k true q s w y) → ComesTo whole c (handed ∷ more.handed) → Moves k whole p s v y
-unfolding turn_opens
-opens_on whole k handed c p q s turns dues v w y pair none is punctual clock more comes =
-    let first : Moves k false p q v w = turn_opens false k handed c p q turns dues v w pair none is punctual tt clock in record {
-      extends = extends_on p.seen q.seen s.seen first.extends more.extends;
-      stays = stays_on p q s turns.stays more.stays;
-      adds = adds_on k p q s first.adds more.adds;
-      handed = handed ∷ more.handed;
-      clock = clock_on v w y (handed ∷ []) more.handed clock more.clock;
-      moments = inr (
-        c,
-        q.seen,
-        record {
-          front = turns.others;
-          back = dues;
-          untimed = untimed k turns.others (turns.strangers pair);
-          uncalled = uncalled k dues none;
-          at = seen_made k (moment_used (found k p q turns) handed) c p q turns dues is;
-        },
-        comes,
-        moments_any p.charter k whole q.seen s.seen more.handed
-            (subst (λ ch. TakesMoments ch k true q.seen s.seen more.handed) turns.stays.charter more.moments),
-      );
-      within = λ h. within_on p.charter p.seen q.seen s.seen (handed ∷ []) more.handed (first.within h)
-          (subst (λ ch. StaysWithin ch q.seen s.seen more.handed) turns.stays.charter (more.within (turns.stays.alone ∙ h)));
-    }
-
 -- ---- the rows
 
-row : (ch : Charter) (k : ℕ) (r : Request) (behind : List ℕ) (c : Call) (x : Reply) (form : Form) (flow : Flow) (whole : List ℕ)
-    (a b d : List Step) → class_of r ≡ Stream c Takeover.None → chunked_form x ≡ Some form → IsMade ch k k c a b x → IsQuiet k b d
-    → IsSentAs ch (terms_of r) x flow whole b d → Answers ch k r behind a d flow whole
-row ch k r behind c x form flow whole a b d class some made quiet (inl (same, flows, is)) = record {
-  kind = HeadIsLost c Takeover.None x class (subst (λ h. IsMade ch k k c a h x) same made) (subst (λ o. IsSome o) (sym some) refl);
-  flow_is = flows;
-  bytes = is;
-}
-row ch k r behind c x form flow whole a b d class some made quiet (inr (f, body, chunks, tells, ends, cut, flows, is)) = record {
-  kind = Chunked c x f b body chunks class made quiet tells ends cut;
-  flow_is = flows;
-  bytes = is;
-}
+row : (ch : Charter) (k : ℕ) (r : Request) (behind : List ℕ) (c : Call) (x : Reply) (form : Form) (flow : Flow) (whole : List ℕ) (handed : ℕ) (ms : List ℕ)
+    (a b d : List Step) → class_of r ≡ Stream c Takeover.None → chunked_form x ≡ Some form → IsMadeAt ch k handed c a b x → IsQuiet k b d
+    → IsSentAs ch (terms_of r) x flow whole b d ms → IsAnswered ch k r behind a d flow whole (handed ∷ ms)
+row ch k r behind c x form flow whole handed ms a b d class some made quiet (inl (same, none, flows, is)) =
+    as_told ch k r behind a d flow _ whole _ (handed ∷ ms) _ flows is (ap (λ l. handed ∷ l) none)
+    (HeadIsLost c Takeover.None x handed class (subst (λ h. IsMadeAt ch k handed c a h x) same made) (subst (λ o. IsSome o) (sym some) refl))
+row ch k r behind c x form flow whole handed ms a b d class some made quiet (inr (f, body, chunks, tells, ends, comes, cut, flows, is)) =
+    as_told ch k r behind a d flow _ whole _ (handed ∷ ms) _ flows is refl
+    (InChunks f _ body chunks _ (OfStream c x f b handed body ms class made quiet tells ends comes) cut)
 
 streamed : (k handed : ℕ) (r : Request) (c : Call) (x : Reply) (form : Form) (result : Went) (p q s : PassView) (u u' : SinkView)
     (v w y : ClockView) → IsTrue p.pair → class_of r ≡ Stream c Takeover.None → IsStreamed c → chunked_form x ≡ Some form
     → ClockHanded v (handed ∷ []) w → Turn k handed (Some c) (T.Replied x) p q
     → SendsStream k (terms_of r) x result q s u u' w y → Tries k r result p s u u' v y
+unfolding moves_on turn_opens
 streamed k handed r c x form result p q s u u' v w y pair class streams some clock turn sends =
     let m = makes_call p.charter _ k handed c turn.turns.own x (no_drop c (streams_end_none c streams)) turn.says.1 in
     let none = dues_none k _ _ m.0 m.1 in
-    let made = turn_made k _ c x p q turn.turns m.0 pair none m.2.1 m.2.0 m.2.2 in
-    let comes : ComesTo (is_whole_flow sends.flow) c (handed ∷ sends.moves.handed) =
-    comes_by c x (is_whole_flow sends.flow) (state_from (found k p q turn.turns) m.0) k (moment_used (found k p q turn.turns) handed) handed
-    sends.moves.handed streams m.2.2 sends.reached in
-    let all : Moves k (is_whole_flow sends.flow) p s v y =
-    opens_on (is_whole_flow sends.flow) k handed c p q s turn.turns m.0 v w y pair none m.2.1 (call_at c k) clock sends.moves comes in
-    let moves : MovesBy k r (is_whole_flow sends.flow) p s v y =
-    asks k r c (is_whole_flow sends.flow) p s v y (asks_stream r c class) all in
-    let told : IsSentAs p.charter (terms_of r) x sends.flow sends.whole q.seen s.seen =
-    subst (λ ch. IsSentAs ch (terms_of r) x sends.flow sends.whole q.seen s.seen) turn.turns.stays.charter sends.told in
+    let made = turn_made_at k handed c x p q turn.turns m.0 pair none m.2.1 m.2.0 m.2.2 in
+    let told : IsSentAs p.charter (terms_of r) x sends.flow sends.whole q.seen s.seen sends.moves.handed =
+    subst (λ ch. IsSentAs ch (terms_of r) x sends.flow sends.whole q.seen s.seen sends.moves.handed) turn.turns.stays.charter sends.told in
     let later : (o : SourceView) → IsLater (outside o u v) (outside o u w) =
     λ o. record { reads = omega arith; ends = omega arith; writes = omega arith; stops = clock.stops } in record {
       flow = sends.flow;
       whole = sends.whole;
       part = sends.part;
-      answer = λ behind. row p.charter k r behind c x form sends.flow sends.whole p.seen q.seen s.seen class some made sends.quiet told;
+      moves = moves_on k p q s v w y (turn_opens k handed c p q turn.turns m.0 v w pair none m.2.1 (call_at c k) clock) sends.moves;
+      answer = λ behind. row p.charter k r behind c x form sends.flow sends.whole handed sends.moves.handed p.seen q.seen s.seen class some made sends.quiet told;
       goes = sends.goes;
       sink = sends.sink;
       cause = λ o o'. cause_since sends.flow (outside o u v) (outside o u w) (outside o' u' y) (later o) (sends.cause o o');
-      moves = moves.0;
-      unasked = moves.1;
       pumped = sends.pumped;
     }
 
@@ -312,24 +244,12 @@ stream_streamed k handed r terms c x form result p q s u u' v w y is pair class 
     streamed k handed r c x form result p q s u u' v w y pair class streams some clock turn
     (subst (λ z. SendsStream k z x result q s u u' w y) is sends)
 
--- where it is answered whole it is no call for events
-refused_comes : (c : Call) (x : Reply) (status : ℕ) (body : List ℕ) (ms : List ℕ) → IsStreamed c → IsTrue (is_reply_of c x)
-    → x ≡ reply.Answer status body → ComesTo true c ms
-refused_comes (call.Logs target ask) x status body ms streams is answers = tt
-refused_comes call.JournalRead x status body ms streams is answers = tt
-refused_comes (call.Events since until filter) x status body ms streams is answers =
-    let other : IsTrue (is_reply_of (call.Events since until filter) (reply.Answer status body)) =
-    subst (λ y. IsTrue (is_reply_of (call.Events since until filter) y)) answers is in absurd (false≢true other)
-refused_comes c x status body ms streams is answers = absurd streams
-
 pub stream_refused : (k handed : ℕ) (r : Request) (terms : Terms) (c : Call) (x : Reply) (result : Went) (p q : PassView)
     (u u' : SinkView) (t t' : ClockView) → terms ≡ terms_of r → IsTrue p.pair → class_of r ≡ Stream c Takeover.None
     → IsStreamed c → ClockHanded t (handed ∷ []) t' → Turn k handed (Some c) (T.Replied x) p q
     → SendsReply terms x result u u' → Tries k r result p q u u' t t'
 stream_refused k handed r terms c x result p q u u' t t' is pair class streams clock turn sends =
-    let comes : ComesTo true c (handed ∷ []) =
-    refused_comes c x sends.0 sends.1 (handed ∷ []) streams (made_reply k handed c x _ p q (streams_end_none c streams) (feeds_none c streams) turn turn.says.1).1 sends.2 in
-    replied k handed r c x result p q u u' t t' pair (asks_stream r c class) comes (streams_end_none c streams) clock turn
+    replied k handed r c x result p q u u' t t' pair (asks_stream r c class) (streams_end_none c streams) clock turn
     (subst (λ y. SendsReply y x result u u') is sends)
 
 pub stream_full : (k handed : ℕ) (r : Request) (terms : Terms) (c : Call) (result : Went) (p q : PassView)

@@ -1,5 +1,5 @@
 -- What is sent of a wait whose head comes before it is over (own).
-use Rattle.std.specs.Prelude.{ℕ, ◌≡◌, true, List, [], ◌∷◌, ◌++◌, None}
+use Rattle.std.specs.Prelude.{ℕ, ◌≡◌, List, [], ◌∷◌, ◌++◌, None}
 use Rattle.engine_ports.specs.Rose.{Rose}
 use Rattle.engine_ports.specs.Sink.{SinkView}
 use Rattle.engine_ports.specs.Clock.{ClockView}
@@ -43,5 +43,5 @@ SendsBehind terms head Awaited.NoMemory result u u' = Sends (broken_flow F.NoMem
 pub data WaitsEarly (k n : ℕ) (terms : Terms) (result : Went) (p q : PassView) (u u' : SinkView) (t t' : ClockView) : Type 0 where
   Waited : (awaited : Awaited) → Awaits k n awaited p q t t' → SendsBehind terms (early_head terms) awaited result u u'
       → WaitsEarly k n terms result p q u u' t t'
-  HeadWasLost : IsDropped p.charter k n p.seen q.seen → Moves k true p q t t' → Rose u.faults u'.faults
+  HeadWasLost : IsDropped p.charter k n p.seen q.seen → Moves k p q t t' → Rose u.faults u'.faults
       → Sends (broken_flow F.WriteFault) result (early_head terms) u u' → WaitsEarly k n terms result p q u u' t t'

@@ -1,6 +1,6 @@
 -- A connection that is taken over by a log's stream (Docker Engine API v1.43, ContainerAttach and ExecStart; own: what is written, and
 -- how the session ends).
-use Rattle.std.specs.Prelude.{ℕ, ◌≡◌, ◌⊎◌, Bool, true, false, List, ◌++◌, Option, Some, None, IsTrue, IsFalse}
+use Rattle.std.specs.Prelude.{ℕ, ◌≡◌, ◌⊎◌, Bool, false, List, [], ◌∷◌, ◌++◌, Option, Some, None, IsTrue, IsFalse}
 use Rattle.engine_ports.specs.Clock.{ClockView, ClockHanded}
 use Rattle.engine_ports.specs.Door.{Outside}
 use Rattle.engine_ports.specs.Sink.{SinkView, SinkTook}
@@ -20,8 +20,8 @@ use Rattle.session_model.specs.declared.ending.Ending.{Ending}
 use Rattle.session_model.specs.declared.followed.Followed.{Followed}
 use Rattle.session_model.specs.declared.followed.Followed.TheVariants as F
 use Rattle.session_model.specs.declared.followed.PumpEnd.{PumpEnd}
-use Rattle.session_model.specs.Exchange.{Flow, Leaves, IsBody, IsMade, EndsSo, Pumps, is_whole}
-use Rattle.session_model.specs.Moments.{TakesMoments, StaysWithin}
+use Rattle.session_model.specs.Exchange.{Flow, Leaves, AtLast, IsBody, IsMadeAt, EndsSo, Pumps, is_whole}
+use Rattle.session_model.specs.Moments.{StaysWithin}
 use Rattle.session_model.specs.Pass.{PassView, Every, Stays, KeepsInput}
 use Rattle.session_model.specs.Progress.{AddsOwn, Moves}
 use Rattle.session_model.specs.Responses.{takeover_head}
@@ -47,9 +47,11 @@ stream_of reply = None
 pub record OpensOver (k : ℕ) (r : Request) (upgrade : Bool) (spec : LogSpec) (p q : PassView) (v v' : ClockView) : Type 0 where
   pub call : Call
   pub class : class_of r ≡ Stream call (takeover upgrade)
-  pub made : IsMade p.charter k k call p.seen q.seen (LogStream spec)
+  pub handed : ℕ
+  pub made : IsMadeAt p.charter k handed call p.seen q.seen (LogStream spec)
   pub may : MayFollow (state_after q.charter q.seen) spec
-  pub moves : Moves k true p q v v'
+  pub moves : Moves k p q v v'
+  pub one : moves.handed ≡ handed ∷ []
 
 -- a request was answered; or a takeover begins, of which nothing is written yet
 abbrev pub TriesSo : ℕ → Request → Tried → PassView → PassView → SinkView → SinkView → ClockView → ClockView → Type 0
@@ -58,13 +60,12 @@ TriesSo k r (Tried.Over upgrade spec) p q u u' v v' = OpensOver k r upgrade spec
 
 -- ---- a connection is taken over
 
--- the pass went on, and the calls of the connection took moments of the clock. The number of its input may be given away only
+-- the pass went on, and the clock handed these moments meanwhile. The number of its input may be given away only
 -- where input is pumped, and then the calls of that are joined in
 pub record GoesOver (k : ℕ) (pumped : Bool) (p q : PassView) (v v' : ClockView) : Type 0 where
   pub handed : List ℕ
   pub clock : ClockHanded v handed v'
   pub extends : Extends p.seen q.seen
-  pub moments : TakesMoments p.charter k false p.seen q.seen handed
   pub same : Stays (record p { joined_calls = q.joined_calls; pair = q.pair }) q
   pub adds : p.number ≡ Every → AddsOwn k p q
   pub stays : IsFalse pumped → Stays p q
@@ -78,7 +79,7 @@ pub record RunsOver (k : ℕ) (spec : LogSpec) (f : Followed) (end : Option Pump
   pub part : List ℕ
   pub pumps : Reached ahead o.source o'.source (λ behind. Pumps p.charter k spec behind end p.seen q.seen)
   pub tells : IsBody p.charter (LogStream spec) (is_whole f) p.seen q.seen body
-  pub ends : EndsSo p.charter (LogStream spec) f body p.seen q.seen
+  pub ends : AtLast end p.seen q.seen (EndsSo p.charter (LogStream spec) f body p.seen)
   pub taken : IsTaken f part body
   pub sink : SinkTook o.sink part o'.sink
   pub cause : Cause (Leaves f end) o o'
@@ -86,11 +87,11 @@ pub record RunsOver (k : ℕ) (spec : LogSpec) (f : Followed) (end : Option Pump
 
 -- of the bytes behind the request: the head, of which a write failed; or the head and a body that was followed, while the
 -- bytes were pumped, where input is fed
-abbrev pub IsTakenSo : Charter → ℕ → Bool → LogSpec → Flow → List ℕ → List Step → List Step → List ℕ → Type 0
-IsTakenSo ch k upgrade spec flow whole a b behind =
-    ((a ≡ b) × (flow ≡ Leaves F.WriteFault None) × (whole ≡ takeover_head (takeover upgrade)))
+abbrev pub IsTakenSo : Charter → ℕ → Bool → LogSpec → Flow → List ℕ → List Step → List Step → List ℕ → List ℕ → Type 0
+IsTakenSo ch k upgrade spec flow whole a b ms behind =
+    ((a ≡ b) × (ms ≡ []) × (flow ≡ Leaves F.WriteFault None) × (whole ≡ takeover_head (takeover upgrade)))
     ⊎ ((f : Followed) × (end : Option PumpEnd) × (body : List ℕ) × Pumps ch k spec behind end a b
-    × IsBody ch (LogStream spec) (is_whole f) a b body × EndsSo ch (LogStream spec) f body a b
+    × IsBody ch (LogStream spec) (is_whole f) a b body × AtLast end a b (EndsSo ch (LogStream spec) f body a)
     × (flow ≡ Leaves f end) × (whole ≡ takeover_head (takeover upgrade) ++ body))
 
 -- the connection was taken over with these bytes read ahead, and the session ends so
@@ -98,8 +99,8 @@ pub record Overtakes (k : ℕ) (upgrade : Bool) (spec : LogSpec) (e : Ending) (p
   pub flow : Flow
   pub whole : List ℕ
   pub part : List ℕ
-  pub told : Reached ahead o.source o'.source (IsTakenSo p.charter k upgrade spec flow whole p.seen q.seen)
   pub written : IsWritten e flow whole part o.sink o'.sink
   pub sink : SinkTook o.sink part o'.sink
   pub cause : Cause flow o o'
   pub goes : GoesOver k (is_pumped flow) p q o.clock o'.clock
+  pub told : Reached ahead o.source o'.source (IsTakenSo p.charter k upgrade spec flow whole p.seen q.seen goes.handed)

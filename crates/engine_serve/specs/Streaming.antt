@@ -1,5 +1,5 @@
 -- What is sent of a stream, and how the session goes on behind it (own).
-use Rattle.std.specs.Prelude.{ℕ, ◌≡◌, ◌⊎◌, true, List, [], ◌++◌, None, if◌then◌else◌, IsFalse}
+use Rattle.std.specs.Prelude.{ℕ, ◌≡◌, ◌⊎◌, List, [], ◌++◌, None, if◌then◌else◌, IsFalse}
 use Rattle.engine_ports.specs.Source.{SourceView}
 use Rattle.engine_ports.specs.Sink.{SinkView, SinkTook}
 use Rattle.engine_ports.specs.Clock.{ClockView}
@@ -16,11 +16,10 @@ use Rattle.session_model.specs.declared.followed.Followed.TheVariants as F
 use Rattle.session_model.specs.declared.terms.Terms.{Terms}
 use Rattle.session_model.specs.Pass.{PassView}
 use Rattle.session_model.specs.Responses.{head_of_stream}
-use Rattle.session_model.specs.Exchange.{Flow, Leaves, flow_of, IsQuiet, IsBody, EndsSo, is_whole}
-use Rattle.session_model.specs.Moments.{is_whole_flow}
+use Rattle.session_model.specs.Exchange.{Flow, Leaves, flow_behind, flow_of, IsQuiet, IsBody, EndsSo, is_whole}
+use Rattle.session_model.specs.Moments.{ComesTo}
 use Rattle.session_model.specs.Session.{Cause, ending_of_ends, is_pumped}
 use Rattle.session_model.specs.Progress.{Moves}
-use Rattle.attach_hub.specs.Following.{HasReached}
 use Rattle.engine_serve.specs.declared.went.Went.{Went}
 use Rattle.engine_serve.specs.Serving.{GoesSo, Sends}
 
@@ -33,10 +32,6 @@ IsStreamed c = ⊥
 
 -- ---- behind a stream in chunks
 
--- the session goes on where it is whole, and else ends by how it was followed
-abbrev pub flow_behind : Terms → Followed → Flow
-flow_behind terms f = if is_whole f then flow_of terms else Leaves f None
-
 -- its last chunk is written exactly where it is whole
 abbrev pub EndsStream : Terms → Followed → Went → SinkView → SinkView → Type 0
 EndsStream terms F.Whole result u u' = Sends (flow_of terms) result last_chunk u u'
@@ -46,11 +41,11 @@ EndsStream terms followed result u u' = (result ≡ Went.Ends (ending_of_ends fo
 
 -- its head, of which a write failed; or its head, chunks of its body, and the last chunk exactly where
 -- it is whole
-abbrev pub IsSentAs : Charter → Terms → Reply → Flow → List ℕ → List Step → List Step → Type 0
-IsSentAs ch terms reply flow whole a b =
-    ((a ≡ b) × (flow ≡ Leaves F.WriteFault None) × (whole ≡ head_of_stream terms Takeover.None reply))
+abbrev pub IsSentAs : Charter → Terms → Reply → Flow → List ℕ → List Step → List Step → List ℕ → Type 0
+IsSentAs ch terms reply flow whole a b ms =
+    ((a ≡ b) × (ms ≡ []) × (flow ≡ Leaves F.WriteFault None) × (whole ≡ head_of_stream terms Takeover.None reply))
     ⊎ ((f : Followed) × (body : List ℕ) × (chunks : List ℕ)
-    × IsBody ch reply (is_whole f) a b body × EndsSo ch reply f body a b × IsChunked body chunks
+    × IsBody ch reply (is_whole f) a b body × EndsSo ch reply f body a b × ComesTo reply f ms × IsChunked body chunks
     × (flow ≡ flow_behind terms f)
     × (whole ≡ head_of_stream terms Takeover.None reply ++ chunks ++ (if is_whole f then last_chunk else [])))
 
@@ -60,11 +55,10 @@ pub record SendsStream (k : ℕ) (terms : Terms) (reply : Reply) (result : Went)
   pub flow : Flow
   pub whole : List ℕ
   pub part : List ℕ
-  pub told : IsSentAs p.charter terms reply flow whole p.seen q.seen
+  pub moves : Moves k p q t t'
+  pub told : IsSentAs p.charter terms reply flow whole p.seen q.seen moves.handed
   pub goes : GoesSo flow result whole part u u'
   pub sink : SinkTook u part u'
   pub cause : (s s' : SourceView) → Cause flow (outside s u t) (outside s' u' t')
   pub quiet : IsQuiet k p.seen q.seen
-  pub moves : Moves k true p q t t'
-  pub reached : HasReached reply (is_whole_flow flow) moves.handed
   pub pumped : IsFalse (is_pumped flow)

@@ -13,7 +13,8 @@ use Rattle.http_edge.specs.Chunks.{chunk_text, last_chunk}
 use Rattle.http_edge.specs.Message.{Header, Request}
 use Rattle.http_edge.specs.Response.{first_lines, form_lines}
 use Rattle.http_edge.specs.declared.head.Form.TheVariants.{ChunkedJson}
-use Rattle.session_model.specs.Exchange.{Kind, ByItsTicketEarly, BrokenOffEarly, is_early, bytes_by}
+use Rattle.session_model.specs.declared.followed.Followed.{Followed}
+use Rattle.session_model.specs.Exchange.{IsSentInChunks, OfStream, OfWait, OfBrokenWait, is_early}
 use Rattle.session_model.specs.Responses.{early_head}
 
 -- ---- which requests have one
@@ -32,6 +33,27 @@ other_value until = refl
 without_field : (until : Until) → is_early (with_fields ((codes "Host", codes "a") ∷ [])) (call.Wait (codes "a") until) ≡ false
 without_field until = refl
 
+-- a wait of Docker's own client, or of one on Go's, whose names begin so in any case
+by_docker : (until : Until) → is_early (with_fields ((codes "User-Agent", codes "Docker-Client/20.10.24 (linux)") ∷ [])) (call.Wait (codes "a") until) ≡ true
+by_docker until = refl
+
+by_go : (until : Until) → is_early (with_fields ((codes "user-agent", codes "go-HTTP-client/1.1") ∷ [])) (call.Wait (codes "a") until) ≡ true
+by_go until = refl
+
+-- not where they stand behind others, or without the slash
+behind_others : (until : Until) → is_early (with_fields ((codes "User-Agent", codes "curl/8.5.0 Docker-Client/1") ∷ [])) (call.Wait (codes "a") until) ≡ false
+behind_others until = refl
+
+without_slash : (until : Until) → is_early (with_fields ((codes "User-Agent", codes "Docker-Client") ∷ [])) (call.Wait (codes "a") until) ≡ false
+without_slash until = refl
+
+-- and never with a no, whatever else is there
+with_no : (until : Until) → is_early (with_fields ((codes "User-Agent", codes "Docker-Client/20.10.24 (linux)") ∷ (codes "X-Engine-Early", codes "NO") ∷ [])) (call.Wait (codes "a") until) ≡ false
+with_no until = refl
+
+with_both : (until : Until) → is_early (with_fields ((codes "X-Engine-Early", codes "wait") ∷ (codes "X-Engine-Early", codes "no") ∷ [])) (call.Wait (codes "a") until) ≡ false
+with_both until = refl
+
 -- nor any other call that is waited for
 no_stop : (r : Request) (target : List ℕ) (seconds : Option ℤ) (signal : Option Signal) → is_early r (call.Stop target seconds signal) ≡ false
 no_stop r target seconds signal = refl
@@ -41,22 +63,22 @@ no_removal r target force = refl
 
 -- ---- its rows
 
--- whether an answer has an early head
-abbrev HasEarlyHead : (ch : Charter) (k : ℕ) (r : Request) (behind : List ℕ) (a b : List Step) → Kind ch k r behind a b → Bool
-HasEarlyHead ch k r behind a b (ByItsTicketEarly c body chunks asks early waited cut) = true
-HasEarlyHead ch k r behind a b (BrokenOffEarly c reply f asks early broke waited) = true
-HasEarlyHead ch k r behind a b kind = false
+-- whether it has an early head
+abbrev HasEarlyHead : (ch : Charter) (k : ℕ) (r : Request) (behind : List ℕ) (a b : List Step) (f : Followed) (head body ms : List ℕ)
+    → IsSentInChunks ch k r behind a b f head body ms → Bool
+HasEarlyHead ch k r behind a b f head body ms (OfStream c reply g mid m bytes ns asks made quiet tells ends comes) = false
+HasEarlyHead ch k r behind a b f head body ms row = true
 
 asks_of : (r : Request) (c : Call) → IsTrue (is_early r c) → IsTrue (asks_early r)
 asks_of r (call.Wait target until) early = early
 asks_of r c early = absurd (false≢true early)
 
 -- it has one only where the request asks for it
-pub early_is_asked : (ch : Charter) (k : ℕ) (r : Request) (behind : List ℕ) (a b : List Step) (x : Kind ch k r behind a b)
-    → IsTrue (HasEarlyHead ch k r behind a b x) → IsTrue (asks_early r)
-early_is_asked ch k r behind a b (ByItsTicketEarly c body chunks asks early waited cut) has = asks_of r c early
-early_is_asked ch k r behind a b (BrokenOffEarly c reply f asks early broke waited) has = asks_of r c early
-early_is_asked ch k r behind a b x has = absurd (false≢true has)
+pub early_is_asked : (ch : Charter) (k : ℕ) (r : Request) (behind : List ℕ) (a b : List Step) (f : Followed) (head body ms : List ℕ)
+    (x : IsSentInChunks ch k r behind a b f head body ms) → IsTrue (HasEarlyHead ch k r behind a b f head body ms x) → IsTrue (asks_early r)
+early_is_asked ch k r behind a b f head body ms (OfWait c bytes ns asks early waited) has = asks_of r c early
+early_is_asked ch k r behind a b f head body ms (OfBrokenWait c g ns asks early broke given) has = asks_of r c early
+early_is_asked ch k r behind a b f head body ms (OfStream c reply g mid m bytes ns asks made quiet tells ends comes) has = absurd (false≢true has)
 
 -- ---- its bytes
 

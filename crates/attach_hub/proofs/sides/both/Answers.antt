@@ -4,9 +4,9 @@ use Rattle.attach_hub.proofs.sides.both.Goals as goal
 pub returns-in-None : goal.returns-in-None
 returns-in-None g c =
     let its = g.met.T.Turns.counted in
-    one_by_one c.args.conn c.args.spec.now c.pump_stdin-end.result c.follow_whole-followed.result _ _ _ _ _ _ _ _ _ _ _ _ _ _
-    c.requires.pair c.requires.may c.in-None.ensures.none (its c.part.new.self) (its c.pump_stdin-end.new.turns) (g.met.T.Turns.sound c.follow_whole-followed.new.turns)
-    c.twin-twin.ensures c.rejoin-in-None.ensures c.pump_stdin-end.ensures c.follow_whole-followed.ensures
+    one_by_one c.args.conn c.args.spec.now c.pump_stdin-end.result c.follow_since-followed.result _ _ _ _ _ _ _ _ _ _ _ _ _ _
+    c.requires.pair c.requires.may c.in-None.ensures.none (its c.part.new.self) (its c.pump_stdin-end.new.turns) (g.met.T.Turns.sound c.follow_since-followed.new.turns)
+    c.twin-twin.ensures c.rejoin-in-None.ensures c.pump_stdin-end.ensures c.follow_since-followed.ensures
 
 pub returns-in-Some : goal.returns-in-Some
 returns-in-Some g c =

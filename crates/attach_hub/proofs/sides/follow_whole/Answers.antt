@@ -1,8 +1,5 @@
-use Rattle.attach_hub.proofs.SideLemmas.{ends_finished, ends_unfinished}
+use Rattle.session_model.proofs.HistoryLemmas.{extends_same}
 use Rattle.attach_hub.proofs.sides.follow_whole.Goals as goal
 
-pub returns-in-Ok : goal.returns-in-Ok
-returns-in-Ok g c = ends_finished c.args.conn c.args.spec.now _ _ _ _ _ _ _ c.in-Whole.ensures c.in-Ok.ensures
-
-pub returns-in-Err : goal.returns-in-Err
-returns-in-Err g c = ends_unfinished c.args.conn c.args.spec.now _ _ _ _ _ _ _ c.in-Whole.ensures c.in-Err.ensures.0 c.in-Err.ensures.1
+pub returns : goal.returns
+returns g c = c.follow_since.ensures.since _ (extends_same (g.T.Turns.pass c.args.turns.now).seen) c.requires.may
