@@ -68,6 +68,11 @@ IsWrite s piece (Err x) s' =
     ⊎ (¬ (Contains s.failing s.writes)
     × (s' ≡ record s { writes = raised s.writes; faults = raised s.faults; short = raised s.short }))
 
+-- a probe fails exactly where the number of the next write says so
+abbrev pub IsProbe : Store → Result (Unit {0}) Failed → Store → Type 0
+IsProbe s (Ok x) s' = ¬ (Contains s.failing s.writes) × (s' ≡ s)
+IsProbe s (Err x) s' = Contains s.failing s.writes × (s' ≡ record s { faults = raised s.faults })
+
 -- the sum, or the greatest u64
 abbrev pub sum_at_most : ℕ → ℕ → ℕ
 sum_at_most a b = min (a + b) greatest_count

@@ -34,6 +34,11 @@ WriteSays (Ok x) piece v v' = SinkTook v piece v'
 WriteSays (Err x) piece v v' =
     (part : List ℕ) × IsFront part piece × SinkTook v part v' × Rose v.faults v'.faults
 
+-- what a probe says: all is as it was, or the peer is gone, and that is a fault
+abbrev pub ProbeSays : Result (Unit {0}) Failed → SinkView → SinkView → Type 0
+ProbeSays (Ok x) v v' = v' ≡ v
+ProbeSays (Err x) v v' = SinkTook v [] v' × Rose v.faults v'.faults
+
 -- what the end of writing says: no byte more, or a fault
 abbrev pub FinishSays : Result (Unit {0}) Failed → SinkView → SinkView → Type 0
 FinishSays (Ok x) v v' = SinkTook v [] v'

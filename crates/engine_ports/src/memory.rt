@@ -147,8 +147,8 @@ impl Model for MemSink {
 }
 
 impl MemSink {
-    /// A sink whose writes numbered in `failing` (from 0) fail. Any other fails for want of memory
-    /// alone, and takes nothing then.
+    /// A sink whose writes numbered in `failing` (from 0) fail; its peer is gone before such a write.
+    /// Any other fails for want of memory alone, and takes nothing then.
     pub fn new(alloc: Global, failing: &[u64]) -> Result<MemSink, NoMemory>
         ensures { IfOk result (λ s. s
             ≡ record { wrote = []; failing = failing.now; writes = 0; faults = 0; short = 0 }) }
@@ -186,8 +186,8 @@ impl MemSink {
 
 impl Sink for MemSink {
     ghost use Rattle.std.specs.Prelude.{◌≡◌, Some, Ok};
-    ghost use Rattle.engine_ports.specs.Sink.{SinkView, WriteSays, FinishSays};
-    ghost use Rattle.engine_ports.specs.Memory.{IsWrite, sink_of};
+    ghost use Rattle.engine_ports.specs.Sink.{SinkView, WriteSays, ProbeSays, FinishSays};
+    ghost use Rattle.engine_ports.specs.Memory.{IsWrite, IsProbe, sink_of};
 
     ghost takes = { sink_of };
 
@@ -203,6 +203,17 @@ impl Sink for MemSink {
         }
         if self.bytes.extend_from_slice(piece).is_err() {
             self.short = self.short.saturating_add(1);
+            self.faults = self.faults.saturating_add(1);
+            return Err(Failed);
+        }
+        Ok(())
+    }
+
+    fn probe(&mut self) -> Result<(), Failed>
+        ensures says { ProbeSays result (sink_of self.old) (sink_of self.new) }
+        ensures exact { IsProbe self.old result self.new }
+    {
+        if self.failing.contains(&self.writes) {
             self.faults = self.faults.saturating_add(1);
             return Err(Failed);
         }

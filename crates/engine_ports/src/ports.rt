@@ -1,7 +1,7 @@
 // A source of bytes, a sink of bytes and a clock. Each counts its own faults, ends or stops.
 ghost use Rattle.std.specs.Prelude.{◌≡◌, ◌<◌, ℕ, List, [], ◌∷◌, length};
 ghost use Rattle.engine_ports.specs.Source.{SourceView, ReadSays};
-ghost use Rattle.engine_ports.specs.Sink.{SinkView, WriteSays, FinishSays};
+ghost use Rattle.engine_ports.specs.Sink.{SinkView, WriteSays, ProbeSays, FinishSays};
 ghost use Rattle.engine_ports.specs.Clock.{ClockView, ClockHanded, PauseSays, twin_of, rejoined};
 
 /// A call failed, and the object counted a fault.
@@ -42,6 +42,11 @@ pub trait Sink: Send {
     /// Takes the whole piece, or some of its front where it fails.
     fn write(&mut self, piece: &[u8]) -> Result<(), Failed>
         ensures { WriteSays result piece.now (takes self.old) (takes self.new) };
+
+    /// Asks whether a peer is there that may still read; it writes nothing, and doesn't wait. A peer
+    /// that ended its own writing is there.
+    fn probe(&mut self) -> Result<(), Failed>
+        ensures { ProbeSays result (takes self.old) (takes self.new) };
 
     /// No more comes.
     fn finish(&mut self) -> Result<(), Failed>

@@ -100,6 +100,10 @@ impl<'a, R: Wait + Sync> Sink for TalkSink<'a, R> {
         }
     }
 
+    fn probe(&mut self) -> Result<(), Failed> {
+        Ok(())
+    }
+
     fn finish(&mut self) -> Result<(), Failed> {
         Ok(())
     }

@@ -23,7 +23,9 @@ fn a_source_gives_its_bytes_in_pieces(rt: HostRuntime) -> Result<(), Fail> {
 fn a_sink_takes_all_but_the_failing_writes(rt: HostRuntime) -> Result<(), Fail> {
     let mut sink = MemSink::new(rt.alloc(), &[1])?;
     assert_eq!(rt; sink.write(b"a"), Ok(()));
+    assert_eq!(rt; sink.probe(), Err(Failed));
     assert_eq!(rt; sink.write(b"b"), Err(Failed));
+    assert_eq!(rt; sink.probe(), Ok(()));
     assert_eq!(rt; sink.write(b"c"), Ok(()));
     assert_eq!(rt; sink.finish(), Ok(()));
     assert_eq!(rt; sink.bytes(), b"ac".as_slice());

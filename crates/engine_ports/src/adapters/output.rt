@@ -43,6 +43,7 @@ impl<W: Write> WriteSink<W> {
 }
 
 impl<W: Write + Send> Sink for WriteSink<W> {
+    ghost use Rattle.std.specs.Prelude.{◌≡◌, Ok};
     ghost use Rattle.std.specs.Io.KnownBytes.{Keeps};
     ghost use Rattle.engine_ports.specs.Sink.{WriteSays, FinishSays};
     ghost use Rattle.engine_ports.specs.Adapters.{sink_over, writer_holds, WriterTook};
@@ -65,6 +66,14 @@ impl<W: Write + Send> Sink for WriteSink<W> {
             }
         }
         self.flush()
+    }
+
+    // Of who reads it a writer tells nothing.
+    fn probe(&mut self) -> Result<(), Failed>
+        ensures ok { result ≡ Ok tt }
+        ensures same { self.new ≡ self.old }
+    {
+        Ok(())
     }
 
     fn finish(&mut self) -> Result<(), Failed>

@@ -1,13 +1,16 @@
 // A source and a sink over the two halves of a TCP connection.
 ghost use Rattle.std.specs.Prelude.{◌≡◌, IfSome};
+ghost use Rattle.libc.specs.Net.{SockOption};
 ghost use Rattle.engine_ports.specs.Source.{untold_source};
 ghost use Rattle.engine_ports.specs.Sink.{untold_sink};
 
 use super::{ReadSource, SystemClock, WriteSink};
 use crate::{Failed, Parting, Sink, Source};
+use libc::types::pollfd;
 use std::alloc::Global;
 use std::io::{self, Read, Write};
 use std::net::{Shutdown, SocketAddr, SocketAddrV4, TcpStream};
+use std::os::fd::AsRawFd;
 use std::sync::Arc;
 use std::time::{self, Duration, Instant};
 
@@ -16,6 +19,10 @@ const MOST_DROPPED: usize = 16_777_216;
 
 /// How long what a peer still sends is read, in milliseconds.
 const PATIENCE: u64 = 1_000;
+
+/// How long a peer may be silent before the system asks whether it is still there, and how long until it
+/// asks again, in seconds.
+const SILENCE: i32 = 30;
 
 /// One half of a connection, which is closed once both are gone.
 #[derive(Drop)]
@@ -26,6 +33,17 @@ pub struct Half {
 impl Half {
     fn shut(&self) -> io::Result<()> {
         self.stream.shutdown(Shutdown::Write)
+    }
+
+    /// Whether the peer took the connection back, or the system has given it up (POSIX, poll: an error or
+    /// a hangup, which are told unasked). A peer that only ended its writing isn't gone.
+    fn is_gone(&self) -> bool {
+        let mut watched = [pollfd {
+            fd: self.stream.as_raw_fd(),
+            events: 0,
+            revents: 0,
+        }];
+        libc::net::poll(&mut watched, 0) > 0
     }
 
     /// Ends the connection in stages (RFC 9112, section 9.6): nothing more is written, and what the
@@ -90,6 +108,14 @@ impl Sink for StreamSink {
         self.sink.write(piece)
     }
 
+    fn probe(&mut self) -> Result<(), Failed> {
+        if self.sink.writer.is_gone() {
+            self.sink.faults = self.sink.faults.saturating_add(1);
+            return Err(Failed);
+        }
+        Ok(())
+    }
+
     fn finish(&mut self) -> Result<(), Failed> {
         match self.sink.writer.shut() {
             Ok(()) => Ok(()),
@@ -129,12 +155,36 @@ impl<C: time::Clock + Copy + Send> Parting<ReadSource<Half>, StreamSink, SystemC
     }
 }
 
+/// Sets an option of a socket, where the system lets.
+fn set(fd: i32, level: i32, name: i32, value: i32)
+    requires { SockOption level name }
+{
+    let mut bytes = [0; 16];
+    bytes[..4].copy_from_slice(&value.to_ne_bytes());
+    let _ = unsafe { libc::net::setsockopt(fd, level, name, &bytes, 4) };
+}
+
+/// Lets the system ask a silent peer whether it is still there (RFC 1122, section 4.2.3.6): where it closed
+/// the connection and is gone, it takes it back then.
+fn keep_alive(stream: &TcpStream) {
+    let fd = stream.as_raw_fd();
+    set(fd, libc::net::SOL_SOCKET, libc::net::SO_KEEPALIVE, 1);
+    set(fd, libc::net::IPPROTO_TCP, libc::net::TCP_KEEPIDLE, SILENCE);
+    set(
+        fd,
+        libc::net::IPPROTO_TCP,
+        libc::net::TCP_KEEPINTVL,
+        SILENCE,
+    );
+}
+
 /// The two halves of a connection, whose writes leave at once, or none without memory.
 pub fn halves(alloc: Global, stream: TcpStream) -> Option<(ReadSource<Half>, StreamSink)>
     ensures { IfSome result (λ r. (⟦<ReadSource<Half> as Source>⟧.gives r.0 ≡ untold_source)
         × (⟦<StreamSink as Sink>⟧.takes r.1 ≡ untold_sink)) }
 {
     let _ = stream.set_nodelay(true);
+    keep_alive(&stream);
     let stream = Arc::new(alloc, stream).ok()?;
     let again = Arc::try_clone(&stream).ok()?;
     let from = ReadSource::new(Half { stream });
