@@ -3,8 +3,8 @@
 #
 #   benches/edits.sh [NAME..]     those of these crates, or of every crate that has such a folder
 #
-# It works in a copy, which begins with what `rt check` kept on this machine, and ends with the status of `rt must-fail`.
-# RT_JOBS says how many are tried side by side. An edit costs 20 to 50 seconds of a processor.
+# It works in a copy, which takes over the libraries that `rt check` built here, and ends with the status of `rt must-fail`. A crate
+# is proved once from nothing, and its edits are tried in turn over that: each costs 10 to 50 seconds of a processor.
 set -eu
 top=$(cd "$(dirname "$0")/.." && pwd)
 cd "$top/crates"
@@ -14,6 +14,12 @@ fi
 copy=$(mktemp -d)
 trap 'rm -rf "$copy"' EXIT
 tar -C "$top" --exclude=out --exclude=must-fail -cf - crates crates.txt HANDLES | tar -C "$copy" -xf -
+for built in */out/rlib; do
+  if [ -f "$built/stamp" ]; then
+    mkdir -p "$copy/crates/${built%/rlib}"
+    cp -al "$built" "$copy/crates/$built" 2>/dev/null || cp -a "$built" "$copy/crates/$built"
+  fi
+done
 for name in "$@"; do
   mv "$copy/crates/$name/edits" "$copy/crates/$name/must-fail"
 done
