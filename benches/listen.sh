@@ -2,7 +2,7 @@
 # A listening daemon, beside nginx with a static answer in the same run, and beside Debian's docker.io
 # where that can be started: requests a second, memory of idle connections, processor time at rest.
 # Usage: benches/listen.sh PATH_OF_ENGINED [ROUNDS]   (needs Debian's nginx and wrk, curl and python3)
-# That an answer is one write is no figure: a test of crates/listen_tests counts it, over a sink in memory.
+# That an answer is one write is no figure: a stored run of crates/engine_scenarios tells it, where the second write fails.
 set -eu
 engined=$1
 rounds=${2:-2}

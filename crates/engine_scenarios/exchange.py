@@ -230,6 +230,35 @@ def talk(name, *slots, status=0, words=LISTENS, ended=(), unheard=()):
     SCENARIOS.append((name + ".talk", text, ("talk",), words, status, told))
 
 
+# ---- courses over sockets, and connections at once
+
+def course(name, *turns, status=0, more=""):
+    """A turn: the connection, what it sends, and what it then takes; or `end`, its input ends, and what it then takes; or `rest`,
+    all that comes up to the end; or `gone`; or `pour`, `count` and `flood`, and how many blocks it sends, takes or both."""
+    said, told = "", ""
+    for who, does, wanted in turns:
+        does, blocks = joined(does), isinstance(wanted, int)
+        wanted = wanted if blocks else joined(wanted)
+        word = does if does in ("end", "rest", "gone", "pour", "count", "flood") else len(does)
+        line = f"{who} {word} {wanted if blocks else 0 if does == 'rest' else len(wanted)}"
+        said += f"{line}\n" + (f"{does}\n" if word == len(does) else "")
+        size = f"{wanted * 131 * 251}" if blocks else ""
+        told += f"\n-- {line}\n" + (wanted if not blocks else f"{size} of {size} bytes, each at its place\n" if does != "pour" else "")
+    count = len({who for who, *_ in turns})
+    SCENARIOS.append((name + ".course", said, ("sockets",), f"--connections {count}{more}", status, told))
+
+
+def crowd(name, sends, *answers):
+    """What each connection sends, and each whole of answers that there can be; none where journals are to be legal."""
+    text = "".join(f"{word} {len(piece)}\n{piece}\n" for word, pieces in (("send", sends), ("or", answers))
+                   for piece in map(joined, pieces))
+    told = f"one of {len(answers)}\n" if answers else "".join(
+        f"{n}: {'legal' if JOURNAL_TARGET in joined(send) else 'no journal'}\n" for n, send in enumerate(sends))
+    SCENARIOS.append((name + ".crowd", text, ("crowd",), LISTENS, 0, f"{len(sends)} connections\n{told}"))
+
+
+JOURNAL_TARGET = "/engine/journal"
+
 # the body of a create as the docker command line sends it
 USUAL = ('{"Hostname":"","Domainname":"","User":"","AttachStdin":false,"AttachStdout":true,"AttachStderr":true,"Tty":false,'
          '"OpenStdin":false,"StdinOnce":false,"Env":null,"Cmd":["echo","hi"],"Image":"engine/tools:latest","Volumes":{},'

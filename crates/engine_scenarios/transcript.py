@@ -17,6 +17,7 @@ import beside
 import events
 import journals
 import takeovers
+import sockets
 
 HERE = os.path.dirname(os.path.abspath(__file__))
 
@@ -173,6 +174,12 @@ def main():
             how, _, number = coming.partition("=")
             if how == "talk":
                 told.append(f"== {name}\nstatus {status}{wanted}\n")
+            elif how == "sockets":
+                told.append(f"== {name} over sockets\nstatus {status}{wanted}\n")
+            elif how == "crowd":
+                told.append(f"== {name} at once\nstatus {status}, {wanted}")
+            elif how == "taken":
+                told.append(f"== {name} at a taken port\nstatus {status}\n")
             elif how == "cuts":
                 told.append(f"== {name} cut after each byte\n{len(text) - 1} cuts: status 3, nothing written\n")
             elif how == "pieces":

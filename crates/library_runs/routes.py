@@ -111,3 +111,41 @@ ask("route|GET|/events?since=5.|", "events: None, Some(5000), None, rows")
 heading("the journal has no query")
 ask("route|GET|/engine/journal|", "journal: None")
 ask("route|GET|/v1.43/engine/journal?since=x|", "journal: None")
+
+
+heading("long requests: a line says how often which piece stands between two texts, and a long answer is told by its front")
+
+
+def long(kind, count, piece, before, after, answer):
+    ask(f"route|{kind}|{count}|{piece}|{before}|{after}", answer if len(answer) <= 300 else f"{answer[:100]}.. of {len(answer)} bytes")
+
+
+SEGMENT = 16000
+MEBIBYTE = 1048576
+for piece in ("a", "%41"):
+    count = SEGMENT // len(piece)
+    letters = {"a": "a", "%41": "A"}[piece] * count
+    long("long GET", count, piece, "/containers/", "/json", f"inspect of {letters}")
+    long("long POST", count, piece, "/containers/", "/start", f"start of {letters}")
+long("long GET", SEGMENT - 2, "a", "/containers/", "%f/json", "400 message bad path")
+long("long GET", SEGMENT, "a", "/", "", "404 message page not found")
+long("long GET", SEGMENT // 2, "/a", "", "", "404 message page not found")
+long("long GET", SEGMENT // 4, "%2F", "/containers/", "/json", "inspect of " + "/" * (SEGMENT // 4))
+heading("of blanks in a query, read as a truth value, a number, a moment and a filter")
+for blank in ("+", "%20"):
+    count = SEGMENT // len(blank)
+    long("long GET", count, blank, "/containers/json?all=", "", "list: false, None, rows")
+    long("long GET", count, blank, "/containers/json?all=", "1", "list: true, None, rows")
+    long("long GET", count, blank, "/containers/json?limit=", "", "400 message bad limit")
+    long("long GET", count, blank, "/events?since=", "", "400 message bad time")
+    long("long GET", count, blank, "/containers/json?filters=", "", "400 message invalid filter")
+    long("long GET", count, blank, "/containers/json?filters=", "{}", "list: false, None, rows")
+long("long GET", SEGMENT // 2, "&a", "/containers/json?all=1", "", "list: true, None, rows")
+heading("bodies of a mebibyte: digits, blanks, nested lists and objects, and one byte more")
+for piece, count in (("1", MEBIBYTE), (" ", MEBIBYTE), ("[", MEBIBYTE), ('{"a":', MEBIBYTE // 5)):
+    ask(f"route|long body|/containers/create|{count}|{piece}||", "400 message bad JSON")
+ask(f"route|long body|/containers/a/exec|{MEBIBYTE}|[||", "400 message bad JSON")
+ask(f'route|long body|/volumes/create|{MEBIBYTE - 40}| |{{"Name":"|"}}', "400 message bad volume name")
+ask(f'route|long body|/containers/create|{MEBIBYTE - 40}|1|{{"Image":|}}', "400 message bad JSON")
+ask(f'route|long body|/containers/create|{MEBIBYTE - 40}| |{{"Image":"engine/tools"|}}', create("(none)", "engine/tools"))
+ask(f"route|long body|/containers/create|{MEBIBYTE + 1}|1||", "no request")

@@ -1,4 +1,4 @@
-"""Ids, moments, names, signals, truth values, policies and parts of texts."""
+"""Ids, moments, names, signals, truth values, policies, delays and parts of texts."""
 from lines import *
 
 heading("ids: 24 bytes of a ChaCha20 keystream, and the number")
@@ -46,6 +46,9 @@ on-failure|-1=> Err(Bad)
 on-failure|2147483648=> Err(Bad)
 No|0=> Err(Bad)
 """)
+heading("delays double up to a minute")
+for delay, after in ((0, 100), (100, 200), (32000, 60000), (60000, 60000)):
+    ask(f"text|delay|{delay}", f"Again({after})")
 heading("a part is found wherever it stands")
 each("text|part|abab|", ["", "a", "ab", "bab", "abab", "b"], "yes")
 each("text|part|abab|", ["c", "ba ", "abb", "ababa"], "no")

@@ -15,6 +15,10 @@ import reading
 import writing
 import programs
 import tables
+import journal
+import frames
+import kept
+import ports
 
 HERE = pathlib.Path(__file__).parent
 (HERE / "stdin").write_bytes("".join(f"{question}\n" for question, _ in LINES).encode())

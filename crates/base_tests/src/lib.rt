@@ -1,4 +1,4 @@
-//! What no contract and no run says of the libraries below the daemon.
+//! What needs threads that run at once.
 #![tactic(auto)]
 
 #[cfg(test)]

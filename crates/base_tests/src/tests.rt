@@ -1,15 +1,1 @@
-mod checks;
-mod connections;
-mod copies;
-mod delays;
-mod execs;
-mod frames;
-mod journals;
-mod lines;
-mod ports;
-mod responses;
-mod ring;
-mod sockets;
 mod turns;
-mod values;
-mod volumes;

@@ -3,10 +3,14 @@
 #![tactic(auto)]
 
 mod course;
+mod crowd;
 mod door;
+mod pattern;
+mod peer;
 mod ports;
 mod run;
 mod scenario;
+mod sockets;
 mod talk;
 
 use scenario::Scenario;

@@ -2,23 +2,24 @@
 ghost use Rattle.std.specs.Prelude.{◌<◌};
 
 use crate::course::Course;
+use crate::crowd::tell_crowd;
 use crate::door::TalkDoor;
 use crate::scenario::{Coming, Scenario};
+use crate::sockets::{tell_course, tell_taken};
 use crate::talk::{MOMENT, read_talk};
-use engine_ports::{MemSink, MemSource, NoDoor, NoMemory, StepClock};
+use engine_ports::{Door, MemSink, MemSource, NoDoor, NoMemory, StepClock};
 use engine_program::run_engined;
 use engine_text::Text;
 use std::fs;
 use std::io::{self, Write};
-use std::rt::Files;
 use std::sync::Wait;
 use std::thread::Threads;
 
-/// What a run ended with.
+/// What a run ended with, and what it wrote but to connections.
 #[derive(Drop)]
-struct Ran {
-    status: u8,
-    sink: MemSink,
+pub struct Ran {
+    pub status: u8,
+    pub sink: MemSink,
 }
 
 // Runs the daemon over these bytes, at most `cut` of them at once; that pause is answered by a stop.
@@ -85,16 +86,15 @@ fn tell_cuts<R: Threads + Wait + Sync + AllocGlobal + Print>(
     println!(rt; "{as_cut} cuts: status 3, nothing written")
 }
 
-// Runs the daemon behind a door through which the connections of a talk come.
-fn run_talk<R: Threads + Wait + Sync + AllocGlobal>(
+/// Runs the daemon behind this door, with nothing on standard input.
+pub fn run_behind<R: Threads + Wait + Sync + AllocGlobal, D: Door>(
     rt: &R,
     words: &[Text],
-    course: &Course,
+    door: &mut D,
 ) -> Result<Ran, NoMemory> {
     let mut source = MemSource::new(rt.alloc(), b"", 1, &[])?;
     let mut sink = MemSink::new(rt.alloc(), &[])?;
     let mut clock = StepClock::new(MOMENT, 0, None);
-    let mut door = TalkDoor::new(rt, rt.alloc(), course);
     let status = run_engined(
         rt,
         rt.alloc(),
@@ -102,9 +102,18 @@ fn run_talk<R: Threads + Wait + Sync + AllocGlobal>(
         &mut source,
         &mut sink,
         &mut clock,
-        &mut door,
+        door,
     );
     Ok(Ran { status, sink })
+}
+
+// Runs the daemon behind a door through which the connections of a talk come.
+fn run_talk<R: Threads + Wait + Sync + AllocGlobal>(
+    rt: &R,
+    words: &[Text],
+    course: &Course,
+) -> Result<Ran, NoMemory> {
+    run_behind(rt, words, &mut TalkDoor::new(rt, rt.alloc(), course))
 }
 
 // Tells what the connections of a talk were written, slot behind slot.
@@ -128,10 +137,7 @@ fn tell_talk<R: Threads + Wait + Sync + AllocGlobal + Print>(
 }
 
 /// Runs a scenario and tells what came of it.
-pub fn tell<R: Threads + Wait + Sync + AllocGlobal + Files + Print>(
-    rt: &R,
-    scenario: &Scenario,
-) -> io::Result<()> {
+pub fn tell(rt: &HostRuntime, scenario: &Scenario) -> io::Result<()> {
     let words = scenario.words.as_slice();
     let name = scenario.name.as_str();
     let bytes = fs::read(rt, name)?;
@@ -163,6 +169,18 @@ pub fn tell<R: Threads + Wait + Sync + AllocGlobal + Files + Print>(
         Coming::Talk => {
             println!(rt; "== {name}")?;
             tell_talk(rt, words, bytes)
+        }
+        Coming::Crowd => {
+            println!(rt; "== {name} at once")?;
+            tell_crowd(rt, words, bytes)
+        }
+        Coming::Sockets => {
+            println!(rt; "== {name} over sockets")?;
+            tell_course(rt, words, bytes)
+        }
+        Coming::Taken => {
+            println!(rt; "== {name} at a taken port")?;
+            tell_taken(rt, words)
         }
     }
 }

@@ -18,6 +18,12 @@ pub enum Coming {
     StoppedPause(u64),
     /// In the slots of several connections.
     Talk,
+    /// Of several connections at once, through a door in memory.
+    Crowd,
+    /// Of several connections over sockets.
+    Sockets,
+    /// Not at all, since the port is taken.
+    Taken,
 }
 
 /// A file of `data/`, how its bytes come, and the words of the daemon's line.
@@ -28,13 +34,22 @@ pub struct Scenario {
     pub words: Vec<Text>,
 }
 
-// `cuts`, `talk`, `pieces=N`, `read=N`, `write=N` or `stop=N`.
-fn read_coming(word: &str) -> Option<Coming> {
-    if word == "cuts" {
-        return Some(Coming::Cuts);
+// `cuts`, `talk`, `crowd`, `sockets` or `taken`.
+fn read_word(word: &str) -> Option<Coming> {
+    match word {
+        "cuts" => Some(Coming::Cuts),
+        "talk" => Some(Coming::Talk),
+        "crowd" => Some(Coming::Crowd),
+        "sockets" => Some(Coming::Sockets),
+        "taken" => Some(Coming::Taken),
+        _ => None,
     }
-    if word == "talk" {
-        return Some(Coming::Talk);
+}
+
+// Such a word, or `pieces=N`, `read=N`, `write=N` or `stop=N`.
+fn read_coming(word: &str) -> Option<Coming> {
+    if let Some(coming) = read_word(word) {
+        return Some(coming);
     }
     let (key, number) = word.split_once('=')?;
     match key {
@@ -46,8 +61,8 @@ fn read_coming(word: &str) -> Option<Coming> {
     }
 }
 
-// A text in memory of its own.
-fn owned(alloc: Global, text: &str) -> Result<Text, AllocError> {
+/// A text in memory of its own.
+pub fn owned(alloc: Global, text: &str) -> Result<Text, AllocError> {
     Ok(Text::from_string(String::from_str(alloc, text)?))
 }
 

@@ -65,9 +65,8 @@ fn read_head(line: &str) -> Option<Head> {
     })
 }
 
-// The bytes of a slot, and what follows behind the end of their line. Without bytes there is no
-// such line.
-fn cut(text: &str, count: usize) -> Option<(&str, &str)> {
+/// So many bytes that stand behind a line, and what follows behind the end of theirs. Without bytes there is no such line.
+pub fn cut(text: &str, count: usize) -> Option<(&str, &str)> {
     if count == 0 {
         return Some(("", text));
     }

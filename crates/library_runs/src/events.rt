@@ -18,10 +18,11 @@ fn shown(alloc: Global, event: &Event) -> Result<String, Short> {
     )?)
 }
 
-// The event of a line, where its line is written and read again the same.
+// The event of a line, where the line of its copy is the same, and is read again.
 fn read_twice(alloc: Global, line: &[u8]) -> Result<Option<Event>, Refused> {
     let event = read_event_line(alloc, line)?;
-    let written = event_line(alloc, &event)?;
+    let copy = event.copy(alloc)?;
+    let written = event_line(alloc, &copy)?;
     if written.as_slice() != line {
         return Ok(None);
     }

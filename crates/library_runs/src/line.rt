@@ -28,3 +28,14 @@ pub fn owned(alloc: Global, text: &str) -> Result<String, Short> {
 pub fn as_text(bytes: &[u8]) -> &str {
     str::from_utf8(bytes).unwrap_or("(no UTF-8)")
 }
+
+/// The bytes whose numbers stand in a field; what is no byte is passed over.
+pub fn bytes_of(alloc: Global, field: &str) -> Result<Vec<u8>, Short> {
+    let mut bytes = Vec::new(alloc);
+    for word in field.split_whitespace() {
+        if let Ok(byte) = word.parse::<u8>() {
+            bytes.push(byte)?;
+        }
+    }
+    Ok(bytes)
+}

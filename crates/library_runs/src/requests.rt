@@ -72,13 +72,21 @@ fn filled(
     Ok(text)
 }
 
-// The bytes of `COUNT|PIECE|BEFORE|AFTER`.
-fn fill(alloc: Global, rest: &str) -> Result<String, Short> {
+/// The bytes of `COUNT|PIECE|BEFORE|AFTER`: the piece so often, between the two.
+pub fn fill(alloc: Global, rest: &str) -> Result<String, Short> {
     let (count, rest) = cut(rest);
     let (piece, rest) = cut(rest);
     let (before, after) = cut(rest);
-    let text = filled(alloc, before, number(count), piece, after)?;
-    spelled(alloc, text.as_str())
+    let piece = spelled(alloc, piece)?;
+    let before = spelled(alloc, before)?;
+    let after = spelled(alloc, after)?;
+    filled(
+        alloc,
+        before.as_str(),
+        number(count),
+        piece.as_str(),
+        after.as_str(),
+    )
 }
 
 // What comes of filled bytes in pieces of a size.

@@ -1,5 +1,6 @@
 // The classes of requests.
 use crate::line::{cut, owned, spelled};
+use crate::requests::fill;
 use crate::short::Short;
 use crate::shown;
 use api_routes::{Class, DirectAnswer, DirectKind, Routes, Takeover};
@@ -8,10 +9,11 @@ use engine_text::{AttachAsk, Call, Filter, LogAsk, Signal, Text};
 use http_edge::{Next, RequestReader};
 use std::alloc::Global;
 
-// The class of the first request of these bytes, if there is one, as it is read in pieces of seven bytes.
+// The class of the first request of these bytes, if there is one, as it is read in pieces of seven bytes, or of 4096 where it is long.
 fn class_read(alloc: Global, bytes: &[u8]) -> Result<Option<Class>, Short> {
     let routes = Routes::new(alloc)?;
-    let mut source = MemSource::new(alloc, bytes, 7, &[])?;
+    let cut = if bytes.len() < 10_000 { 7 } else { 4096 };
+    let mut source = MemSource::new(alloc, bytes, cut, &[])?;
     let mut reader = RequestReader::new(alloc)?;
     match reader.next(&mut source) {
         Next::Request(request) => Ok(Some(routes.classify(alloc, &request)?)),
@@ -153,12 +155,44 @@ fn asked(alloc: Global, bytes: &[u8]) -> Result<String, Short> {
     }
 }
 
-/// What a request asks for: one that is spelled, or that of a method, a target and a body.
+// The bytes of a request to a target that is filled as `COUNT|PIECE|BEFORE|AFTER` says.
+fn long_target(alloc: Global, method: &str, rest: &str) -> Result<String, Short> {
+    let target = fill(alloc, rest)?;
+    request_text(alloc, method, target.as_str())
+}
+
+// The bytes of one with a filled body, of `TARGET|COUNT|PIECE|BEFORE|AFTER`.
+fn long_body(alloc: Global, rest: &str) -> Result<String, Short> {
+    let (target, rest) = cut(rest);
+    let body = fill(alloc, rest)?;
+    let field = format!(in alloc; "{target}|{}", body.as_str())?;
+    request_text(alloc, "POST", field.as_str())
+}
+
+// What is told of long requests: a text of more than 300 bytes by its front and how many bytes it has.
+fn shortened(alloc: Global, told: &str) -> Result<String, Short> {
+    match told.split_at_checked(100) {
+        Some((front, rest)) if 200 < rest.len() => {
+            Ok(format!(in alloc; "{front}.. of {} bytes", told.len())?)
+        }
+        _ => owned(alloc, told),
+    }
+}
+
+// The bytes of a request: one that is spelled, one that is long, or that of a method, a target and a body.
+fn text_of(alloc: Global, method: &str, rest: &str) -> Result<String, Short> {
+    match method {
+        "spelled" => spelled(alloc, rest),
+        "long GET" => long_target(alloc, "GET", rest),
+        "long POST" => long_target(alloc, "POST", rest),
+        "long body" => long_body(alloc, rest),
+        _ => request_text(alloc, method, rest),
+    }
+}
+
+/// What a request asks for.
 pub fn told(alloc: Global, method: &str, rest: &str) -> Result<String, Short> {
-    let text = if method == "spelled" {
-        spelled(alloc, rest)?
-    } else {
-        request_text(alloc, method, rest)?
-    };
-    asked(alloc, text.as_bytes())
+    let text = text_of(alloc, method, rest)?;
+    let told = asked(alloc, text.as_bytes())?;
+    shortened(alloc, told.as_str())
 }

@@ -1,12 +1,13 @@
-// Ids, moments, names, signals, truth values, policies and parts of texts.
+// Ids, moments, names, signals, truth values, policies, delays and parts of texts.
 ghost use Rattle.engine_text.specs.Moment.{IsMoment};
 
 use crate::line::{as_text, cut, number, owned, spelled};
 use crate::short::Short;
 use engine_text::{
-    Signal, has_part, id_of, is_name, is_volume_name, moment_text, query_bool, read_policy,
+    Policy, Signal, has_part, id_of, is_name, is_volume_name, moment_text, query_bool, read_policy,
     read_signal, signal_name,
 };
+use restart_policy::decide;
 use std::alloc::Global;
 
 // The seed of zeros, or the one whose bytes count from 0 to 31.
@@ -49,6 +50,12 @@ fn policy(alloc: Global, rest: &str) -> Result<String, Short> {
     Ok(format!(in alloc; "{policy:?}")?)
 }
 
+// What becomes of a container that is always started again, behind a delay of so many milliseconds.
+fn decision(alloc: Global, delay: &str) -> Result<String, Short> {
+    let decision = decide(&Policy::Always, 0, 0, 0, number(delay), false);
+    Ok(format!(in alloc; "{decision:?}")?)
+}
+
 // The name of the signal of a number.
 fn name_of(alloc: Global, field: &str) -> Result<String, Short> {
     let number = field.parse().unwrap_or(0);
@@ -89,6 +96,7 @@ pub fn told(alloc: Global, kind: &str, rest: &str) -> Result<String, Short> {
         "signal name" => name_of(alloc, rest),
         "truth" => truth(alloc, rest),
         "policy" => policy(alloc, rest),
+        "delay" => decision(alloc, rest),
         "part" => part(alloc, rest),
         _ => owned(alloc, "no such kind"),
     }
