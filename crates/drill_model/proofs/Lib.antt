@@ -2,4 +2,3 @@ pub mod SpellingLemmas
 pub mod AskedLemmas
 pub mod ClassLemmas
 pub mod UnrefusedLemmas
-pub mod DrillLemmas

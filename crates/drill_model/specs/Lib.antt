@@ -2,4 +2,3 @@ pub mod Source
 pub mod Requests
 pub mod Answers
 pub mod Report
-pub mod Running

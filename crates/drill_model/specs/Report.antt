@@ -1,12 +1,7 @@
--- The report of a drill: what its requests came to (own).
-use Rattle.std.specs.Prelude.{ℕ, zero, suc, ◌≡◌, ◌+◌, List, [], ◌∷◌, ◌++◌, length, codes, decimal}
-use Rattle.engine_text.specs.declared.step.Step.{Step}
-use Rattle.machine_model.specs.History.{Charter, events_of, state_after}
-use Rattle.journal_lines.specs.Verdict.{IsVerdict}
+-- The lines of a drill's report (own).
+use Rattle.std.specs.Prelude.{ℕ, zero, suc, ◌+◌, List, [], ◌∷◌, ◌++◌, codes, decimal}
 use Rattle.journal_lines.specs.declared.verdict.Verdict.{Verdict}
 use Rattle.journal_lines.specs.declared.verdict.Verdict.TheVariants.{Legal, Illegal, BadLine}
-use Rattle.history_replay.specs.Legal.{journal_of, steps_told}
-use Rattle.drill_model.specs.Answers.{HaveStatuses, counts_of}
 
 -- a line: a word and a text, or a word and a number
 abbrev pub text_line : List ℕ → List ℕ → List ℕ
@@ -45,13 +40,3 @@ abbrev pub report_by : ℕ → List ℕ → ℕ → ℕ → Verdict → List ℕ
 report_by requests counts events containers verdict =
     number_line (codes "requests") requests ++ status_lines 0 counts ++ number_line (codes "events") events
     ++ number_line (codes "containers") containers ++ verdict_lines verdict
-
--- the text is the report of so many requests, of what was written and of the history that they led to
-pub record IsReport (ch : Charter) (requests : ℕ) (written : List ℕ) (h : List Step) (text : List ℕ) : Type 0 where
-  pub statuses : List ℕ
-  pub answered : HaveStatuses written statuses
-  -- what is said of the history's whole journal: it is legal, with the steps up to the last call
-  pub verdict : Verdict
-  pub judged : IsVerdict ch (journal_of ch h) verdict
-  pub legal : verdict ≡ Legal (steps_told ch h)
-  pub text_is : text ≡ report_by requests (counts_of statuses) (length (events_of ch h)) (length (state_after ch h).containers) verdict

@@ -2,7 +2,5 @@
 #![tactic(auto)]
 
 mod deed;
-mod drill;
 
 pub use deed::{Deed, Program};
-pub use drill::{Drill, Drilled};

@@ -3,4 +3,3 @@ pub mod MakingLemmas
 pub mod AnswerLemmas
 pub mod TallyLemmas
 pub mod LineLemmas
-pub mod JournalLemmas

@@ -1,15 +1,10 @@
--- Words and requests of a drill, by themselves, and whose calls its history has (RFC 8439, section 2.3, with the stream's
--- number as the nonce; RFC 9112, section 2.1).
+-- Words and requests of a drill, by themselves (RFC 8439, section 2.3, with the stream's number as the nonce; RFC 9112,
+-- section 2.1).
 use Rattle.std.proofs.Common.{◌≡◌, ℕ, refl, replicate, codes}
 use Rattle.std.specs.Fmt.{digits}
 use Rattle.rand_core.specs.Steps.{u32_at}
 use Rattle.rand_chacha.specs.Block.{block_word, double_rounds, diagonal_round, column_round, quarter_round}
-use Rattle.engine_ports.specs.Clock.{ClockView}
-use Rattle.machine_model.specs.History.{Charter, HasNoCall, input_of}
-use Rattle.session_model.specs.declared.ending.Ending.{Ending}
-use Rattle.daemon_core.proofs.OwnFacts.{no_other}
 use Rattle.drill_model.specs.Requests.{drill_word, request_of}
-use Rattle.drill_model.specs.Running.{Session}
 
 -- the first word under the seed of zeros
 first_word : drill_word (replicate 32 0) 0 ≡ 1925117666
@@ -46,10 +41,3 @@ lists = refl
 inspects : request_of 31 ≡ codes "GET /v1.43/containers/box-1/json HTTP/1.1\r\nHost: x\r\n\r\n"
 unfolding request_of digits
 inspects = refl
-
--- ---- its history
-
--- all calls are its session's
-pub all_own : (ch : Charter) (requests : ℕ) (e : Ending) (t t' : ClockView) (s : Session ch requests e t t') (n : ℕ)
-    → (n ≡ 0 → ⊥) → (n ≡ input_of 0 → ⊥) → HasNoCall n s.history
-all_own ch requests e t t' s n other no_input = no_other 0 n other no_input ch s.history (s.serves.adds refl)

@@ -1,17 +1,16 @@
-//! A drill: requests by chance on one session, whose journal is checked, and what they came to.
+//! The requests of a drill, made by chance, their answers counted, and the lines of its report.
 #![tactic(auto)]
 
 mod answers;
 mod counting;
 mod deed;
-mod drilling;
 mod given;
-mod judging;
 mod lines;
 mod making;
 mod reporting;
 mod request;
 
-pub use drilling::drilled;
+pub use counting::tally;
 pub use given::Given;
 pub use making::requests;
+pub use reporting::report;

@@ -8,9 +8,9 @@ use Rattle.machine_model.specs.History.{Charter}
 use Rattle.session_model.specs.declared.ending.Ending.{Ending}
 use Rattle.session_model.specs.declared.ending.Ending.TheVariants as E
 use Rattle.engine_serve.specs.OwnClock.{unstopped}
-use Rattle.drill_model.specs.declared.drill.Drilled.{Drilled}
-use Rattle.drill_model.specs.declared.drill.Drilled.TheVariants.{Reported, Ended}
-use Rattle.drill_model.proofs.DrillLemmas.{unrefused}
+use Rattle.drill_session.specs.declared.drill.Drilled.{Drilled}
+use Rattle.drill_session.specs.declared.drill.Drilled.TheVariants.{Reported, Ended}
+use Rattle.drill_session.proofs.DrillLemmas.{unrefused}
 use Rattle.drill_model.proofs.UnrefusedLemmas.{IsUnrefused}
 use Rattle.engine_program.specs.Statuses.{status_of}
 use Rattle.engine_program.specs.Drilling.{DrillsBy, TellsDrilled}

@@ -23,9 +23,9 @@ use Rattle.daemon_core.specs.Storing.{pass_of}
 use Rattle.daemon_core.proofs.OwnFacts.{no_other}
 use Rattle.engine_serve.specs.OwnClock.{unstopped}
 use Rattle.daemon_shared.specs.Running.{ServesBy}
-use Rattle.drill_model.specs.declared.drill.Drilled.{Drilled}
-use Rattle.drill_model.specs.declared.drill.Drilled.TheVariants.{Reported, Ended}
-use Rattle.drill_model.proofs.DrillLemmas.{no_read_fault, stopped_by}
+use Rattle.drill_session.specs.declared.drill.Drilled.{Drilled}
+use Rattle.drill_session.specs.declared.drill.Drilled.TheVariants.{Reported, Ended}
+use Rattle.drill_session.proofs.DrillLemmas.{no_read_fault, stopped_by}
 use Rattle.engine_program.specs.Opening.{charter_by, steps_of}
 use Rattle.engine_program.specs.Statuses.{status_of}
 use Rattle.engine_program.specs.Drilling.{DrillsBy, TellsDrilled, RunsDrill}

@@ -9,9 +9,9 @@ use Rattle.engine_line.specs.declared.line.Line.{Line}
 use Rattle.machine_model.specs.History.{Charter}
 use Rattle.session_model.specs.declared.ending.Worst.TheVariants as worst
 use Rattle.engine_serve.specs.OwnClock.{unstopped}
-use Rattle.drill_model.specs.Running.{Drills}
-use Rattle.drill_model.specs.declared.drill.Drilled.{Drilled}
-use Rattle.drill_model.specs.declared.drill.Drilled.TheVariants.{Reported, Ended}
+use Rattle.drill_session.specs.Running.{Drills}
+use Rattle.drill_session.specs.declared.drill.Drilled.{Drilled}
+use Rattle.drill_session.specs.declared.drill.Drilled.TheVariants.{Reported, Ended}
 use Rattle.engine_program.specs.Opening.{charter_by, steps_of, OpensAt}
 use Rattle.engine_program.specs.Statuses.{status_by, status_of}
 

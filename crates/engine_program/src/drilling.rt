@@ -1,15 +1,14 @@
 // A line that drills.
 ghost use Rattle.std.specs.Prelude.{◌≡◌, ◌≤◌};
 ghost use Rattle.machine_model.specs.History.{greatest_moment};
-ghost use Rattle.drill_model.specs.Running as spec;
+ghost use Rattle.drill_session.specs.Running as spec;
 ghost use Rattle.engine_program.specs.Opening.{StartsWithin};
 ghost use Rattle.engine_program.specs.Drilling.{DrillsBy, RunsDrill, TellsDrilled, status_written};
 
 use crate::opening::{opening_by, steps_of};
 use crate::status::status_by;
 use daemon_shared::called_by;
-use drill_model::{Drill, Drilled};
-use engine_drill::drilled;
+use drill_session::{Drill, Drilled, drilled};
 use engine_line::Line;
 use engine_ports::{Clock, Failed, Sink};
 use engine_serve::OwnClock;

@@ -2,7 +2,7 @@ use Rattle.std.proofs.Common.{◌∙◌, ℕ, List, subst, sym}
 use Rattle.std.specs.Prelude.{Result, Ok}
 use Rattle.engine_ports.specs.Sink.{WriteSays}
 use Rattle.engine_text.specs.declared.memory.NoMemory.{NoMemory}
-use Rattle.drill_model.specs.declared.drill.Drilled.{Drilled}
+use Rattle.drill_session.specs.declared.drill.Drilled.{Drilled}
 use Rattle.engine_program.specs.Drilling.{TellsDrilled}
 use Rattle.engine_program.proofs.drilling.tell_drilled.Goals as goal
 

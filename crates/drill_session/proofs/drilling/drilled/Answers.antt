@@ -5,10 +5,9 @@ use Rattle.engine_text.specs.declared.step.Step.{Step}
 use Rattle.session_model.specs.Pass.{PassView}
 use Rattle.daemon_core.specs.Keeping.{history_of}
 use Rattle.daemon_core.specs.Passing.{charter, alone_pass}
-use Rattle.drill_model.specs.Report.{IsReport}
-use Rattle.drill_model.specs.Running.{charter_by, Session}
-use Rattle.drill_model.proofs.DrillLemmas.{session_of, wants}
-use Rattle.engine_drill.proofs.drilling.drilled.Goals as goal
+use Rattle.drill_session.specs.Running.{charter_by, IsReport, Session}
+use Rattle.drill_session.proofs.DrillLemmas.{session_of, wants}
+use Rattle.drill_session.proofs.drilling.drilled.Goals as goal
 
 pub returns-in_err-text-in-Closed : goal.returns-in_err-text-in-Closed
 returns-in_err-text-in-Closed g c =

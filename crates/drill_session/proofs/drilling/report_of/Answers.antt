@@ -10,8 +10,8 @@ use Rattle.daemon_core.specs.Keeping.{history_of}
 use Rattle.daemon_core.specs.Passing.{charter}
 use Rattle.drill_model.specs.Answers.{counts_of}
 use Rattle.drill_model.specs.Report.{report_by}
-use Rattle.drill_model.specs.Running.{charter_by}
-use Rattle.engine_drill.proofs.drilling.report_of.Goals as goal
+use Rattle.drill_session.specs.Running.{charter_by}
+use Rattle.drill_session.proofs.drilling.report_of.Goals as goal
 
 pub returns : goal.returns
 returns c =

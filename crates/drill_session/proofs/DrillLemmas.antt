@@ -19,8 +19,8 @@ use Rattle.session_model.proofs.CauseLemmas.{causes}
 use Rattle.daemon_core.specs.Storing.{pass_of}
 use Rattle.drill_model.specs.Source.{Supply, full_source, empty_sink}
 use Rattle.drill_model.specs.Requests.{drill_requests}
-use Rattle.drill_model.specs.Running.{Session, Drills}
-use Rattle.drill_model.specs.declared.drill.Drilled.{Drilled}
+use Rattle.drill_session.specs.Running.{Session, Drills}
+use Rattle.drill_session.specs.declared.drill.Drilled.{Drilled}
 use Rattle.drill_model.proofs.UnrefusedLemmas.{IsUnrefused, ends_unrefused}
 
 -- what was served is the session

@@ -4,7 +4,7 @@ use Rattle.journal_lines.specs.Entries.{history_entries}
 use Rattle.journal_lines.specs.JournalLines.{journal_line}
 use Rattle.daemon_core.specs.Keeping.{history_of}
 use Rattle.daemon_core.specs.Passing.{charter}
-use Rattle.engine_drill.proofs.judging.journal_text.Given as goal
+use Rattle.drill_session.proofs.judging.journal_text.Given as goal
 
 abbrev pub invariant-lines : goal.invariant-lines
 invariant-lines l =

@@ -7,8 +7,8 @@ use Rattle.session_model.specs.declared.turned.Part.TheVariants.{Whole, Gone}
 use Rattle.daemon_core.specs.JournalTurns.{JournalSays}
 use Rattle.daemon_core.specs.Keeping.{history_of}
 use Rattle.daemon_core.specs.Passing.{charter}
-use Rattle.engine_drill.proofs.JournalLemmas.{one_line, all_lines}
-use Rattle.engine_drill.proofs.judging.journal_text.Goals as goal
+use Rattle.drill_session.proofs.JournalLemmas.{one_line, all_lines}
+use Rattle.drill_session.proofs.judging.journal_text.Goals as goal
 
 pub lines-init : goal.lines-init
 lines-init c = (c.new-text.ensures.items, omega arith)

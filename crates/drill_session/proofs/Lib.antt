@@ -1,0 +1,3 @@
+pub mod DrillLemmas
+pub mod JournalLemmas
+pub mod StandardFacts
