@@ -3,8 +3,9 @@
 
 Usage: soak.py PATH_OF_ENGINED [--scale N] [--seconds N] [PART ..]
 
-Parts: short, beside, idle, resets, followers, inspect, attaches; all of them where none is named. Each is bounded in count,
-and in time by --seconds (600); --scale divides its counts, for a daemon that is built to find faults and not for speed.
+Parts: short, beside, idle, resets, gone, followers, inspect, attaches, scarce, closed; all of them where none is named. Each is
+bounded in count, and in time by --seconds (600); --scale divides its counts, for a daemon that is built to find faults and not for
+speed.
 Each prints its figures, and ok or FAILED; the status is 1 where one failed. Loopback alone, python3 alone.
 """
 import argparse
@@ -33,11 +34,12 @@ class TooLong(Exception):
 class Daemon:
     """A daemon of one part, and what the system tells of it."""
 
-    def __init__(self, program, *words):
+    def __init__(self, program, before=""):
+        """`before` is what a shell does before it becomes the daemon."""
         with socket.create_server((LOOPBACK, 0)) as place:
             self.port = place.getsockname()[1]
-        line = [program, "--listen", f"{LOOPBACK}:{self.port}", *words]
-        self.started = subprocess.Popen(line, stdin=subprocess.DEVNULL, stdout=subprocess.DEVNULL)
+        line = f'{before} exec "$0" --listen {LOOPBACK}:{self.port}'
+        self.started = subprocess.Popen(["sh", "-c", line, program], stdin=subprocess.DEVNULL, stdout=subprocess.DEVNULL)
         for _ in range(600):
             try:
                 self.ask("GET", "/_ping")
@@ -147,8 +149,8 @@ def told(what, seen):
 class Part:
     """A part that runs: its daemon, its scale, and its end."""
 
-    def __init__(self, program, scale, seconds):
-        self.daemon = Daemon(program)
+    def __init__(self, program, before, scale, seconds):
+        self.daemon = Daemon(program, before)
         self.scale = scale
         self.end = time.monotonic() + seconds
 
@@ -278,15 +280,94 @@ def resets(part):
         count = part.count(250)
         for _ in range(count):
             reset(begin(daemon))
-            # a stream meets its peer's end at its next write
-            daemon.ask("POST", "/volumes/create", b'{"Name":"v"}')
-            daemon.ask("DELETE", "/volumes/v")
             if not daemon.falls_to(before):
                 good = False
                 break
             part.check_time()
         print(f"  {count} in the middle of {begin.__name__.replace('_', ' ')}: threads {before} before, {daemon.threads()} behind them")
     return good
+
+
+def a_wait(daemon):
+    link = daemon.link()
+    link.sendall(request("POST", "/containers/deaf/wait"))
+    return link
+
+
+def a_wait_with_its_head(daemon):
+    link = daemon.link()
+    link.sendall(request("POST", "/containers/deaf/wait", b"", "X-Engine-Early: wait"))
+    read_head(link)
+    return link
+
+
+def a_followed_log(daemon):
+    link = daemon.link()
+    link.sendall(request("GET", "/containers/deaf/logs?follow=1&stdout=1"))
+    read_head(link)
+    return link
+
+
+def an_attach_without_input(daemon):
+    link = daemon.link()
+    link.sendall(request("POST", "/containers/deaf/attach?stream=1&stdout=1", b"", "Connection: Upgrade", "Upgrade: tcp"))
+    read_head(link)
+    return link
+
+
+def gone(part):
+    """Fifty each that wait while nothing is to be written, all reset; and one that ended its writing, and is answered."""
+    daemon = part.daemon
+    daemon.run("deaf", "deaf")
+    daemon.ask("GET", "/_ping")
+    before = daemon.threads()
+    good = True
+    for begin in (a_wait, a_wait_with_its_head, a_followed_log, a_stream, an_attach_without_input):
+        count = part.count(50)
+        links = [begin(daemon) for _ in range(count)]
+        time.sleep(1)
+        held = daemon.threads()
+        for link in links:
+            reset(link)
+        fell = daemon.falls_to(before, 10)
+        print(f"  {count} of {begin.__name__.replace('_', ' ')}: threads {before} before, {held} with them, {daemon.threads()} behind them")
+        good &= fell and held >= before + count
+        part.check_time()
+    link = a_wait(daemon)
+    link.shutdown(socket.SHUT_WR)
+    time.sleep(2)
+    daemon.ask("POST", "/containers/deaf/kill")
+    answer = read_to_end(link)
+    print(f"  one that ended its writing: {answer.splitlines()[0].decode() if answer else 'no answer'}")
+    return good and b'"StatusCode":137' in answer
+
+
+def scarce(part):
+    """80 connections at a daemon of 64 descriptors, for ten seconds."""
+    daemon = part.daemon
+    before = daemon.threads()
+    links = [daemon.link() for _ in range(80)]
+    time.sleep(10)
+    held = daemon.threads()
+    for link in links:
+        link.close()
+    fell = daemon.falls_to(before + 1)
+    print(f"  threads {before} before, {held} with them, {daemon.threads()} behind them, where pings are answered")
+    return fell and daemon.started.poll() is None
+
+
+def closed(part):
+    """A daemon without standard streams: what a container writes goes to none of its connections."""
+    daemon = part.daemon
+    links = [daemon.link() for _ in range(4)]
+    daemon.run("says", "echo", "words")
+    daemon.ask("POST", "/containers/says/wait")
+    log = daemon.ask("GET", "/containers/says/logs?stdout=1")
+    for link in links:
+        link.sendall(request("GET", "/_ping", b"", "Connection: close"))
+    answers = [read_to_end(link) for link in links]
+    print(f"  a log of {len(log)} bytes; {len(set(answers))} kind of answers, of {len(answers[0])} bytes")
+    return b"words" in log and len(set(answers)) == 1 and answers[0].endswith(b"OK")
 
 
 def followers(part):
@@ -388,7 +469,11 @@ def attaches(part):
     return fell
 
 
-PARTS = {part.__name__: part for part in (short, beside, idle, resets, followers, inspect, attaches)}
+PARTS = {
+    part.__name__: part
+    for part in (short, beside, idle, resets, gone, followers, inspect, attaches, scarce, closed)
+}
+BEFORE = {"scarce": "ulimit -n 64;", "closed": "exec <&- >&- 2>&-;"}
 
 
 def main():
@@ -406,7 +491,7 @@ def main():
     failed = False
     for name in asked.parts or PARTS:
         print(f"{name}: {PARTS[name].__doc__}", flush=True)
-        part = Part(os.path.abspath(asked.program), asked.scale, asked.seconds)
+        part = Part(os.path.abspath(asked.program), BEFORE.get(name, ""), asked.scale, asked.seconds)
         try:
             good = PARTS[name](part)
         except (TooLong, OSError, SystemExit) as fault:

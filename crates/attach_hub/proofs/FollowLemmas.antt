@@ -1,5 +1,5 @@
 -- Following a stream goes on, and ends.
-use Rattle.std.proofs.Common.{◌≡◌, ◌≤◌, max, ℕ, List, [], ◌∷◌, ◌++◌, refl, sym, ◌∙◌, ap, subst, append_assoc, Bool, true, false, Err}
+use Rattle.std.proofs.Common.{◌≡◌, ◌≤◌, max, ℕ, List, [], ◌∷◌, ◌++◌, refl, sym, ◌∙◌, ap, subst, append_assoc, append-nil, Bool, true, false, Err}
 use Rattle.engine_ports.specs.Rose.{Rose}
 use Rattle.engine_ports.specs.Sink.{SinkView, SinkTook, WriteSays}
 use Rattle.engine_ports.specs.Clock.{ClockView, ClockHanded, ClockStood}
@@ -25,7 +25,7 @@ use Rattle.attach_hub.specs.Streams.{JournalPart, PartOf, PartSays, StandsIn, fi
 use Rattle.attach_hub.proofs.StandLemmas.{Stands, look_stands, stands_on, stands_pause, stands_same, turn_stands}
 use Rattle.attach_hub.proofs.PieceLemmas.{sent_more, sent_none}
 use Rattle.attach_hub.proofs.JournalTellLemmas.{JournalSaid}
-use Rattle.attach_hub.proofs.TellLemmas.{Said, SaidAt, Told, said_short, told_first, told_later, told_more, told_broken, told_either, told_gone, told_whole, told_timed, timed_same, ends_whole, ends_stopped, ends_failed, ends_short, whole_comes, stopped_comes, lapsed_comes, short_comes}
+use Rattle.attach_hub.proofs.TellLemmas.{Said, SaidAt, Told, said_short, told_first, told_later, told_more, told_broken, told_either, told_gone, told_whole, told_timed, timed_same, ends_whole, ends_stopped, ends_failed, ends_short, whole_comes, stopped_comes, lapsed_comes, short_comes, failed_comes}
 
 -- ---- where following stands
 
@@ -170,12 +170,17 @@ part_number k (reply.Begun ticket) place part old new p q v v' is (handed, clock
 part_number k (reply.Fed taken) place part old new p q v v' is (handed, clock, turn) = subst (λ n. IsNumber n k) (sym turn.turns.stays.number) is
 part_number k reply.Dropped place part old new p q v v' is (handed, clock, turn) = subst (λ n. IsNumber n k) (sym turn.turns.stays.number) is
 
+-- the same of a sink that is as it was
+sink_same : (base : List Step) (k : ℕ) (reply : Reply) (chunked : Bool) (p q : PassView) (u u1 u2 : SinkView) (v v' : ClockView) (place : ℕ)
+    → u2 ≡ u1 → Following base k reply chunked p q u u1 v v' place → Following base k reply chunked p q u u2 v v' place
+sink_same base k reply chunked p q u u1 u2 v v' place same f = subst (λ x. Following base k reply chunked p q u x v v' place) (sym same) f
+
 -- up to date, it pauses
-pub paused : (base : List Step) (k : ℕ) (reply : Reply) (chunked : Bool) (old new : List ℕ) (p q q2 : PassView) (u u' : SinkView) (v v0 v1 v2 : ClockView) (place : ℕ)
-    → Following base k reply chunked p q u u' v v0 place → PartOf k reply place P.UpToDate old new q q2 v0 v1
-    → ClockStood v1 v2 → Following base k reply chunked p q2 u u' v v2 place
-paused base k reply chunked old new p q q2 u u' v v0 v1 v2 place f turn stood =
-    let a = asked base k reply chunked P.UpToDate old new p q q2 u u' v v0 v1 place f turn in
+pub paused : (base : List Step) (k : ℕ) (reply : Reply) (chunked : Bool) (old new : List ℕ) (p q q2 : PassView) (u u1 u' : SinkView) (v v0 v1 v2 : ClockView) (place : ℕ)
+    → Following base k reply chunked p q u u1 v v0 place → PartOf k reply place P.UpToDate old new q q2 v0 v1
+    → (u' ≡ u1) × ClockStood v1 v2 → Following base k reply chunked p q2 u u' v v2 place
+paused base k reply chunked old new p q q2 u u1 u' v v0 v1 v2 place f turn (same, stood) =
+    let a = asked base k reply chunked P.UpToDate old new p q q2 u u' v v0 v1 place (sink_same base k reply chunked p q u u1 u' v v0 place same f) turn in
     record {
       from = a.now.from;
       stands = stands_pause k p q2 v v1 v2 a.now.stands stood;
@@ -208,12 +213,12 @@ more base k next reply chunked old new p q q2 u u1 u2 v v1 v2 place f turn empty
 
 -- ---- a stream that isn't whole
 
-pub stopped : (base : List Step) (k : ℕ) (reply : Reply) (chunked : Bool) (old new : List ℕ) (p q q2 : PassView) (u u' : SinkView) (v v0 v1 v2 : ClockView) (place : ℕ)
-    → Following base k reply chunked p q u u' v v0 place → PartOf k reply place P.UpToDate old new q q2 v0 v1
-    → ClockStood v1 v2 → Rose v1.stops v2.stops → FollowsFrom base k reply chunked F.Stopped p q2 u u' v v2
+pub stopped : (base : List Step) (k : ℕ) (reply : Reply) (chunked : Bool) (old new : List ℕ) (p q q2 : PassView) (u u1 u' : SinkView) (v v0 v1 v2 : ClockView) (place : ℕ)
+    → Following base k reply chunked p q u u1 v v0 place → PartOf k reply place P.UpToDate old new q q2 v0 v1
+    → (u' ≡ u1) × ClockStood v1 v2 × Rose v1.stops v2.stops → FollowsFrom base k reply chunked F.Stopped p q2 u u' v v2
 unfolding stands_pause
-stopped base k reply chunked old new p q q2 u u' v v0 v1 v2 place f turn stood rose =
-    let a = asked base k reply chunked P.UpToDate old new p q q2 u u' v v0 v1 place f turn in
+stopped base k reply chunked old new p q q2 u u1 u' v v0 v1 v2 place f turn (same, stood, rose) =
+    let a = asked base k reply chunked P.UpToDate old new p q q2 u u' v v0 v1 place (sink_same base k reply chunked p q u u1 u' v v0 place same f) turn in
     let stands = stands_pause k p q2 v v1 v2 a.now.stands stood in
     record {
       moves = stands.moves;
@@ -284,6 +289,32 @@ gone base k next first reply chunked old new p q q2 u u' v v1 v2 place f turn =
       taken = refl;
       sink = a.now.sink;
       cause = tt;
+    }
+
+-- its peer is gone
+pub unread : (base : List Step) (k : ℕ) (reply : Reply) (chunked : Bool) (old new : List ℕ) (p q q2 : PassView) (u u1 u2 : SinkView) (v v0 v1 v2 : ClockView) (place : ℕ)
+    → Following base k reply chunked p q u u1 v v0 place → PartOf k reply place P.UpToDate old new q q2 v0 v1
+    → SinkTook u1 [] u2 × Rose u1.faults u2.faults × (v2 ≡ v1) → FollowsFrom base k reply chunked F.WriteFault p q2 u u2 v v2
+unread base k reply chunked old new p q q2 u u1 u2 v v0 v1 v2 place f turn (took, rose, same) =
+    let a = asked base k reply chunked P.UpToDate old new p q q2 u u1 v v0 v2 place f (subst (PartOf k reply place P.UpToDate old new q q2 v0) (sym same) turn) in
+    record {
+      moves = a.now.stands.moves;
+      still = a.now.stands.still;
+      quiet = a.now.stands.quiet;
+      timed = a.now.timed;
+      whole = false;
+      by_end = tt;
+      comes = failed_comes reply a.now.stands.moves.handed;
+      body = a.now.body;
+      sent = a.now.sent;
+      part = a.now.sent;
+      tells = told_broken reply p.charter base q2.seen a.now.body place
+          (said_short reply p.charter q2.seen P.UpToDate old new a.now.stands.moves.handed place tt a.said) a.now.told;
+      ends = ends_failed reply p.charter a.now.body base q2.seen;
+      pieces = a.now.pieces;
+      taken = ([], append-nil a.now.sent);
+      sink = subst (λ x. SinkTook u x u2) (append-nil a.now.sent) (sink_on u u1 u2 a.now.sent [] a.now.sink took);
+      cause = rose_since u.faults u1.faults u2.faults a.now.sink.faults rose;
     }
 
 -- ---- a write failed

@@ -5,6 +5,7 @@ use Rattle.std.specs.List.{filter}
 use Rattle.std.proofs.lemmas.Bool.{false≢true}
 use Rattle.std.proofs.lemmas.List.Elements.{filter-append}
 use Rattle.engine_ports.specs.Rose.{Rose}
+use Rattle.engine_ports.specs.Sink.{SinkView, SinkTook}
 use Rattle.engine_ports.specs.Clock.{ClockView, ClockHanded, ClockStood}
 use Rattle.engine_ports.proofs.PortLemmas.{clock_none, clock_on, clock_stood, rose_since}
 use Rattle.engine_text.specs.declared.call.Call.{Call}
@@ -29,7 +30,7 @@ use Rattle.session_model.proofs.AddsLemmas.{turn_adds}
 use Rattle.session_model.proofs.TurnLemmas.{moves_same, moves_on, makes_call, seen_made, turn_made, turn_made_at, turn_opens, turn_quiet, turn_rests, state_made, clock_alone}
 use Rattle.daemon_core.specs.Whole.{IsAnswer}
 use Rattle.daemon_core.proofs.CallLemmas.{call_at, have_replies, take_answers}
-use Rattle.attach_hub.specs.Waiting.{Awaits, Drops, IsDropped}
+use Rattle.attach_hub.specs.Waiting.{Awaits, AwaitsBy, Drops, IsDropped}
 
 -- ---- a ticket that was begun
 
@@ -224,3 +225,12 @@ given_up k n p q r u v rests d = record {
   moves = moves_on k p q r u v v rests.moves (d.moves v);
   says = dropped k n p q r u v rests d;
 }
+
+-- the peer was gone
+pub unread : (k n : ℕ) (p q r : PassView) (u v w : ClockView) → Rests k p q u v → w ≡ v → Drops k n q r → Awaits k n A.WriteFault p r u w
+unread k n p q r u v w rests same d =
+    subst (λ x. Awaits k n A.WriteFault p r u x) (sym same)
+    (record { moves = moves_on k p q r u v v rests.moves (d.moves v); says = dropped k n p q r u v rests d })
+
+pub unread_by : (u v w : SinkView) → v ≡ u → SinkTook v [] w → Rose v.faults w.faults → AwaitsBy A.WriteFault u w
+unread_by u v w same took rose = subst (λ x. SinkTook x [] w × Rose x.faults w.faults) same (took, rose)

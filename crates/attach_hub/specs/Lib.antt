@@ -1,3 +1,4 @@
+pub mod Polling
 pub mod Waiting
 pub mod Streams
 pub mod Following

@@ -1,13 +1,14 @@
 -- How a wait for a ticket ends (own: a ticket is taken once its reply is there, or dropped).
 use Rattle.std.specs.Prelude.{ℕ, ◌≡◌, List, [], ◌∷◌, ◌++◌}
 use Rattle.engine_ports.specs.Rose.{Rose}
+use Rattle.engine_ports.specs.Sink.{SinkView, SinkTook}
 use Rattle.engine_ports.specs.Clock.{ClockView}
 use Rattle.engine_text.specs.declared.call.Call.TheVariants.{Take, Drop}
 use Rattle.engine_text.specs.declared.reply.Reply.{Reply}
 use Rattle.engine_text.specs.declared.step.Step.{Step}
 use Rattle.machine_model.specs.History.{Charter}
 use Rattle.session_model.specs.declared.turned.Awaited.{Awaited}
-use Rattle.session_model.specs.declared.turned.Awaited.TheVariants.{Replied, Stopped, NoMemory}
+use Rattle.session_model.specs.declared.turned.Awaited.TheVariants.{Replied, Stopped, WriteFault, NoMemory}
 use Rattle.session_model.specs.Pass.{PassView}
 use Rattle.session_model.specs.Exchange.{IsMade, IsMadeAt}
 use Rattle.session_model.specs.Progress.{Moves}
@@ -18,12 +19,19 @@ module _ (ch : Charter) (k n : ℕ) (a b : List Step) where
   abbrev pub IsDropped : Type 0
   IsDropped = (reply : Reply) × IsMade ch k k (Drop n) a b reply
 
-  -- it is the take, at the last of these moments, answered whole; or a drop, where the clock was stopped or memory was refused
+  -- it is the take, at the last of these moments, answered whole; or a drop, where the clock was stopped, the peer was gone or memory
+  -- was refused
   abbrev pub AwaitSays : Awaited → List ℕ → ClockView → ClockView → Type 0
   AwaitSays (Replied reply) ms v v' =
       (others : List ℕ) × (last : ℕ) × (ms ≡ others ++ last ∷ []) × IsMadeAt ch k last (Take n) a b reply × IsAnswer reply
   AwaitSays Stopped ms v v' = IsDropped × Rose v.stops v'.stops
+  AwaitSays WriteFault ms v v' = IsDropped
   AwaitSays NoMemory ms v v' = IsDropped
+
+-- it wrote nothing; a peer that was gone is a fault of the sink
+abbrev pub AwaitsBy : Awaited → SinkView → SinkView → Type 0
+AwaitsBy WriteFault u u' = SinkTook u [] u' × Rose u.faults u'.faults
+AwaitsBy awaited u u' = u' ≡ u
 
 -- connection k waited for ticket n
 pub record Awaits (k n : ℕ) (result : Awaited) (p q : PassView) (v v' : ClockView) : Type 0 where

@@ -8,9 +8,9 @@ ghost use Rattle.session_model.specs.Pass.{IsNumber};
 ghost use Rattle.attach_hub.specs.Following.{Follows, FollowsSince, MayFollow, written_of};
 ghost use Rattle.attach_hub.specs.Streams.{JournalPart, PartOf, StandsIn, first_of, reply_of};
 
-use crate::tickets::POLL;
+use crate::polling::{Polled, poll};
 use daemon_core::Turns;
-use engine_ports::{Clock, Failed, Pause, Sink};
+use engine_ports::{Clock, Failed, Sink};
 use engine_text::{Filter, LogSpec};
 use http_edge::write_chunk;
 use session_model::{Followed, Part};
@@ -142,7 +142,7 @@ fn write_piece<K: Sink>(sink: &mut K, chunked: bool, piece: &[u8]) -> Result<(),
 }
 
 // Writes the stream as it comes, until it is whole: a part, and where it is up to date the next one
-// 50 ms later. It may begin where it could once be followed.
+// 50 ms later, as long as its peer is there. It may begin where it could once be followed.
 pub(crate) fn follow<W: Wait, T: Turns, K: Sink, C: Clock>(
     rt: &W,
     turns: &mut T,
@@ -171,9 +171,10 @@ pub(crate) fn follow<W: Wait, T: Turns, K: Sink, C: Clock>(
                 }
                 place = next;
             }
-            Part::UpToDate => match clock.pause(POLL) {
-                Pause::Go => {}
-                Pause::Stop => return Followed::Stopped,
+            Part::UpToDate => match poll(sink, clock) {
+                Polled::Again => {}
+                Polled::Stopped => return Followed::Stopped,
+                Polled::WriteFault => return Followed::WriteFault,
             },
             Part::Whole => return Followed::Whole,
             Part::Gone { next, first } => return Followed::Lagged { next, first },

@@ -2,6 +2,7 @@
 #![tactic(auto)]
 
 mod following;
+mod polling;
 mod pumping;
 mod sides;
 mod tickets;

@@ -9,7 +9,7 @@ ghost use Rattle.session_model.specs.Pass.{IsConnection, IsNumber};
 ghost use Rattle.session_model.specs.Turning.{Turn};
 ghost use Rattle.attach_hub.specs.Pumping.{EndsInput, FeedsOrEnds, Hears, IsFed, PumpsInput};
 
-use crate::tickets::POLL;
+use crate::polling::POLL;
 use daemon_core::{Turns, input_of};
 use engine_ports::{Clock, Got, Pause, Source};
 use engine_text::{Bytes, Call, LogSpec, NoMemory, Reply};

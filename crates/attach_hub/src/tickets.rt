@@ -3,17 +3,15 @@ ghost use Rattle.std.specs.Prelude.{IsTrue, Some};
 ghost use Rattle.engine_text.specs.declared.call.Call as calls;
 ghost use Rattle.session_model.specs.Pass.{IsNumber};
 ghost use Rattle.session_model.specs.Turning.{HasBegun, Turn};
-ghost use Rattle.attach_hub.specs.Waiting.{Awaits, Drops};
+ghost use Rattle.attach_hub.specs.Waiting.{Awaits, AwaitsBy, Drops};
 
+use crate::polling::{Polled, poll};
 use daemon_core::Turns;
-use engine_ports::{Clock, Pause};
+use engine_ports::{Clock, Sink};
 use engine_text::Call;
 use session_model::{Awaited, Turned};
 use std::alloc::Global;
 use std::sync::Wait;
-
-/// How long a wait or a follower pauses between two turns, in milliseconds.
-pub(crate) const POLL: u64 = 50;
 
 // A turn with the take of the ticket.
 fn take<T: Turns>(turns: &mut T, alloc: Global, conn: u32, handed: u64, ticket: u64) -> Turned
@@ -55,30 +53,36 @@ pub fn drop_ticket<T: Turns>(turns: &mut T, alloc: Global, conn: u32, ticket: u6
 }
 
 /// Takes the ticket's answer as soon as it is there: a turn, and 50 ms later the next. It may wait.
-/// Where the clock is stopped or memory is refused, the ticket is dropped.
-pub fn await_ticket<W: Wait, T: Turns, C: Clock>(
+/// Where the peer is gone, the clock is stopped or memory is refused, the ticket is dropped.
+pub fn await_ticket<W: Wait, T: Turns, K: Sink, C: Clock>(
     rt: &W,
     turns: &mut T,
     alloc: Global,
     conn: u32,
     ticket: u64,
+    sink: &mut K,
     clock: &mut C,
 ) -> Awaited
     requires number { IsNumber (T.pass turns.old).number conn }
     requires pair { IsTrue (T.pass turns.old).pair }
     requires begun { HasBegun (T.pass turns.old).charter conn ticket (T.pass turns.old).seen }
-    ensures { Awaits conn ticket result (T.pass turns.old) (T.pass turns.new)
+    ensures awaits { Awaits conn ticket result (T.pass turns.old) (T.pass turns.new)
         (C.times clock.old) (C.times clock.new) }
+    ensures sink { AwaitsBy result (K.takes sink.old) (K.takes sink.new) }
 {
     for _ in rt.forever() {
         let handed = clock.now();
         match take(turns, alloc, conn, handed, ticket) {
             Turned::Replied(reply) => return Awaited::Replied(reply),
-            Turned::NotYet => match clock.pause(POLL) {
-                Pause::Go => {}
-                Pause::Stop => {
+            Turned::NotYet => match poll(sink, clock) {
+                Polled::Again => {}
+                Polled::Stopped => {
                     drop_ticket(turns, alloc, conn, ticket);
                     return Awaited::Stopped;
+                }
+                Polled::WriteFault => {
+                    drop_ticket(turns, alloc, conn, ticket);
+                    return Awaited::WriteFault;
                 }
             },
             Turned::NoMemory => {

@@ -8,7 +8,7 @@ use Rattle.engine_ports.specs.Source.{SourceView}
 use Rattle.engine_ports.specs.Clock.{ClockView, ClockHanded}
 use Rattle.engine_ports.specs.Door.{outside}
 use Rattle.engine_ports.specs.declared.ports.Failed.{Failed}
-use Rattle.engine_ports.proofs.PortLemmas.{rose_since, sink_on, written_on}
+use Rattle.engine_ports.proofs.PortLemmas.{rose_since, rose_until, sink_on, written_on}
 use Rattle.engine_text.specs.declared.call.Call.{Call}
 use Rattle.engine_text.specs.declared.call.Call.TheVariants as call
 use Rattle.engine_text.specs.declared.reply.Reply.TheVariants as reply
@@ -31,11 +31,11 @@ use Rattle.session_model.specs.Responses.{terms_of, early_head}
 use Rattle.session_model.specs.Session.{FollowCause}
 use Rattle.session_model.specs.Turning.{Turn}
 use Rattle.session_model.proofs.TurnLemmas.{moves_on}
-use Rattle.attach_hub.specs.Waiting.{AwaitSays, IsDropped}
+use Rattle.attach_hub.specs.Waiting.{AwaitSays, AwaitsBy, IsDropped}
 use Rattle.attach_hub.proofs.StatusLemmas.{wait_status}
 use Rattle.engine_serve.specs.declared.went.Went.{Went}
 use Rattle.engine_serve.specs.Serving.{Sends, GoesSo, Tries}
-use Rattle.engine_serve.specs.Early.{one_chunk, broken_flow, SendsBehind, WaitsEarly, Waited, HeadWasLost}
+use Rattle.engine_serve.specs.Early.{one_chunk, broken_flow, SendsBehind, HasLost, WaitsEarly, Waited, HeadWasLost}
 use Rattle.engine_serve.proofs.AnswerLemmas.{BeginsWait, begins_wait, wait_dropped, wait_taken, tries_whole, left_tries}
 
 -- ---- what was sent
@@ -82,8 +82,26 @@ behind_head terms (Awaited.Replied given) result head u v w took (status, body, 
     (status, body, is, sends_behind result _ head _ u v w took sends)
 behind_head terms Awaited.Stopped result head u v w took sends =
     subst (λ x. Sends (broken_flow F.Stopped) result x u w) (append-nil head) (sends_behind result _ head [] u v w took sends)
+behind_head terms Awaited.WriteFault result head u v w took sends =
+    subst (λ x. Sends (broken_flow F.WriteFault) result x u w) (append-nil head) (sends_behind result _ head [] u v w took sends)
 behind_head terms Awaited.NoMemory result head u v w took sends =
     subst (λ x. Sends (broken_flow F.NoMemory) result x u w) (append-nil head) (sends_behind result _ head [] u v w took sends)
+
+-- and behind a wait, in which nothing was written
+pub behind_wait : (terms : Terms) (awaited : Awaited) (result : Went) (head : List ℕ) (u v v' w : SinkView) → SinkTook u head v
+    → AwaitsBy awaited v v' → SendsBehind terms [] awaited result v' w
+    → SendsBehind terms head awaited result u w × HasLost awaited u w
+behind_wait terms (Awaited.Replied given) result head u v v' w took same sends =
+    (behind_head terms (Awaited.Replied given) result head u v w took (subst (λ x. SendsBehind terms [] (Awaited.Replied given) result x w) same sends), tt)
+behind_wait terms Awaited.Stopped result head u v v' w took same sends =
+    (behind_head terms Awaited.Stopped result head u v w took (subst (λ x. SendsBehind terms [] Awaited.Stopped result x w) same sends), tt)
+behind_wait terms Awaited.WriteFault result head u v v' w took (none, rose) sends =
+    let rest : Sends (broken_flow F.WriteFault) result [] v w = sends_behind result (broken_flow F.WriteFault) [] [] v v' w none sends in (
+      behind_head terms Awaited.WriteFault result head u v w took rest,
+      rose_until u.faults v'.faults w.faults (rose_since u.faults v.faults v'.faults took.faults rose) sends.1.faults,
+    )
+behind_wait terms Awaited.NoMemory result head u v v' w took same sends =
+    (behind_head terms Awaited.NoMemory result head u v w took (subst (λ x. SendsBehind terms [] Awaited.NoMemory result x w) same sends), tt)
 
 -- ---- the rows
 
@@ -129,9 +147,9 @@ broke_off k n r c f result p q s u u' v w x class early first dropped last break
 early_so : (k n : ℕ) (r : Request) (c : Call) (awaited : Awaited) (result : Went) (p q s : PassView) (u u' : SinkView) (v w x : ClockView)
     → class_of r ≡ Ask c → IsTrue (is_early r c) → BeginsWait k n c p q v w → IsLegal p.charter q.seen
     → (last : Moves k q s w x) → AwaitSays p.charter k n q.seen s.seen awaited last.handed w x → v.stops ≤ w.stops
-    → SendsBehind (terms_of r) (early_head (terms_of r)) awaited result u u' → Tries k r result p s u u' v x
+    → SendsBehind (terms_of r) (early_head (terms_of r)) awaited result u u' → HasLost awaited u u' → Tries k r result p s u u' v x
 unfolding moves_on
-early_so k n r c (Awaited.Replied given) result p q s u u' v w x class early first legal last says le (status, body, is, sends) =
+early_so k n r c (Awaited.Replied given) result p q s u u' v w x class early first legal last says le (status, body, is, sends) lost =
     let took : AwaitSays p.charter k n q.seen s.seen (Awaited.Replied (reply.Answer status body)) last.handed w x =
     subst (λ y. AwaitSays p.charter k n q.seen s.seen (Awaited.Replied y) last.handed w x) is says in
     let fine : status ≡ 200 = early_status p.charter k n r c p.seen q.seen s.seen status body early legal first.made.0 took.3.0 in
@@ -142,19 +160,21 @@ early_so k n r c (Awaited.Replied given) result p q s u u' v w x class early fir
     (wait_taken k n c p q s v w x last.handed (reply.Answer 200 body) first
     (subst (λ y. AwaitSays p.charter k n q.seen s.seen (Awaited.Replied (reply.Answer y body)) last.handed w x) fine took)))
     (is_chunked body))
-early_so k n r c Awaited.Stopped result p q s u u' v w x class early first legal last says le sends =
+early_so k n r c Awaited.Stopped result p q s u u' v w x class early first legal last says le sends lost =
     broke_off k n r c F.Stopped result p q s u u' v w x class early first says.0 last tt
     (λ o o'. rose_since v.stops w.stops x.stops le says.1) sends
-early_so k n r c Awaited.NoMemory result p q s u u' v w x class early first legal last says le sends =
+early_so k n r c Awaited.WriteFault result p q s u u' v w x class early first legal last says le sends rose =
+    broke_off k n r c F.WriteFault result p q s u u' v w x class early first says last tt (λ o o'. rose) sends
+early_so k n r c Awaited.NoMemory result p q s u u' v w x class early first legal last says le sends lost =
     broke_off k n r c F.NoMemory result p q s u u' v w x class early first says last tt (λ o o'. tt) sends
 
 early_by : (k n : ℕ) (r : Request) (c : Call) (result : Went) (p q s : PassView) (u u' : SinkView) (v w x : ClockView)
     → q.charter ≡ p.charter → class_of r ≡ Ask c → IsTrue (is_early r c) → BeginsWait k n c p q v w
     → IsLegal q.charter q.seen → v.stops ≤ w.stops → WaitsEarly k n (terms_of r) result q s u u' w x
     → Tries k r result p s u u' v x
-early_by k n r c result p q s u u' v w x same class early first legal le (Waited awaited awaits sends) =
+early_by k n r c result p q s u u' v w x same class early first legal le (Waited awaited awaits sends lost) =
     early_so k n r c awaited result p q s u u' v w x class early first (subst (λ ch. IsLegal ch q.seen) same legal) awaits.moves
-    (subst (λ ch. AwaitSays ch k n q.seen s.seen awaited awaits.moves.handed w x) same awaits.says) le sends
+    (subst (λ ch. AwaitSays ch k n q.seen s.seen awaited awaits.moves.handed w x) same awaits.says) le sends lost
 early_by k n r c result p q s u u' v w x same class early first legal le (HeadWasLost dropped moves rose sends) =
     broke_off k n r c F.WriteFault result p q s u u' v w x class early first
     (subst (λ ch. IsDropped ch k n q.seen s.seen) same dropped) moves tt (λ o o'. rose) sends

@@ -37,11 +37,17 @@ SendsBody terms head reply result u u' =
 abbrev pub SendsBehind : Terms → List ℕ → Awaited → Went → SinkView → SinkView → Type 0
 SendsBehind terms head (Awaited.Replied reply) result u u' = SendsBody terms head reply result u u'
 SendsBehind terms head Awaited.Stopped result u u' = Sends (broken_flow F.Stopped) result head u u'
+SendsBehind terms head Awaited.WriteFault result u u' = Sends (broken_flow F.WriteFault) result head u u'
 SendsBehind terms head Awaited.NoMemory result u u' = Sends (broken_flow F.NoMemory) result head u u'
+
+-- a peer that is gone is a fault of the sink
+abbrev pub HasLost : Awaited → SinkView → SinkView → Type 0
+HasLost Awaited.WriteFault u u' = Rose u.faults u'.faults
+HasLost awaited u u' = Unit {0}
 
 -- the head was sent, and the connection waited for the ticket; or its write failed, and the ticket was dropped
 pub data WaitsEarly (k n : ℕ) (terms : Terms) (result : Went) (p q : PassView) (u u' : SinkView) (t t' : ClockView) : Type 0 where
   Waited : (awaited : Awaited) → Awaits k n awaited p q t t' → SendsBehind terms (early_head terms) awaited result u u'
-      → WaitsEarly k n terms result p q u u' t t'
+      → HasLost awaited u u' → WaitsEarly k n terms result p q u u' t t'
   HeadWasLost : IsDropped p.charter k n p.seen q.seen → Moves k p q t t' → Rose u.faults u'.faults
       → Sends (broken_flow F.WriteFault) result (early_head terms) u u' → WaitsEarly k n terms result p q u u' t t'

@@ -78,6 +78,7 @@ fn send_late<K: Sink>(sink: &mut K, terms: Terms, awaited: &Awaited) -> Went
     match awaited {
         Awaited::Replied(reply) => send_chunked(sink, terms, reply),
         Awaited::Stopped => Went::Ends(Ending::Stopped),
+        Awaited::WriteFault => Went::Ends(Ending::WriteFault),
         Awaited::NoMemory => Went::Ends(Ending::NoMemory),
     }
 }
@@ -102,7 +103,7 @@ pub(crate) fn wait_early<W: Wait, T: Turns, K: Sink, C: Clock>(
 {
     match write_early(sink, terms) {
         Ok(()) => {
-            let awaited = await_ticket(rt, turns, alloc, conn, ticket, clock);
+            let awaited = await_ticket(rt, turns, alloc, conn, ticket, sink, clock);
             send_late(sink, terms, &awaited)
         }
         Err(Failed) => {

@@ -2,8 +2,8 @@ use Rattle.std.proofs.Common.{subst, Err}
 use Rattle.engine_ports.specs.Sink.{SinkTook, WriteSays}
 use Rattle.attach_hub.specs.Following.{written_of}
 use Rattle.attach_hub.specs.Streams.{reply_of}
-use Rattle.attach_hub.proofs.FollowLemmas.{following, asks_from, part_number, more, failed, stopped, short, gone, whole, paused}
-use Rattle.attach_hub.proofs.following.follow.Goals.{in-More+in-Ok, in-UpToDate+in-Go}
+use Rattle.attach_hub.proofs.FollowLemmas.{following, asks_from, part_number, more, failed, stopped, unread, short, gone, whole, paused}
+use Rattle.attach_hub.proofs.following.follow.Goals.{in-More+in-Ok, in-UpToDate+in-Again}
 use Rattle.attach_hub.proofs.following.follow.Goals as goal
 
 pub loop-init : goal.loop-init
@@ -21,11 +21,18 @@ returns-in-Err g c =
           (subst (λ x. WriteSays (Err c.in-Err.field-0) (written_of c.args.chunked x) (g.K.Sink.takes c.loop.sink) (g.K.Sink.takes c.write_piece.new.sink)) c.as_slice.ensures.value c.in-Err.ensures);
     }
 
-pub returns-in-Stop : goal.returns-in-Stop
-returns-in-Stop g c =
+pub returns-in-Stopped : goal.returns-in-Stopped
+returns-in-Stopped g c =
     record {
-      since = λ base e may. stopped base c.args.conn _ c.args.chunked _ _ _ _ _ _ _ _ _ _ _ _ (c.loop.invariant.following base e may) c.in-UpToDate.ensures
-          c.in-Stop.ensures.0 c.in-Stop.ensures.1;
+      since = λ base e may. stopped base c.args.conn _ c.args.chunked _ _ _ _ _ _ _ _ _ _ _ _ _ (c.loop.invariant.following base e may) c.in-UpToDate.ensures
+          c.in-Stopped.ensures;
+    }
+
+pub returns-in-WriteFault : goal.returns-in-WriteFault
+returns-in-WriteFault g c =
+    record {
+      since = λ base e may. unread base c.args.conn _ c.args.chunked _ _ _ _ _ _ _ _ _ _ _ _ _ (c.loop.invariant.following base e may) c.in-UpToDate.ensures
+          c.in-WriteFault.ensures;
     }
 
 pub returns-in-Whole : goal.returns-in-Whole
@@ -50,11 +57,11 @@ loop-preserved g c = elim c.match-part_of.branch [
         w.in-More.ensures c.new-out.ensures.items
         (subst (λ x. SinkTook (g.K.Sink.takes c.loop.sink) (written_of c.args.chunked x) (g.K.Sink.takes w.write_piece.new.sink)) w.as_slice.ensures.value w.in-Ok.ensures);
   })
-  | in-UpToDate+in-Go w ↦ rw (w.sink-is, w.clock-is, w.place-is) (record {
+  | in-UpToDate+in-Again w ↦ rw (w.sink-is, w.clock-is, w.place-is) (record {
     iterator = (tt, tt);
     number = part_number c.args.conn _ _ _ _ _ _ _ _ _ c.loop.invariant.number w.in-UpToDate.ensures;
     following =
-        λ base e may. paused base c.args.conn _ c.args.chunked _ _ _ _ _ _ _ _ _ _ _ _ (c.loop.invariant.following base e may) w.in-UpToDate.ensures
-        w.in-Go.ensures;
+        λ base e may. paused base c.args.conn _ c.args.chunked _ _ _ _ _ _ _ _ _ _ _ _ _ (c.loop.invariant.following base e may) w.in-UpToDate.ensures
+        w.in-Again.ensures;
   })
 ]

@@ -1,4 +1,4 @@
-use Rattle.std.specs.Prelude.{IsTrue}
+use Rattle.std.specs.Prelude.{◌≡◌, IsTrue}
 use Rattle.session_model.specs.Pass.{IsNumber}
 use Rattle.session_model.specs.Turning.{HasBegun}
 use Rattle.attach_hub.proofs.WaitLemmas.{Rests}
@@ -12,5 +12,6 @@ invariant-loop g l =
       number : IsNumber (pass l.turns).number l.conn;
       pair : IsTrue (pass l.turns).pair;
       begun : HasBegun (pass l.turns).charter l.conn l.ticket (pass l.turns).seen;
+      sink : g.K.Sink.takes l.sink ≡ g.K.Sink.takes l.fn.sink;
       rests : Rests l.conn (pass l.fn.turns) (pass l.turns) (g.C.Clock.times l.fn.clock) (g.C.Clock.times l.clock);
     }

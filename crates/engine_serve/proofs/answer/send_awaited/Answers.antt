@@ -1,3 +1,4 @@
+use Rattle.std.proofs.Common.{refl}
 use Rattle.engine_serve.proofs.SendLemmas.{as_awaited}
 use Rattle.session_model.specs.declared.turned.Awaited.{Awaited}
 use Rattle.engine_serve.proofs.answer.send_awaited.Goals as goal
@@ -10,3 +11,6 @@ returns-in-Stopped g c = as_awaited c.args.terms c.args.awaited.now Awaited.Stop
 
 pub returns-in-NoMemory : goal.returns-in-NoMemory
 returns-in-NoMemory g c = as_awaited c.args.terms c.args.awaited.now Awaited.NoMemory _ _ _ c.in-NoMemory.is c.send_out_of_memory.ensures
+
+pub returns-in-WriteFault : goal.returns-in-WriteFault
+returns-in-WriteFault g c = as_awaited c.args.terms c.args.awaited.now Awaited.WriteFault _ _ _ c.in-WriteFault.is (refl, refl)
