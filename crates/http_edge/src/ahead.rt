@@ -10,8 +10,9 @@ use engine_ports::{Got, NoMemory, Source};
 use std::alloc::Global;
 use std::marker::Model;
 
-/// How many bytes are read at once, until that many stand here.
-const FIRST_PLACE: usize = 4_096;
+/// How many bytes are read at once, until that many stand here: most heads are shorter, and what isn't
+/// written of a connection's room takes no memory of the machine.
+const FIRST_PLACE: usize = 1_024;
 
 /// The bytes that were read and not yet taken, in order: at most as many as a head may have. There is
 /// room for as many; a place of it is written only where it is needed.
