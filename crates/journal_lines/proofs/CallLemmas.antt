@@ -1,5 +1,5 @@
 -- The call that a call's value says is that call.
-use Rattle.std.proofs.Common.{◌≡◌, ◌<◌, ◌^◌, ℕ, ℤ, List, Bool, true, ◌&&◌, ◌||◌, nat_le, Option, Some, None, refl, arith}
+use Rattle.std.proofs.Common.{◌≡◌, ◌<◌, ◌^◌, ℕ, ℤ, List, Bool, true, ◌&&◌, ◌||◌, nat_le, Option, Some, None, option_map, refl, arith}
 use Rattle.std.specs.Option.{option_map_or}
 use Rattle.std.proofs.lemmas.Bool.{and_parts}
 use Rattle.hex.proofs.HexLemmas.{decode_of-encode_lower}
@@ -8,7 +8,9 @@ use Rattle.serde_json.specs.Find.{as_str}
 use Rattle.api_json.specs.Values.{text, natural, integer}
 use Rattle.engine_text.specs.Soundness.{IsSound, if_given, is_seconds, is_signal, is_full, is_count, is_limit, is_time, is_create, is_log_ask, are_labels, is_list_key, is_event_key, is_volume_key, is_filter}
 use Rattle.engine_text.specs.Name.{is_volume_name}
-use Rattle.journal_lines.specs.JournalLines.{call_value, create_value, signal_value, condition_word, kind_of_owner, filter_value}
+use Rattle.journal_lines.specs.CallFields.{create_fields, condition_word, kind_of_owner}
+use Rattle.journal_lines.specs.Fields.{filter_value, fields_value}
+use Rattle.journal_lines.specs.JournalLines.{call_value}
 use Rattle.machine_model.specs.State.{owner_number}
 use Rattle.engine_text.specs.declared.call.Call.{Call}
 use Rattle.engine_text.specs.declared.call.CreateSpec.{CreateSpec}
@@ -37,8 +39,10 @@ limit_low n e = count_low n (and_parts (nat_le 1 n) (is_count n) e).1
 wait_back : (wait : Option ℤ) → if_given is_seconds wait ≡ true → or_null seconds_of (option_map_or integer wait null) ≡ Some wait
 wait_back wait e = given_back integer seconds_of is_seconds wait seconds_here seconds_back e
 
-end_back : (signal : Option Signal) → if_given is_signal signal ≡ true → or_null signal_of (option_map_or signal_value signal null) ≡ Some signal
-end_back signal e = given_back signal_value signal_of is_signal signal (λ s. refl) signal_back e
+end_back : (signal : Option Signal) → if_given is_signal signal ≡ true
+    → or_null signal_of (option_map_or natural (option_map (λ s. s.number) signal) null) ≡ Some signal
+end_back None e = refl
+end_back (Some s) e = rw (signal_back s e) refl
 
 tail_back : (tail : Option ℕ) → if_given is_count tail ≡ true → or_null count_of (option_map_or natural tail null) ≡ Some tail
 tail_back tail e = given_back natural count_of is_count tail (λ n. refl) (λ n low. count_back n (count_low n low)) e
@@ -66,7 +70,7 @@ owner_back : (owner : Owner) → owner_of (kind_of_owner owner) (owner_number ow
 owner_back (Container n) = refl
 owner_back (Exec n) = refl
 
-create_back : (spec : CreateSpec) → is_create spec ≡ true → call_in (create_value spec) ≡ Some (Call.Create spec)
+create_back : (spec : CreateSpec) → is_create spec ≡ true → call_in (fields_value (create_fields spec)) ≡ Some (Call.Create spec)
 unfolding named_call
 create_back spec e =
     let a = and_parts _ _ e in
@@ -87,7 +91,7 @@ create_back spec e =
 
 -- the parts of a stop's value
 stop_back : (full : Bool) (wait : Option ℤ) (signal : Option Signal) → (full && if_given is_seconds wait && if_given is_signal signal) ≡ true
-    → (or_null seconds_of (option_map_or integer wait null) ≡ Some wait) × (or_null signal_of (option_map_or signal_value signal null) ≡ Some signal)
+    → (or_null seconds_of (option_map_or integer wait null) ≡ Some wait) × (or_null signal_of (option_map_or natural (option_map (λ s. s.number) signal) null) ≡ Some signal)
 stop_back full wait signal e =
     let p = and_parts (full && if_given is_seconds wait) (if_given is_signal signal) e in
     (wait_back wait (and_parts full (if_given is_seconds wait) p.0).1, end_back signal p.1)
@@ -134,7 +138,7 @@ call_back (Call.Events since until filter) h fits =
     let p = and_parts (if_given is_time since && if_given is_time until) (is_filter is_event_key filter) h in
     rw (time_back since, time_back until, rows_back is_event_key filter p.1) refl
 call_back Call.JournalRead h fits = refl
-call_back (Call.Feed owner run bytes) h fits = rw (owner_back owner, decode_of-encode_lower bytes fits.2) refl
+call_back (Call.Feed owner run bytes) h fits = rw (owner_back owner, decode_of-encode_lower bytes fits.0) refl
 call_back (Call.FeedEnd owner run) h fits = rw (owner_back owner) refl
 call_back (Call.Take ticket) h fits = refl
 call_back (Call.Drop ticket) h fits = refl

@@ -6,7 +6,9 @@ use Rattle.serde_json.specs.Written.{has_float, members_have_float}
 use Rattle.json_laws.proofs.NoFloat.{no_float-put, no_float-pairs_data}
 use Rattle.api_json.specs.Values.{list_of, pairs_of, text, natural, integer}
 use Rattle.engine_text.specs.Filter.{filter_word}
-use Rattle.journal_lines.specs.JournalLines.{signal_value, put_rows, filter_value, mount_entry, call_value, reply_value, entry_value}
+use Rattle.journal_lines.specs.CallFields.{fields_of}
+use Rattle.journal_lines.specs.Fields.{Field, Word, TextOrNone, NumberOrNone, SecondsOrNone, Flag, TextList, LabelPairs, MountList, FilterRows, HexBytes, put_rows, filter_value, mount_entry, field_value, KeyedField, field_members}
+use Rattle.journal_lines.specs.JournalLines.{call_value, reply_value, entry_value}
 use Rattle.engine_text.specs.declared.call.Call.{Call}
 use Rattle.engine_text.specs.declared.entry.Entry.{Entry}
 use Rattle.engine_text.specs.declared.filter.FilterRow.{FilterRow}
@@ -36,36 +38,25 @@ rows_put (r ∷ rs) ms h = rows_put rs _ (no_float-put (filter_word r.key) (list
 rows : (rs : List FilterRow) → has_float (filter_value rs) ≡ false
 rows rs = rows_put rs no_members refl
 
--- no call's value has one
+-- no field has one, and so no call's value has
+field : (f : Field) → has_float (field_value f) ≡ false
+field (Word w) = refl
+field (TextOrNone test t) = given text t (λ w. refl)
+field (NumberOrNone test n) = given natural n (λ m. refl)
+field (SecondsOrNone s) = given integer s whole
+field (Flag b) = refl
+field (TextList test ws) = words ws
+field (LabelPairs ps) = no_float-pairs_data (pairs_of ps)
+field (MountList ms) = list mount_entry ms (λ m. refl)
+field (FilterRows is_key rs) = rows rs
+field (HexBytes bs) = refl
+
+fields : (fs : List KeyedField) → members_have_float (field_members fs) ≡ false
+fields [] = refl
+fields (f ∷ fs) = rw (field f.1, fields fs) refl
+
 call : (c : Call) → has_float (call_value c) ≡ false
-call (Call.Create spec) =
-    rw (whole spec.stop_after, no_float-pairs_data (pairs_of spec.labels), list mount_entry spec.mounts (λ m. refl), given text spec.name (λ n. refl), words spec.words) refl
-call (Call.Start target) = refl
-call (Call.Pause target) = refl
-call (Call.Unpause target) = refl
-call (Call.Inspect target) = refl
-call (Call.Stop target wait signal) = rw (given signal_value signal (λ s. refl), given integer wait whole) refl
-call (Call.Restart target wait signal) = rw (given signal_value signal (λ s. refl), given integer wait whole) refl
-call (Call.Kill target signal) = refl
-call (Call.Rename target name) = refl
-call (Call.Remove target force) = refl
-call (Call.Wait target until) = refl
-call (Call.List all limit filter) = rw (rows filter, given natural limit (λ n. refl)) refl
-call (Call.Logs target ask) = rw (given natural ask.tail (λ n. refl)) refl
-call (Call.Attach target ask) = refl
-call (Call.ExecCreate target ws stdin out err) = rw (words ws) refl
-call (Call.ExecStart id detach) = refl
-call (Call.ExecInspect id) = refl
-call (Call.VolumeCreate name labels) = rw (no_float-pairs_data (pairs_of labels)) refl
-call (Call.VolumeInspect name) = refl
-call (Call.VolumeRemove name) = refl
-call (Call.VolumeList filter) = rw (rows filter) refl
-call (Call.Events since until filter) = rw (rows filter, given natural since (λ n. refl), given natural until (λ n. refl)) refl
-call Call.JournalRead = refl
-call (Call.Feed owner run bytes) = refl
-call (Call.FeedEnd owner run) = refl
-call (Call.Take ticket) = refl
-call (Call.Drop ticket) = refl
+call c = fields (fields_of c)
 
 reply : (c : Call) (r : Reply) → has_float (reply_value c r) ≡ false
 reply c (Answer status body) = refl

@@ -9,6 +9,7 @@ mod RisingLemmas
 mod WordLemmas
 mod ListLemmas
 mod PartLemmas
+mod SoundLemmas
 mod CarriedLemmas
 mod CallLemmas
 pub mod EntryLemmas

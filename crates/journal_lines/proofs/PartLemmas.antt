@@ -20,7 +20,7 @@ use Rattle.engine_text.specs.Filter.{filter_word}
 use Rattle.api_json.specs.Filters.{key_among}
 use Rattle.api_json.specs.Container.{policy_word, most_retries}
 use Rattle.engine_text.specs.Soundness.{if_given, is_signal, is_policy, is_seconds, are_rising, are_labels}
-use Rattle.journal_lines.specs.JournalLines.{signal_value, filter_value}
+use Rattle.journal_lines.specs.Fields.{filter_value}
 use Rattle.engine_text.specs.Pairs.{ArePairsUtf8}
 use Rattle.engine_text.specs.Filter.{AreRowsUtf8}
 use Rattle.engine_text.specs.Policy.{read_policy}
@@ -47,11 +47,8 @@ count_back n low = at_most-is 4294967295 n (omega (arith, low))
 signal_low : (s : Signal) → is_signal s ≡ true → s.number ≤ 31
 signal_low s e = le_of s.number 31 (and_parts (nat_le 1 s.number) (nat_le s.number 31) e).1
 
-pub signal_back : (s : Signal) → is_signal s ≡ true → signal_of (signal_value s) ≡ Some s
+pub signal_back : (s : Signal) → is_signal s ≡ true → signal_of (natural s.number) ≡ Some s
 signal_back s e = rw (at_most-is 255 s.number (omega (arith, signal_low s e))) refl
-
-pub signal_sound : (n : ℕ) (s : Signal) → is_signal s ≡ true → fit.IsSound n (signal_value s)
-signal_sound n s e = unsigned-sound n s.number (omega (arith, signal_low s e))
 
 seconds_fit : (z : ℤ) → is_seconds z ≡ true → FitsSigned w64 z
 seconds_fit (pos n) e = let low : n ≤ 2147483 = le_of n 2147483 e in omega (arith, ints)
@@ -144,12 +141,6 @@ policy_low Policy.No e = omega arith
 policy_low Policy.Always e = omega arith
 policy_low Policy.UnlessStopped e = omega arith
 policy_low (Policy.OnFailure most) e = le_of most 2147483647 e
-
-pub policy_ascii : (p : Policy) → are_ascii (policy_word p) ≡ true
-policy_ascii Policy.No = refl
-policy_ascii Policy.Always = refl
-policy_ascii Policy.UnlessStopped = refl
-policy_ascii (Policy.OnFailure most) = refl
 
 pub most_back : (p : Policy) → is_policy p ≡ true → integer_of (natural (most_retries p)) ≡ Some (pos (most_retries p))
 most_back p e = integer_back (most_retries p) (policy_low p e)

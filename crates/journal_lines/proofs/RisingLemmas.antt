@@ -12,7 +12,7 @@ use Rattle.api_json.specs.Values.{text, list_of, pairs_of}
 use Rattle.engine_text.specs.Filter.{filter_word}
 use Rattle.engine_text.specs.Soundness.{are_rising, are_labels}
 use Rattle.journal_lines.proofs.MemberLemmas.{names}
-use Rattle.journal_lines.specs.JournalLines.{put_rows}
+use Rattle.journal_lines.specs.Fields.{put_rows}
 use Rattle.engine_text.specs.declared.filter.FilterRow.{FilterRow}
 use Rattle.engine_text.specs.declared.pairs.Pair.{Pair}
 use Rattle.journal_lines.specs.Rising.{rises_first}

@@ -50,7 +50,7 @@ has_line dues moment few soon = record {
     conn = let low : 0 < 2 ^ 32 = omega arith in low;
     dues = let low : dues < 2 ^ 64 = omega (arith, few) in low;
     moment = let low : moment < 2 ^ 64 = omega (arith, soon) in low;
-    call = IsUtf8-are_ascii web refl;
+    call = (tt, (IsUtf8-are_ascii web refl, tt));
     reply = (let low : 404 < 2 ^ 16 = omega arith in low, IsUtf8-are_ascii missing refl);
   };
   told = refl;

@@ -7,7 +7,7 @@ use Rattle.json_laws.specs.Sound as fit
 use Rattle.json_laws.proofs.Sound.{object-sound, array-sound, string-sound, boolean-sound}
 use Rattle.api_json.specs.Values.{text, list_of}
 use Rattle.api_json.specs.Lists.{texts_in}
-use Rattle.journal_lines.specs.JournalLines.{mount_entry}
+use Rattle.journal_lines.specs.Fields.{mount_entry}
 use Rattle.engine_text.specs.Words.{AreUtf8}
 use Rattle.engine_text.specs.Mounts.{AreMountsUtf8}
 use Rattle.engine_text.specs.declared.mounts.Mount.{Mount}

@@ -1,4 +1,6 @@
 pub mod Entries
+pub mod Fields
+pub mod CallFields
 pub mod JournalLines
 pub mod Room
 pub mod FitsTypes
@@ -10,6 +12,5 @@ pub mod Verdict
 pub mod KeptJournal
 pub mod JournalInside
 pub mod Object
-pub mod CreateParts
 pub mod Rising
 pub mod Reading

@@ -12,6 +12,6 @@ mod writing;
 pub use fault::LineFault;
 pub use journal::Journal;
 pub use reading::{law_line_reads_back, read_line};
-pub use sound::is_sound;
+pub use sound::{is_sound, law_sound_by_fields};
 pub use verdict::Verdict;
 pub use writing::{reply_text, write_line};

@@ -2,13 +2,16 @@
 ghost use Rattle.std.specs.Prelude.{◌≡◌, All, IfSome, IsUtf8};
 ghost use Rattle.hex.specs.Hex.{IsBytes};
 ghost use Rattle.machine_model.specs.State.{owner_number};
+ghost use Rattle.api_json.specs.Container.{most_retries};
+ghost use Rattle.journal_lines.specs.CallFields as table;
+ghost use Rattle.journal_lines.specs.Fields as fields;
 ghost use Rattle.journal_lines.specs.FitsTypes as spec;
 
-use engine_text::{Bytes, Call, CreateSpec, Entry, Owner, Reply, Text};
+use engine_text::{Bytes, Call, CreateSpec, Entry, LogAsk, Owner, Policy, Reply, Signal, Text};
 
 // Does nothing: its clause says that a number has 64 bits.
 fn word(number: u64)
-    ensures { spec.IsWord number }
+    ensures { fields.IsWord number }
 {
     let _ = number;
 }
@@ -29,7 +32,7 @@ fn count(number: u32)
 
 // Does nothing: its clause says that the number of an owner has 64 bits.
 fn owner_word(owner: Owner)
-    ensures { spec.IsWord (owner_number owner) }
+    ensures { fields.IsWord (owner_number owner) }
 {
     match owner {
         Owner::Container(number) => word(number),
@@ -61,15 +64,76 @@ fn text_if_given(text: &Option<Text>)
     }
 }
 
-// Does nothing: its clause says that the texts of a create are UTF-8.
-fn create_texts(create: &CreateSpec)
-    ensures { spec.CreateFitsTypes create.now }
+// Does nothing: its clause says that a number, if it is given, has 64 bits.
+fn word_if_given(number: Option<u64>)
+    ensures { IfSome number fields.IsWord }
 {
-    text_if_given(&create.name);
+    match number {
+        None => {}
+        Some(number) => word(number),
+    }
+}
+
+// Does nothing: its clause says that a count, if it is given, has 64 bits.
+fn count_if_given(number: Option<u32>)
+    ensures { IfSome number fields.IsWord }
+{
+    match number {
+        None => {}
+        Some(number) => word(number as u64),
+    }
+}
+
+// Does nothing: its clause says that a signal's number has 64 bits.
+fn signal_word(signal: Signal)
+    ensures { fields.IsWord signal.number }
+{
+    word(signal.number as u64);
+}
+
+// Does nothing: its clause says that a signal's number, if it is given, has 64 bits.
+fn signal_if_given(signal: Option<Signal>)
+    ensures { fields.FieldFitsType (table.signal_field signal) }
+{
+    match signal {
+        None => {}
+        Some(signal) => signal_word(signal),
+    }
+}
+
+// Does nothing: its clause says that a greatest number of restarts has 64 bits.
+fn retries_word(policy: Policy)
+    ensures { fields.IsWord (most_retries policy) }
+{
+    match policy {
+        Policy::OnFailure(most) => word(most as u64),
+        Policy::No => word(0),
+        Policy::Always => word(0),
+        Policy::UnlessStopped => word(0),
+    }
+}
+
+// Does nothing: its clause says what the types of a create give.
+fn create_texts(create: &CreateSpec)
+    ensures { fields.FieldsFitTypes (table.create_fields create.now) }
+{
     create.image.utf8();
-    create.words.utf8();
     create.labels.utf8();
+    retries_word(create.policy);
     create.mounts.utf8();
+    text_if_given(&create.name);
+    signal_word(create.stop_signal);
+    create.words.utf8();
+}
+
+// Does nothing: its clause says what the types of logs give.
+fn logs_texts(target: &Text, ask: &LogAsk)
+    ensures { fields.FieldsFitTypes (table.logs_fields target.now ask.now) }
+{
+    word(ask.greatest);
+    word(ask.least);
+    target.utf8();
+    count_if_given(ask.tail);
 }
 
 // Does nothing: its clause says what the types of a call give.
@@ -82,17 +146,29 @@ fn call_texts(call: &Call)
         Call::Pause { target } => target.utf8(),
         Call::Unpause { target } => target.utf8(),
         Call::Inspect { target } => target.utf8(),
-        Call::Stop { target, .. } => target.utf8(),
-        Call::Restart { target, .. } => target.utf8(),
-        Call::Kill { target, .. } => target.utf8(),
+        Call::Stop { target, signal, .. } => {
+            target.utf8();
+            signal_if_given(*signal);
+        }
+        Call::Restart { target, signal, .. } => {
+            target.utf8();
+            signal_if_given(*signal);
+        }
+        Call::Kill { target, signal } => {
+            target.utf8();
+            signal_word(*signal);
+        }
         Call::Rename { target, name } => {
             target.utf8();
             name.utf8();
         }
         Call::Remove { target, .. } => target.utf8(),
         Call::Wait { target, .. } => target.utf8(),
-        Call::List { filter, .. } => filter.utf8(),
-        Call::Logs { target, .. } => target.utf8(),
+        Call::List { limit, filter, .. } => {
+            filter.utf8();
+            count_if_given(*limit);
+        }
+        Call::Logs { target, ask } => logs_texts(target, ask),
         Call::Attach { target, .. } => target.utf8(),
         Call::ExecCreate { target, words, .. } => {
             target.utf8();
@@ -107,7 +183,15 @@ fn call_texts(call: &Call)
         Call::VolumeInspect { name } => name.utf8(),
         Call::VolumeRemove { name } => name.utf8(),
         Call::VolumeList { filter } => filter.utf8(),
-        Call::Events { filter, .. } => filter.utf8(),
+        Call::Events {
+            since,
+            until,
+            filter,
+        } => {
+            filter.utf8();
+            word_if_given(*since);
+            word_if_given(*until);
+        }
         Call::JournalRead => {}
         Call::Feed {
             owner,

@@ -1,6 +1,9 @@
 // Calls as values.
 ghost use Rattle.std.specs.Prelude.{◌≡◌, IfOk};
 ghost use Rattle.serde_json.specs.View.{view};
+ghost use Rattle.engine_text.specs.declared.call.Call.TheVariants as variant;
+ghost use Rattle.journal_lines.specs.CallFields as table;
+ghost use Rattle.journal_lines.specs.Fields.{fields_value};
 ghost use Rattle.journal_lines.specs.JournalLines as spec;
 
 use super::create::create_value;
@@ -17,7 +20,7 @@ use std::alloc::{AllocError, Global};
 
 // A call with an op and a reference alone.
 fn named_value(alloc: Global, op: &str, target: &Text) -> Result<Value, AllocError>
-    ensures { IfOk result (λ v. view v ≡ spec.named_value op.now target.now) }
+    ensures { IfOk result (λ v. view v ≡ fields_value (table.named_fields op.now target.now)) }
 {
     let object = Object::new(alloc)
         .text(alloc, "op", op)?
@@ -33,7 +36,8 @@ fn stop_value(
     wait: Option<i32>,
     signal: Option<Signal>,
 ) -> Result<Value, AllocError>
-    ensures { IfOk result (λ v. view v ≡ spec.stop_value op.now target.now wait signal) }
+    ensures { IfOk result
+        (λ v. view v ≡ fields_value (table.stop_fields op.now target.now wait signal)) }
 {
     let object = Object::new(alloc)
         .text(alloc, "op", op)?
@@ -45,7 +49,7 @@ fn stop_value(
 
 // A kill.
 fn kill_value(alloc: Global, target: &Text, signal: Signal) -> Result<Value, AllocError>
-    ensures { IfOk result (λ v. view v ≡ spec.kill_value target.now signal) }
+    ensures { IfOk result (λ v. view v ≡ spec.call_value (variant.Kill target.now signal)) }
 {
     let object = Object::new(alloc)
         .text(alloc, "op", "kill")?
@@ -56,7 +60,7 @@ fn kill_value(alloc: Global, target: &Text, signal: Signal) -> Result<Value, All
 
 // A rename.
 fn rename_value(alloc: Global, target: &Text, name: &Text) -> Result<Value, AllocError>
-    ensures { IfOk result (λ v. view v ≡ spec.rename_value target.now name.now) }
+    ensures { IfOk result (λ v. view v ≡ spec.call_value (variant.Rename target.now name.now)) }
 {
     let object = Object::new(alloc)
         .text(alloc, "name", name.as_str())?
@@ -67,7 +71,7 @@ fn rename_value(alloc: Global, target: &Text, name: &Text) -> Result<Value, Allo
 
 // A removal.
 fn remove_value(alloc: Global, target: &Text, force: bool) -> Result<Value, AllocError>
-    ensures { IfOk result (λ v. view v ≡ spec.remove_value target.now force) }
+    ensures { IfOk result (λ v. view v ≡ spec.call_value (variant.Remove target.now force)) }
 {
     let object = Object::new(alloc)
         .flag(alloc, "force", force)?
@@ -78,7 +82,7 @@ fn remove_value(alloc: Global, target: &Text, force: bool) -> Result<Value, Allo
 
 // What a wait waits for.
 fn condition_word(until: Until) -> &'static str
-    ensures { result.now ≡ spec.condition_word until }
+    ensures { result.now ≡ table.condition_word until }
 {
     match until {
         Until::NotRunning => "not-running",
@@ -89,7 +93,7 @@ fn condition_word(until: Until) -> &'static str
 
 // A wait.
 fn wait_value(alloc: Global, target: &Text, until: Until) -> Result<Value, AllocError>
-    ensures { IfOk result (λ v. view v ≡ spec.wait_value target.now until) }
+    ensures { IfOk result (λ v. view v ≡ spec.call_value (variant.Wait target.now until)) }
 {
     let object = Object::new(alloc)
         .text(alloc, "condition", condition_word(until))?
@@ -105,7 +109,7 @@ fn list_value(
     limit: Option<u32>,
     filter: &Filter,
 ) -> Result<Value, AllocError>
-    ensures { IfOk result (λ v. view v ≡ spec.list_value all limit filter.now) }
+    ensures { IfOk result (λ v. view v ≡ spec.call_value (variant.List all limit filter.now)) }
 {
     let rows = filter_value(alloc, filter.as_slice())?;
     let object = Object::new(alloc)
@@ -118,7 +122,8 @@ fn list_value(
 
 // The create of a volume.
 fn volume_create_value(alloc: Global, name: &Text, labels: &Pairs) -> Result<Value, AllocError>
-    ensures { IfOk result (λ v. view v ≡ spec.volume_create_value name.now labels.now) }
+    ensures { IfOk result
+        (λ v. view v ≡ spec.call_value (variant.VolumeCreate name.now labels.now)) }
 {
     let labels = pairs_value(alloc, labels.as_slice())?;
     let object = Object::new(alloc)
@@ -130,7 +135,7 @@ fn volume_create_value(alloc: Global, name: &Text, labels: &Pairs) -> Result<Val
 
 // The inspect or the removal of a volume.
 fn volume_value(alloc: Global, op: &str, name: &Text) -> Result<Value, AllocError>
-    ensures { IfOk result (λ v. view v ≡ spec.volume_value op.now name.now) }
+    ensures { IfOk result (λ v. view v ≡ fields_value (table.volume_fields op.now name.now)) }
 {
     let object = Object::new(alloc)
         .text(alloc, "name", name.as_str())?
@@ -140,7 +145,7 @@ fn volume_value(alloc: Global, op: &str, name: &Text) -> Result<Value, AllocErro
 
 // A list of volumes.
 fn volume_list_value(alloc: Global, filter: &Filter) -> Result<Value, AllocError>
-    ensures { IfOk result (λ v. view v ≡ spec.volume_list_value filter.now) }
+    ensures { IfOk result (λ v. view v ≡ spec.call_value (variant.VolumeList filter.now)) }
 {
     let rows = filter_value(alloc, filter.as_slice())?;
     let object = Object::new(alloc)
@@ -156,7 +161,8 @@ fn events_value(
     until: Option<u64>,
     filter: &Filter,
 ) -> Result<Value, AllocError>
-    ensures { IfOk result (λ v. view v ≡ spec.events_value since until filter.now) }
+    ensures { IfOk result
+        (λ v. view v ≡ spec.call_value (variant.Events since until filter.now)) }
 {
     let rows = filter_value(alloc, filter.as_slice())?;
     let object = Object::new(alloc)
@@ -169,14 +175,14 @@ fn events_value(
 
 // A read of the journal.
 fn journal_value(alloc: Global) -> Result<Value, AllocError>
-    ensures { IfOk result (λ v. view v ≡ spec.journal_value) }
+    ensures { IfOk result (λ v. view v ≡ spec.call_value variant.JournalRead) }
 {
     Ok(Object::new(alloc).text(alloc, "op", "journal")?.value())
 }
 
 // The take or the drop of a ticket.
 fn ticket_value(alloc: Global, op: &str, ticket: u64) -> Result<Value, AllocError>
-    ensures { IfOk result (λ v. view v ≡ spec.ticket_value op.now ticket) }
+    ensures { IfOk result (λ v. view v ≡ fields_value (table.ticket_fields op.now ticket)) }
 {
     let object = Object::new(alloc)
         .text(alloc, "op", op)?

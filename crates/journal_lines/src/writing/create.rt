@@ -1,10 +1,10 @@
 // A create as a value.
-ghost use Rattle.std.specs.Prelude.{◌≡◌, IfOk};
+ghost use Rattle.std.specs.Prelude.{◌≡◌, IfOk, take, drop};
 ghost use Rattle.serde_json.specs.View.{view};
 ghost use Rattle.api_json.specs.Container as container;
-ghost use Rattle.journal_lines.specs.JournalLines as spec;
+ghost use Rattle.journal_lines.specs.CallFields.{create_fields};
+ghost use Rattle.journal_lines.specs.Fields as fields;
 ghost use Rattle.journal_lines.specs.Object.{members_in};
-ghost use Rattle.journal_lines.specs.CreateParts as parts;
 
 use super::object::Object;
 use super::options::text_or_null;
@@ -37,7 +37,8 @@ fn most_retries(policy: Policy) -> u32
 
 // What is asked, up to the mounts.
 fn create_front(alloc: Global, create: &CreateSpec) -> Result<Object, AllocError>
-    ensures { IfOk result (λ o. members_in o ≡ parts.create_front create.now) }
+    ensures { IfOk result
+        (λ o. members_in o ≡ fields.field_members (take 5 (create_fields create.now))) }
 {
     let labels = pairs_value(alloc, create.labels.as_slice())?;
     let mounts = mounts_value(alloc, create.mounts.as_slice())?;
@@ -52,7 +53,8 @@ fn create_front(alloc: Global, create: &CreateSpec) -> Result<Object, AllocError
 
 // What is asked, behind the mounts.
 fn create_back(alloc: Global, create: &CreateSpec, front: Object) -> Result<Object, AllocError>
-    ensures { IfOk result (λ o. members_in o ≡ parts.create_back create.now (members_in front)) }
+    ensures { IfOk result (λ o. members_in o
+        ≡ fields.put_fields (drop 5 (create_fields create.now)) (members_in front)) }
 {
     let name = text_or_null(alloc, &create.name)?;
     let words = words_value(alloc, create.words.as_slice())?;
@@ -69,7 +71,7 @@ fn create_back(alloc: Global, create: &CreateSpec, front: Object) -> Result<Obje
 
 /// A create: what is asked, its keys in byte order.
 pub fn create_value(alloc: Global, create: &CreateSpec) -> Result<Value, AllocError>
-    ensures { IfOk result (λ v. view v ≡ spec.create_value create.now) }
+    ensures { IfOk result (λ v. view v ≡ fields.fields_value (create_fields create.now)) }
 {
     let front = create_front(alloc, create)?;
     let object = create_back(alloc, create, front)?;

@@ -1,6 +1,7 @@
 // Calls of execs as values.
 ghost use Rattle.std.specs.Prelude.{◌≡◌, IfOk};
 ghost use Rattle.serde_json.specs.View.{view};
+ghost use Rattle.engine_text.specs.declared.call.Call.TheVariants as variant;
 ghost use Rattle.journal_lines.specs.JournalLines as spec;
 
 use super::object::Object;
@@ -18,8 +19,8 @@ pub fn exec_create_value(
     out: bool,
     err: bool,
 ) -> Result<Value, AllocError>
-    ensures { IfOk result
-        (λ v. view v ≡ spec.exec_create_value target.now words.now stdin out err) }
+    ensures { IfOk result (λ v. view v
+        ≡ spec.call_value (variant.ExecCreate target.now words.now stdin out err)) }
 {
     let words = words_value(alloc, words.as_slice())?;
     let object = Object::new(alloc)
@@ -34,7 +35,7 @@ pub fn exec_create_value(
 
 /// The start of an exec.
 pub fn exec_start_value(alloc: Global, id: &Text, detach: bool) -> Result<Value, AllocError>
-    ensures { IfOk result (λ v. view v ≡ spec.exec_start_value id.now detach) }
+    ensures { IfOk result (λ v. view v ≡ spec.call_value (variant.ExecStart id.now detach)) }
 {
     let object = Object::new(alloc)
         .flag(alloc, "detach", detach)?
@@ -45,7 +46,7 @@ pub fn exec_start_value(alloc: Global, id: &Text, detach: bool) -> Result<Value,
 
 /// The inspect of an exec.
 pub fn exec_inspect_value(alloc: Global, id: &Text) -> Result<Value, AllocError>
-    ensures { IfOk result (λ v. view v ≡ spec.exec_inspect_value id.now) }
+    ensures { IfOk result (λ v. view v ≡ spec.call_value (variant.ExecInspect id.now)) }
 {
     let object = Object::new(alloc)
         .text(alloc, "id", id.as_str())?

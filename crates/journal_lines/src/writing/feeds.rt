@@ -1,7 +1,8 @@
 // Feeds and ends of input as values (own: bytes in hexadecimal).
-ghost use Rattle.std.specs.Prelude.{◌≡◌, IfOk, codes};
-ghost use Rattle.serde_json.specs.Data as json;
+ghost use Rattle.std.specs.Prelude.{◌≡◌, IfOk};
 ghost use Rattle.serde_json.specs.View.{view};
+ghost use Rattle.engine_text.specs.declared.call.Call.TheVariants as variant;
+ghost use Rattle.journal_lines.specs.CallFields as table;
 ghost use Rattle.journal_lines.specs.JournalLines as spec;
 ghost use Rattle.machine_model.specs.State.{owner_number};
 
@@ -12,7 +13,7 @@ use std::alloc::{AllocError, Global};
 
 // Whose input it is.
 fn kind_of_owner(owner: Owner) -> &'static str
-    ensures { result.now ≡ spec.kind_of_owner owner }
+    ensures { result.now ≡ table.kind_of_owner owner }
 {
     match owner {
         Owner::Container(_) => "container",
@@ -32,7 +33,7 @@ fn owner_number(owner: Owner) -> u64
 
 /// A feed.
 pub fn feed_value(alloc: Global, owner: Owner, run: u64, bytes: &Bytes) -> Result<Value, AllocError>
-    ensures { IfOk result (λ v. view v ≡ spec.feed_value owner run bytes.now) }
+    ensures { IfOk result (λ v. view v ≡ spec.call_value (variant.Feed owner run bytes.now)) }
 {
     let digits = hex::encode(alloc, bytes.as_slice())?;
     let object = Object::new(alloc)
@@ -46,8 +47,7 @@ pub fn feed_value(alloc: Global, owner: Owner, run: u64, bytes: &Bytes) -> Resul
 
 /// An end of input.
 pub fn feed_end_value(alloc: Global, owner: Owner, run: u64) -> Result<Value, AllocError>
-    ensures { IfOk result
-        (λ v. view v ≡ json.object (spec.feed_members (codes "feed_end") owner run)) }
+    ensures { IfOk result (λ v. view v ≡ spec.call_value (variant.FeedEnd owner run)) }
 {
     let object = Object::new(alloc)
         .text(alloc, "kind", kind_of_owner(owner))?

@@ -1,7 +1,7 @@
 // A filter as a value (own: an object of lists of texts).
 ghost use Rattle.std.specs.Prelude.{◌≡◌, IfOk};
 ghost use Rattle.serde_json.specs.View.{view};
-ghost use Rattle.journal_lines.specs.JournalLines as spec;
+ghost use Rattle.journal_lines.specs.Fields as spec;
 
 use super::object::Object;
 use super::values::words_value;

@@ -1,6 +1,7 @@
 // What is asked of logs and of an attach, as values.
 ghost use Rattle.std.specs.Prelude.{◌≡◌, IfOk};
 ghost use Rattle.serde_json.specs.View.{view};
+ghost use Rattle.engine_text.specs.declared.call.Call.TheVariants as variant;
 ghost use Rattle.journal_lines.specs.JournalLines as spec;
 
 use super::object::Object;
@@ -11,7 +12,7 @@ use std::alloc::{AllocError, Global};
 
 /// Logs of a container.
 pub fn logs_value(alloc: Global, target: &Text, ask: &LogAsk) -> Result<Value, AllocError>
-    ensures { IfOk result (λ v. view v ≡ spec.logs_value target.now ask.now) }
+    ensures { IfOk result (λ v. view v ≡ spec.call_value (variant.Logs target.now ask.now)) }
 {
     let object = Object::new(alloc)
         .flag(alloc, "err", ask.err)?
@@ -28,7 +29,7 @@ pub fn logs_value(alloc: Global, target: &Text, ask: &LogAsk) -> Result<Value, A
 
 /// An attach to a container.
 pub fn attach_value(alloc: Global, target: &Text, ask: &AttachAsk) -> Result<Value, AllocError>
-    ensures { IfOk result (λ v. view v ≡ spec.attach_value target.now ask.now) }
+    ensures { IfOk result (λ v. view v ≡ spec.call_value (variant.Attach target.now ask.now)) }
 {
     let object = Object::new(alloc)
         .flag(alloc, "err", ask.err)?

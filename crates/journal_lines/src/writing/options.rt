@@ -4,7 +4,8 @@ ghost use Rattle.std.specs.Option.{option_map_or};
 ghost use Rattle.serde_json.specs.Data.{null};
 ghost use Rattle.serde_json.specs.View.{view};
 ghost use Rattle.api_json.specs.Values.{text, natural, integer};
-ghost use Rattle.journal_lines.specs.JournalLines.{signal_value};
+ghost use Rattle.journal_lines.specs.CallFields.{signal_field};
+ghost use Rattle.journal_lines.specs.Fields.{field_value};
 
 use engine_text::{Signal, Text};
 use serde_json::Value;
@@ -52,7 +53,7 @@ pub fn seconds_or_null(seconds: Option<i32>) -> Value
 
 /// A signal's number, or null.
 pub fn signal_or_null(signal: Option<Signal>) -> Value
-    ensures { view result ≡ option_map_or signal_value signal null }
+    ensures { view result ≡ field_value (signal_field signal) }
 {
     match signal {
         None => Value::Null,

@@ -2,7 +2,7 @@
 ghost use Rattle.std.specs.Prelude.{◌≡◌, IfOk};
 ghost use Rattle.serde_json.specs.View.{view};
 ghost use Rattle.api_json.specs.Values.{text, list_of, pairs_object};
-ghost use Rattle.journal_lines.specs.JournalLines as spec;
+ghost use Rattle.journal_lines.specs.Fields as spec;
 
 use super::object::Object;
 use engine_text::{Mount, Pair, Text};

@@ -3,7 +3,7 @@ use Rattle.std.proofs.lemmas.List.{at_drop_more, at_drop_all}
 use Rattle.serde_json.specs.Data.{Data, put, object}
 use Rattle.api_json.specs.Values.{text, list_of}
 use Rattle.engine_text.specs.Filter.{filter_word}
-use Rattle.journal_lines.specs.JournalLines.{put_rows}
+use Rattle.journal_lines.specs.Fields.{put_rows}
 use Rattle.engine_text.specs.declared.filter.FilterRow.{FilterRow}
 use Rattle.journal_lines.specs.Object.{members_in}
 use Rattle.journal_lines.proofs.writing.filter.filter_value.Goals as goal

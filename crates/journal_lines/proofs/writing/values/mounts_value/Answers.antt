@@ -1,6 +1,6 @@
 use Rattle.std.proofs.Common.{map, ap, ◌∙◌}
 use Rattle.serde_json.specs.View.{view}
-use Rattle.journal_lines.specs.JournalLines.{mount_entry}
+use Rattle.journal_lines.specs.Fields.{mount_entry}
 use Rattle.journal_lines.proofs.ValueLemmas.{shown_more, all_shown}
 use Rattle.journal_lines.proofs.writing.values.mounts_value.Goals as goal
 

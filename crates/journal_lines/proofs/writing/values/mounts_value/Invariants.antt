@@ -1,6 +1,6 @@
 use Rattle.std.proofs.Common.{◌≡◌, map, take}
 use Rattle.serde_json.specs.View.{view}
-use Rattle.journal_lines.specs.JournalLines.{mount_entry}
+use Rattle.journal_lines.specs.Fields.{mount_entry}
 use Rattle.journal_lines.proofs.writing.values.mounts_value.Given as goal
 
 abbrev pub invariant-mounts : goal.invariant-mounts
