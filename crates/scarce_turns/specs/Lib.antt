@@ -1,0 +1,2 @@
+pub mod Scarcity
+pub mod Refusing
