@@ -20,10 +20,9 @@ use Rattle.session_model.specs.Exchange.{IsBody, is_whole}
 use Rattle.session_model.specs.Pass.{PassView}
 use Rattle.session_model.specs.Progress.{Moves}
 use Rattle.session_model.specs.Session.{FollowCause}
-use Rattle.session_model.proofs.HistoryLemmas.{extends_same}
 use Rattle.session_model.proofs.AddsLemmas.{owns}
 use Rattle.session_model.proofs.TurnLemmas.{same_pass}
-use Rattle.attach_hub.specs.Following.{FollowsSince, HasCause, IsTaken, IsWholeBy, MayFollow}
+use Rattle.attach_hub.specs.Following.{Follows, HasCause, IsTaken, IsWholeBy}
 use Rattle.attach_hub.specs.Sides.{Paired}
 use Rattle.engine_serve.specs.Overtaking.{GoesOver, RunsOver}
 
@@ -74,21 +73,19 @@ goes_alone k pumped p q v v' pair moves = record {
 
 -- its run takes no input
 pub runs_unfed : (k : ℕ) (spec : LogSpec) (f : Followed) (p q : PassView) (ahead : List ℕ) (s : SourceView) (u u' : SinkView)
-    (v v' : ClockView) → IsTrue p.pair → MayFollow (state_after p.charter p.seen) spec → spec.feed ≡ None
-    → FollowsSince k (LogStream spec) false f p q u u' v v' → RunsOver k spec f None p q ahead (outside s u v) (outside s u' v')
-runs_unfed k spec f p q ahead s u u' v v' pair may none since =
-    let sent = since.since p.seen (extends_same p.seen) may in
-    record {
-      body = sent.body;
-      part = sent.part;
-      pumps = record { read = []; gave = source_none s; holds = (none, sent.quiet pair) };
-      tells = told_so f sent.whole p.charter spec p.seen q.seen sent.body sent.by_end sent.tells;
-      ends = sent.ends;
-      taken = subst (IsTaken f sent.part) sent.pieces sent.taken;
-      sink = sent.sink;
-      cause = (follow_cause f s s u u' v v' sent.cause, tt);
-      goes = goes_alone k _ p q v v' pair sent.moves;
-    }
+    (v v' : ClockView) → IsTrue p.pair → spec.feed ≡ None
+    → Follows k (LogStream spec) false f p q u u' v v' → RunsOver k spec f None p q ahead (outside s u v) (outside s u' v')
+runs_unfed k spec f p q ahead s u u' v v' pair none sent = record {
+  body = sent.body;
+  part = sent.part;
+  pumps = record { read = []; gave = source_none s; holds = (none, sent.quiet pair) };
+  tells = told_so f sent.whole p.charter spec p.seen q.seen sent.body sent.by_end sent.tells;
+  ends = sent.ends;
+  taken = subst (IsTaken f sent.part) sent.pieces sent.taken;
+  sink = sent.sink;
+  cause = (follow_cause f s s u u' v v' sent.cause, tt);
+  goes = goes_alone k _ p q v v' pair sent.moves;
+}
 
 -- ---- where its input is pumped
 

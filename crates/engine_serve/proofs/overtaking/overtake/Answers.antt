@@ -10,7 +10,7 @@ pub returns-in-None : goal.returns-in-None
 returns-in-None g c =
     let followed = c.follow_whole-followed.result in
     taken_over c.args.conn c.args.upgrade c.args.spec.now followed None c.ending_of.result _ _ _ _ _ _ _ _ _ _ c.in-Ok.ensures
-    (runs_unfed c.args.conn c.args.spec.now followed _ _ _ _ _ _ _ _ c.requires.pair c.requires.may c.in-None.is c.follow_whole-followed.ensures) c.ending_of.ensures
+    (runs_unfed c.args.conn c.args.spec.now followed _ _ _ _ _ _ _ _ c.requires.pair c.in-None.is c.follow_whole-followed.ensures) c.ending_of.ensures
 
 pub returns-in-Some : goal.returns-in-Some
 returns-in-Some g c =
