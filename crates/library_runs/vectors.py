@@ -16,6 +16,7 @@ import writing
 import programs
 import tables
 import journal
+import journal_edges
 import frames
 import kept
 import ports

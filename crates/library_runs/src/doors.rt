@@ -4,7 +4,7 @@ use crate::ports::given;
 use crate::short::Short;
 use engine_ports::{
     Arrival, Clock, Door, Link, MemDoor, MemLink, MemSink, MemSource, NoDoor, Parting, Parts, Sink,
-    StepClock, StreamPast, TcpDoor, TcpLink,
+    StepClock, TcpDoor, TcpLink,
 };
 use std::alloc::Global;
 
@@ -95,19 +95,29 @@ fn link(alloc: Global, rest: &str) -> Result<String, Short> {
     Ok(told)
 }
 
-// What comes through a door over TCP of a link that asks, what comes back, and whether the time is known.
-fn meet(rt: &HostRuntime, ask: &str, tell: &str) -> Result<String, Short> {
-    let alloc = rt.alloc();
-    let mut door = TcpDoor::new(rt, alloc);
-    let mut link = TcpLink::new(rt, alloc);
+// A door over TCP at a port that was free, and its address.
+fn door_here(rt: &HostRuntime) -> Result<Option<(TcpDoor<&HostRuntime>, String)>, Short> {
+    let mut door = TcpDoor::new(rt, rt.alloc());
     if door.bind("127.0.0.1:0").is_err() {
-        return owned(alloc, "no port");
+        return Ok(None);
     }
     let Some(addr) = door.address() else {
-        return owned(alloc, "no address");
+        return Ok(None);
     };
-    let addr = format!(in alloc; "127.0.0.1:{}", addr.port())?;
-    let Ok((mut answers, mut requests)) = link.connect(addr.as_str()) else {
+    let addr = format!(in rt.alloc(); "127.0.0.1:{}", addr.port())?;
+    Ok(Some((door, addr)))
+}
+
+// What comes through a door of a link that asks, what comes back, and whether the time is known.
+fn meet<D: Door, L: Link>(
+    alloc: Global,
+    door: &mut D,
+    link: &mut L,
+    addr: &str,
+    rest: &str,
+) -> Result<String, Short> {
+    let (ask, tell) = cut(rest);
+    let Ok((mut answers, mut requests)) = link.connect(addr) else {
         return owned(alloc, "no connection");
     };
     let Arrival::Conn(mut source, mut sink, mut clock) = door.accept() else {
@@ -117,10 +127,51 @@ fn meet(rt: &HostRuntime, ask: &str, tell: &str) -> Result<String, Short> {
     let sent = requests.write(ask.as_bytes()).and(requests.finish());
     let asked = given(alloc, &mut source);
     let answered = sink.write(tell.as_bytes());
-    door.leave(0, StreamPast::part(source, sink, clock));
+    door.leave(0, D::Past::part(source, sink, clock));
     let told = given(alloc, &mut answers);
     link.leave(answers, requests);
     Ok(format!(in alloc; "{sent:?}{}, {answered:?}{}, {known}", asked?, told?)?)
+}
+
+// What a probe answers while the peer is there, once its writing has ended, and once it is gone with a byte unread.
+fn probe<D: Door, L: Link>(
+    alloc: Global,
+    door: &mut D,
+    link: &mut L,
+    addr: &str,
+) -> Result<String, Short> {
+    let Ok((answers, mut requests)) = link.connect(addr) else {
+        return owned(alloc, "no connection");
+    };
+    let Arrival::Conn(mut source, mut sink, clock) = door.accept() else {
+        return owned(alloc, "nobody came");
+    };
+    let there = sink.probe();
+    let finished = requests.finish();
+    let asked = given(alloc, &mut source);
+    let ended = sink.probe();
+    let answered = sink.write(b"x");
+    link.leave(answers, requests);
+    let gone = sink.probe();
+    door.leave(0, D::Past::part(source, sink, clock));
+    Ok(format!(in alloc;
+        "{there:?}, {finished:?}{}, {ended:?}, {answered:?}, {gone:?}",
+        asked?
+    )?)
+}
+
+// What comes of a link over TCP that leads to a door.
+fn over_tcp(rt: &HostRuntime, kind: &str, rest: &str) -> Result<String, Short> {
+    let alloc = rt.alloc();
+    let Some((mut door, addr)) = door_here(rt)? else {
+        return owned(alloc, "no door");
+    };
+    let mut link = TcpLink::new(rt, alloc);
+    if kind == "probe" {
+        probe(alloc, &mut door, &mut link, addr.as_str())
+    } else {
+        meet(alloc, &mut door, &mut link, addr.as_str(), rest)
+    }
 }
 
 // Whether a door is bound at an address, and whether a link leads there.
@@ -138,10 +189,7 @@ pub fn told(rt: &HostRuntime, kind: &str, rest: &str) -> Result<String, Short> {
         "memory" => door(alloc, rest),
         "none" => no_door(alloc, rest),
         "link" => link(alloc, rest),
-        "tcp" => {
-            let (ask, tell) = cut(rest);
-            meet(rt, ask, tell)
-        }
+        "tcp" | "probe" => over_tcp(rt, kind, rest),
         "reached" => reached(rt, rest),
         _ => owned(alloc, "no such kind"),
     }

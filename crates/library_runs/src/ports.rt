@@ -40,11 +40,15 @@ fn source(alloc: Global, rest: &str) -> Result<String, Short> {
     }
 }
 
-// What a sink answers to each piece, and to the end.
+// What a sink answers to each piece, to a probe in the place of one, and to the end.
 fn taken<S: Sink>(alloc: Global, sink: &mut S, pieces: &str) -> Result<String, Short> {
     let mut told = String::new(alloc);
     for piece in pieces.split('|') {
-        let answer = sink.write(piece.as_bytes());
+        let answer = if piece == "(probe)" {
+            sink.probe()
+        } else {
+            sink.write(piece.as_bytes())
+        };
         write!(told, "{answer:?}, ")?;
     }
     let answer = sink.finish();

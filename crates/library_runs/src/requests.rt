@@ -56,37 +56,17 @@ fn failing(alloc: Global, rest: &str) -> Result<String, Short> {
     shown(alloc, came)
 }
 
-// A text, another so many times, and a third behind them.
-fn filled(
-    alloc: Global,
-    before: &str,
-    count: u64,
-    piece: &str,
-    after: &str,
-) -> Result<String, Short> {
-    let mut text = owned(alloc, before)?;
-    for _ in 0..count {
-        text.push_str(piece)?;
-    }
-    text.push_str(after)?;
-    Ok(text)
-}
-
 /// The bytes of `COUNT|PIECE|BEFORE|AFTER`: the piece so often, between the two.
 pub fn fill(alloc: Global, rest: &str) -> Result<String, Short> {
     let (count, rest) = cut(rest);
     let (piece, rest) = cut(rest);
     let (before, after) = cut(rest);
+    let count: usize = count.parse().unwrap_or(0);
     let piece = spelled(alloc, piece)?;
+    let pieces = piece.as_str().repeat(alloc, count)?;
     let before = spelled(alloc, before)?;
     let after = spelled(alloc, after)?;
-    filled(
-        alloc,
-        before.as_str(),
-        number(count),
-        piece.as_str(),
-        after.as_str(),
-    )
+    Ok(format!(in alloc; "{before}{pieces}{after}")?)
 }
 
 // What comes of filled bytes in pieces of a size.

@@ -1,9 +1,20 @@
 // Values that are read of texts and written on lines.
+ghost use Rattle.std.specs.Prelude.{◌≡◌, false, IfOk};
+ghost use Rattle.serde_json.specs.Written.{has_float};
+ghost use Rattle.serde_json.specs.View.{view};
+
 use crate::line::{as_text, bytes_of, owned};
 use crate::short::Short;
 use json_laws::{line_of_value, value_of_line, value_of_text};
-use serde_json::Value;
+use serde_json::{Value, json};
 use std::alloc::Global;
+
+// The value that is written here.
+fn known(alloc: Global) -> Result<Value, Short>
+    ensures { IfOk result (λ v. has_float (view v) ≡ false) }
+{
+    Ok(json!(in alloc; {"words": ["\u{e9}", "\n"], "after": -1})?)
+}
 
 // Whether the value is read of the line again.
 fn is_read_again(alloc: Global, line: &[u8], value: &Value) -> Result<bool, Short> {
@@ -13,22 +24,26 @@ fn is_read_again(alloc: Global, line: &[u8], value: &Value) -> Result<bool, Shor
     }
 }
 
-// The line of a value, which is read again.
-fn written(alloc: Global, value: &Value) -> Result<String, Short> {
-    let line = line_of_value(alloc, value)?;
-    if is_read_again(alloc, line.as_slice(), value)? {
+// The line of that value, which is read again.
+fn written(alloc: Global) -> Result<String, Short> {
+    let value = known(alloc)?;
+    let line = line_of_value(alloc, &value)?;
+    if is_read_again(alloc, line.as_slice(), &value)? {
         owned(alloc, as_text(line.as_slice()))
     } else {
         owned(alloc, "another value")
     }
 }
 
-// The line of what was read, if there was a value.
+// Whether that value was read.
 fn shown(alloc: Global, value: Option<Value>) -> Result<String, Short> {
-    match &value {
-        Some(value) => written(alloc, value),
-        None => owned(alloc, "no value"),
-    }
+    let known = known(alloc)?;
+    let said = match &value {
+        Some(value) if *value == known => "that value",
+        Some(_) => "another value",
+        None => "no value",
+    };
+    owned(alloc, said)
 }
 
 // So many brackets that are opened.
@@ -44,6 +59,7 @@ pub fn told(alloc: Global, kind: &str, rest: &str) -> Result<String, Short> {
         "bytes" => shown(alloc, value_of_text(alloc, &bytes_of(alloc, rest)?)?),
         "line" => shown(alloc, value_of_line(alloc, rest.as_bytes())?),
         "nested" => nested(alloc, rest),
+        "written" => written(alloc),
         _ => owned(alloc, "no such kind"),
     }
 }
