@@ -77,7 +77,7 @@ unasked ch k r behind a b flow w ms none (WaitIsStopped c ns is late given) = ab
 -- ---- a session that ends well
 
 -- its last answer isn't that of a stop, nor was a write of it lost
-abbrev IsCalmEnding : Ending → Type 0
+abbrev pub IsCalmEnding : Ending → Type 0
 IsCalmEnding E.Stopped = ⊥
 IsCalmEnding E.WriteFault = ⊥
 IsCalmEnding e = Unit {0}
