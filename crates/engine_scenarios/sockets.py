@@ -47,6 +47,9 @@ course("mebibytes_over_sockets", (0, create("web", body=CAT), created(0)), (1, [
 # who goes inside a frame is a fault alone
 course("gone_inside_a_frame", (0, create("web", body=CAT), created(0)), (1, [START, attach("web", FED)], answer(204) + UPGRADED),
        (1, "a", frame(1, "a")), (1, "b", frame(1, "b")[:8]), (1, "gone", ""), (0, FORCE, answer(204)), (0, LISTS, NONE), status=4)
+# who waits or follows and is gone, with a byte unread, ends though nothing is to be written, while the container goes on
+course("gone_while_it_waits", (0, RUNS, RUNS_ANSWERS), (1, wait("next-exit"), EARLY_HEAD[:-1]), (2, FOLLOW, log_head()[:-1]),
+       (1, "gone", ""), (2, "gone", ""), (0, closing(START), closed(answer(304))), status=4)
 # who goes inside a head or a body, or stays there, loses nobody else anything
 course("halfway_over_sockets", (0, HALF_A_HEAD, ""), (0, "gone", ""), (1, HALF_A_BODY, ""), (1, "gone", ""), (2, HALF_A_HEAD, ""),
        (3, closing(WEB), closed(created(0))), (2, "gone", ""), status=3)

@@ -12,8 +12,11 @@ use engine_program::run_engined;
 use engine_text::Text;
 use std::fs;
 use std::io::{self, Write};
+use std::net::{Net, TcpListener, TcpStream};
+use std::rt::Files;
 use std::sync::Wait;
 use std::thread::Threads;
+use std::time::Clock;
 
 /// What a run ended with, and what it wrote but to connections.
 #[derive(Drop)]
@@ -137,7 +140,16 @@ fn tell_talk<R: Threads + Wait + Sync + AllocGlobal + Print>(
 }
 
 /// Runs a scenario and tells what came of it.
-pub fn tell(rt: &HostRuntime, scenario: &Scenario) -> io::Result<()> {
+pub fn tell<
+    R: Threads
+        + Wait
+        + Sync
+        + AllocGlobal
+        + Files
+        + Print
+        + Net<Listener = TcpListener, Stream = TcpStream>
+        + Clock,
+>(rt: &R, scenario: &Scenario) -> io::Result<()> {
     let words = scenario.words.as_slice();
     let name = scenario.name.as_str();
     let bytes = fs::read(rt, name)?;

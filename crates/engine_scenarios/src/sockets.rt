@@ -8,9 +8,11 @@ use engine_ports::{NoMemory, TcpDoor};
 use engine_text::Text;
 use std::alloc::{AllocError, Global};
 use std::io::{self, ErrorKind, Write};
-use std::net::{Shutdown, TcpListener, TcpStream};
+use std::net::{Net, Shutdown, TcpListener, TcpStream};
 use std::str;
-use std::thread::join;
+use std::sync::Wait;
+use std::thread::{Threads, join};
+use std::time::Clock;
 
 /// What a line has: whose it is, what that one does, and a number.
 #[derive(Clone, Copy)]
@@ -35,8 +37,8 @@ fn read_turn(line: &str) -> Option<Turn<'_>> {
 }
 
 // What the connection of a turn does, and what comes back.
-fn act(
-    rt: &HostRuntime,
+fn act<R: Threads + AllocGlobal>(
+    rt: &R,
     stream: &TcpStream,
     turn: &Turn<'_>,
     bytes: &str,
@@ -66,8 +68,8 @@ fn add(streams: &mut Vec<Option<TcpStream>>, stream: TcpStream) -> Result<(), Al
 }
 
 // Lets a connection go, or do what its turn says; it is made in its first one.
-fn make_turn(
-    rt: &HostRuntime,
+fn make_turn<R: Threads + AllocGlobal + Net<Stream = TcpStream> + Clock>(
+    rt: &R,
     port: u16,
     streams: &mut Vec<Option<TcpStream>>,
     turn: &Turn<'_>,
@@ -96,7 +98,12 @@ fn tell_line(line: &str, told: &mut Vec<u8>) -> Result<(), AllocError> {
 }
 
 // Makes the turns of a course, one behind the other, and tells what each brought.
-fn make_turns(rt: &HostRuntime, port: u16, text: &str, told: &mut Vec<u8>) -> io::Result<()> {
+fn make_turns<R: Threads + AllocGlobal + Net<Stream = TcpStream> + Clock>(
+    rt: &R,
+    port: u16,
+    text: &str,
+    told: &mut Vec<u8>,
+) -> io::Result<()> {
     let mut streams = Vec::new(rt.alloc());
     let mut left = text;
     for _ in 0..text.len() {
@@ -129,8 +136,8 @@ fn words_at(alloc: Global, port: u16, words: &[Text]) -> Result<Vec<Text>, Alloc
 }
 
 // Tells the status of the daemon and what the connections were told, or that one failed.
-fn tell(
-    rt: &HostRuntime,
+fn tell<R: Print>(
+    rt: &R,
     ran: Result<Ran, NoMemory>,
     made: io::Result<()>,
     told: &[u8],
@@ -149,7 +156,15 @@ fn tell(
 }
 
 /// Runs the daemon at a port of this machine, and a course beside it, and tells what came of both.
-pub fn tell_course(rt: &HostRuntime, words: &[Text], bytes: &[u8]) -> io::Result<()> {
+pub fn tell_course<
+    R: Threads
+        + Wait
+        + Sync
+        + AllocGlobal
+        + Print
+        + Net<Listener = TcpListener, Stream = TcpStream>
+        + Clock,
+>(rt: &R, words: &[Text], bytes: &[u8]) -> io::Result<()> {
     let alloc = rt.alloc();
     let Ok(text) = str::from_utf8(bytes) else {
         return println!(rt; "no course");
@@ -167,7 +182,15 @@ pub fn tell_course(rt: &HostRuntime, words: &[Text], bytes: &[u8]) -> io::Result
 }
 
 /// Runs the daemon at a port that is taken.
-pub fn tell_taken(rt: &HostRuntime, words: &[Text]) -> io::Result<()> {
+pub fn tell_taken<
+    R: Threads
+        + Wait
+        + Sync
+        + AllocGlobal
+        + Print
+        + Net<Listener = TcpListener, Stream = TcpStream>
+        + Clock,
+>(rt: &R, words: &[Text]) -> io::Result<()> {
     let taken = TcpListener::bind(rt, "127.0.0.1:0")?;
     let words = words_at(rt.alloc(), taken.local_addr()?.port(), words)?;
     let mut door = TcpDoor::new(rt, rt.alloc());
