@@ -1,4 +1,3 @@
-pub mod AskedLemmas
 pub mod PrintLemmas
 pub mod WatchLemmas
-pub mod WatchedLemmas
+pub mod StepLemmas

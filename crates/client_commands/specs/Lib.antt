@@ -1,4 +1,5 @@
 pub mod Reading
 pub mod Printing
 pub mod Steps
+pub mod Places
 pub mod Cutting

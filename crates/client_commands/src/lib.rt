@@ -1,18 +1,18 @@
-//! The commands of the client, each by its plan.
+//! The commands of the client as steps: what each does first, and what it does behind each answer.
 #![tactic(auto)]
 
-mod asked;
-mod asked_for;
-mod commands;
+mod asking;
+mod beginning;
+mod going_on;
+mod onward;
+mod places;
 mod printing;
 mod reading;
+mod step;
 mod watching;
 
-pub use commands::{
-    attach_container, create_container, create_volume, exec_command, kill_container,
-    list_containers, list_volumes, pause_container, remove_container, remove_volume,
-    rename_container, restart_container, run_container, show_container, show_version, show_volume,
-    start_container, stop_container, unpause_container, wait_container, watch_events, write_events,
-    write_journal, write_logs,
-};
-pub use printing::print_all;
+pub use beginning::begin;
+pub use going_on::next;
+pub use onward::Then;
+pub use printing::text_of;
+pub use step::Step;

@@ -1,68 +1,80 @@
-// Lines on standard output, at the end of a command.
-ghost use Rattle.std.specs.Prelude.{◌≡◌, ◌++◌, [], codes, decimal, IfErr};
-ghost use Rattle.engine_ports.specs.Link.{LinkView};
-ghost use Rattle.engine_ports.specs.Sink.{SinkView, WriteSays};
-ghost use Rattle.client_model.specs.Plans.{prints, prints_all, done, ends};
-ghost use Rattle.client_exchange.specs.Exchanges.{reach};
-ghost use Rattle.client_commands.specs.Printing.{lines_text, Prints};
+// Steps that print, and end.
+ghost use Rattle.std.specs.Prelude.{◌≡◌, ◌++◌, false, codes, decimal, IfOk};
+ghost use Rattle.client_model.specs.Plans.{prints, prints_all, done};
+ghost use Rattle.client_commands.specs.Places.{GoesOn};
+ghost use Rattle.client_commands.specs.Printing.{lines_text};
 
+use crate::step::Step;
 use client_model::Fault;
-use engine_ports::{Failed, Sink};
-use engine_text::Text;
+use engine_text::{NoMemory, Text};
 use itoa::Buffer;
+use std::alloc::Global;
+use std::mem;
 
-/// Writes a line.
-fn write_line<K: Sink>(out: &mut K, line: &[u8]) -> Result<(), Failed>
-    ensures { WriteSays result (line.now ++ codes "\n") (K.takes out.old) (K.takes out.new) }
+/// Adds a line with its end to a text.
+fn add_line(text: &mut Vec<u8>, line: &[u8]) -> Result<(), NoMemory>
+    ensures { IfOk result (λ x. text.new.items ≡ text.old.items ++ line.now ++ codes "\n") }
 {
-    out.write(line)?;
-    out.write(b"\n")
-}
-
-/// Writes lines.
-fn write_lines<K: Sink>(out: &mut K, lines: &[Text]) -> Result<(), Failed>
-    ensures written { WriteSays result (lines_text lines.now) (K.takes out.old) (K.takes out.new) }
-    ensures failing { IfErr result (λ failed. ¬ (lines_text lines.now ≡ [])) }
-{
-    'lines: for line in lines {
-        match write_line(out, line.as_slice()) {
-            Ok(()) => {}
-            Err(failed) => return Err(failed),
-        }
-    }
+    text.extend_from_slice(line)?;
+    text.extend_from_slice(b"\n")?;
     Ok(())
 }
 
-/// Prints a line, and ends.
-pub(crate) fn print<K: Sink>(out: &mut K, line: &[u8]) -> Result<u8, Fault>
-    ensures { (link : LinkView) (e : SinkView)
-        → Prints (prints line.now done) result (reach link (K.takes out.old) e)
-        (reach link (K.takes out.new) e) }
+/// A line with its end.
+fn line_text(alloc: Global, line: &[u8]) -> Result<Vec<u8>, NoMemory>
+    ensures { IfOk result (λ t. t.items ≡ line.now ++ codes "\n") }
 {
-    match write_line(out, line) {
-        Ok(()) => Ok(0),
-        Err(_) => Err(Fault::Output),
+    let mut text = Vec::new(alloc);
+    add_line(&mut text, line)?;
+    Ok(text)
+}
+
+/// Lines, each with its end.
+pub fn text_of(alloc: Global, lines: &[Text]) -> Result<Vec<u8>, NoMemory>
+    ensures { IfOk result (λ t. t.items ≡ lines_text lines.now) }
+{
+    let mut text = Vec::new(alloc);
+    'lines: for line in lines {
+        add_line(&mut text, line.as_slice())?;
+    }
+    Ok(text)
+}
+
+/// It prints a line.
+pub(crate) fn prints(alloc: Global, line: &[u8]) -> Result<Step, Fault>
+    ensures { GoesOn result false (prints line.now done) }
+{
+    match line_text(alloc, line) {
+        Ok(text) => Ok(Step::Writes { text, status: 0 }),
+        Err(_) => Err(Fault::NoMemory),
     }
 }
 
-/// Prints an exit code, and ends.
-pub(crate) fn print_code<K: Sink>(out: &mut K, code: u8) -> Result<u8, Fault>
-    ensures { (link : LinkView) (e : SinkView)
-        → Prints (prints (decimal code) done) result (reach link (K.takes out.old) e)
-        (reach link (K.takes out.new) e) }
+/// It prints an exit code.
+pub(crate) fn prints_code(alloc: Global, code: u8) -> Result<Step, Fault>
+    ensures { GoesOn result false (prints (decimal code) done) }
 {
     let mut digits = Buffer::new();
-    print(out, digits.format(code).as_bytes())
+    prints(alloc, digits.format(code).as_bytes())
 }
 
-/// Prints lines, and ends with this status.
-pub fn print_all<K: Sink>(out: &mut K, lines: &[Text], status: u8) -> Result<u8, Fault>
-    ensures { (link : LinkView) (e : SinkView)
-        → Prints (prints_all lines.now (ends status)) result (reach link (K.takes out.old) e)
-        (reach link (K.takes out.new) e) }
+/// It prints lines.
+pub(crate) fn prints_all(alloc: Global, lines: &[Text]) -> Result<Step, Fault>
+    ensures { GoesOn result false (prints_all lines.now done) }
 {
-    match write_lines(out, lines) {
-        Ok(()) => Ok(status),
-        Err(_) => Err(Fault::Output),
+    match text_of(alloc, lines) {
+        Ok(text) => Ok(Step::Writes { text, status: 0 }),
+        Err(_) => Err(Fault::NoMemory),
+    }
+}
+
+/// It prints a body, which is taken.
+pub(crate) fn prints_body(alloc: Global, body: &mut Vec<u8>) -> Result<Step, Fault>
+    ensures { GoesOn result false (prints body.old.items done) }
+{
+    let mut text = mem::replace(&mut *body, Vec::new(alloc));
+    match text.push(b'\n') {
+        Ok(()) => Ok(Step::Writes { text, status: 0 }),
+        Err(_) => Err(Fault::NoMemory),
     }
 }

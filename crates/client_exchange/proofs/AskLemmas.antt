@@ -1,5 +1,5 @@
 -- What one exchange comes to, by the plan that asks it.
-use Rattle.std.proofs.Common.{◌≡◌, inl, inr, ℕ, List, [], refl, sym, ap, ◌∙◌, subst, Option, None, Err, Bool, true, false, append-nil}
+use Rattle.std.proofs.Common.{◌≡◌, inl, inr, ℕ, List, [], refl, sym, ap, ◌∙◌, subst, None, Err, Bool, true, false, append-nil}
 use Rattle.std.specs.Prelude.{nat_lt, if◌then◌else◌, ◌&&◌}
 use Rattle.http_edge.specs.Message.{Request}
 use Rattle.http_edge.specs.declared.head.Head.{Head}
@@ -15,15 +15,14 @@ use Rattle.client_streams.specs.Outputs.{BothBegan}
 use Rattle.client_model.specs.Streams.{shows, may_end}
 use Rattle.client_streams.specs.Taking.{Taken, taken, ends_by}
 use Rattle.client_exchange.specs.Telling.{HadToWrite, answer_shows}
-use Rattle.client_exchange.specs.Exchanges.{Reach, IsAnswered, HasGone, HasRefused, HasBroken, KeepsOff, HasMissed, ExchangeSays}
+use Rattle.client_exchange.specs.Exchanges.{Reach, HasRefused, HasBroken, KeepsOff, HasMissed}
 use Rattle.client_exchange.specs.Walks.{IsAsking, Walked, Walks, FailsAlone, StopsIn, Does}
-use Rattle.client_exchange.specs.Asking.{alone, asks_body, shown_by, numbered}
-use Rattle.client_exchange.specs.declared.got.Got.{Got}
+use Rattle.client_exchange.specs.Asking.{asked_as, Onward, shown_then, FailsShort}
 use Rattle.client_model.specs.declared.showing.Showing.{Showing}
-use Rattle.client_model.specs.declared.showing.Showing.TheVariants.{Kept}
+use Rattle.client_model.specs.declared.showing.Showing.TheVariants.{Kept, Copied, Demuxed}
 use Rattle.client_streams.proofs.OutputLemmas.{both_none, began_none}
 use Rattle.client_streams.proofs.TakingLemmas.{ends_so}
-use Rattle.client_exchange.proofs.WalkLemmas.{way_one, walk_none, walk_one}
+use Rattle.client_exchange.proofs.WalkLemmas.{way_one, walk_none}
 
 writes_nothing : (plan : Plan) → IsAsking plan → plan ≡ writes nothing plan
 writes_nothing (Ends w ending) is = refl
@@ -114,121 +113,54 @@ missed_does asked f fault o o' m = record {
 -- ---- a request that standard input doesn't follow
 
 -- it refused
-refused_does : (showing : Showing) (request : Request) (f : Head → List ℕ → Bool → Plan) (fault : Fault) (o o' : Reach)
-    → HasRefused (request_bytes request) fault showing o o' → Does (Asks nothing (alone showing request) (by_answer f)) (Err fault) o o'
+pub refused_does : (showing : Showing) (request : Request) (f : Head → List ℕ → Bool → Plan) (fault : Fault) (o o' : Reach)
+    → HasRefused (request_bytes request) fault showing o o' → Does (Asks nothing (asked_as request false showing) (by_answer f)) (Err fault) o o'
 unfolding refused_way way_one
 refused_does showing request f fault o o' r =
-    does_fail (Asks nothing (alone showing request) (by_answer f)) fault o o'
-    (record { way = refused_way (alone showing request) [] f fault o o' r; quiet = refl })
+    does_fail (Asks nothing (asked_as request false showing) (by_answer f)) fault o o'
+    (record { way = refused_way (asked_as request false showing) [] f fault o o' r; quiet = refl })
 
 -- its connection broke off
-broken_does : (showing : Showing) (request : Request) (f : Head → List ℕ → Bool → Plan) (fault : Fault) (o o' : Reach)
-    → CutFails (alone showing request) [] f → HasBroken (request_bytes request) ⊥ fault showing o o'
-    → Does (Asks nothing (alone showing request) (by_answer f)) (Err fault) o o'
+pub broken_does : (showing : Showing) (request : Request) (f : Head → List ℕ → Bool → Plan) (fault : Fault) (o o' : Reach)
+    → CutFails (asked_as request false showing) [] f → HasBroken (request_bytes request) ⊥ fault showing o o'
+    → Does (Asks nothing (asked_as request false showing) (by_answer f)) (Err fault) o o'
 unfolding broken_stops
 broken_does showing request f fault o o' cut b = record {
-  next = Asks nothing (alone showing request) (by_answer f);
+  next = Asks nothing (asked_as request false showing) (by_answer f);
   between = o;
-  walks = walk_none (Asks nothing (alone showing request) (by_answer f)) o;
-  comes = inr (inr (record { stops = broken_stops (alone showing request) [] f ⊥ fault o o' cut b; quiet = refl }));
+  walks = walk_none (Asks nothing (asked_as request false showing) (by_answer f)) o;
+  comes = inr (inr (record { stops = broken_stops (asked_as request false showing) [] f ⊥ fault o o' cut b; quiet = refl }));
 }
 
--- ---- a body that is kept
+-- ---- a body that came
 
 -- how it goes on by an answer that doesn't refuse
 pub by_below : (f : Head → List ℕ → Bool → Plan) (h : Head) (body : List ℕ) (whole : Bool) → nat_lt h.status 400 ≡ true → by_answer f (Answered h body whole) ≡ f h body whole
 by_below f h body whole less =
     ap (λ t. if t then f h body whole else refuses body whole) less
 
-by_body : (List ℕ → Plan) → Head → List ℕ → Bool → Plan
-by_body next h body whole = if whole then next body else fails (cut_fault body)
-
-pub ask_goes : (request : Request) (got : Got) (t : Taken) (o o' : Reach) (next : List ℕ → Plan) → got.whole ≡ true
-    → HasGone (request_bytes request) got Kept t o o' → IsAsking (next t.kept) → Walks (asks_body request next) o (next t.kept) o'
-unfolding by_body
-ask_goes request got t o o' next whole g asking =
-    walk_one Kept request (by_answer (by_body next)) (Answered g.head g.body got.whole) nothing (next t.kept) o o' g.answered g.took
-    (by_below (by_body next) g.head g.body got.whole g.status
-    ∙ ap (by_body next g.head g.body) whole
-    ∙ ap next (sym (ap (λ (k : Taken). k.kept) g.kept))
-    ∙ writes_nothing (next t.kept) asking)
-    asking
-
-pub ask_cut : (request : Request) (bytes : List ℕ) (got : Got) (t : Taken) (o o' : Reach) (next : List ℕ → Plan) → bytes ≡ request_bytes request → got.whole ≡ false
-    → (g : HasGone bytes got Kept t o o') → Does (asks_body request next) (Err (cut_fault g.body)) o o'
-unfolding by_body
-ask_cut request bytes got t o o' next same cut g =
-    does_fail (asks_body request next) (cut_fault g.body) o o'
-    (walk_one Kept request (by_answer (by_body next)) (Answered g.head g.body got.whole) nothing (fails (cut_fault g.body)) o o'
-    (subst (λ b. IsAnswered b Kept (Answered g.head g.body got.whole) o.link o'.link) same g.answered) g.took
-    (by_below (by_body next) g.head g.body got.whole g.status ∙ ap (by_body next g.head g.body) cut) tt)
-
--- the plan failed, or broke off
-pub ask_fails : (request : Request) (fault : Fault) (t : Taken) (o o' : Reach) → ExchangeSays (request_bytes request) (Err fault) Kept t o o'
-    → (next : List ℕ → Plan) → Does (asks_body request next) (Err fault) o o'
-unfolding by_body
-ask_fails request fault t o o' (inl r) next = refused_does Kept request (by_body next) fault o o' r
-ask_fails request fault t o o' (inr (inl b)) next = broken_does Kept request (by_body next) fault o o' (λ h body. (cut_fault body, refl)) b
-ask_fails request fault t o o' (inr (inr m)) next = missed_does (alone Kept request) (by_body next) fault o o' m
-
--- ---- a body of events
-
-by_number : (Option ℕ → Bool → List ℕ → Plan) → Head → List ℕ → Bool → Plan
-by_number next h body whole = next (first_in h.form) whole body
-
-pub numbered_goes : (request : Request) (got : Got) (t : Taken) (o o' : Reach) (next : Option ℕ → Bool → List ℕ → Plan)
-    → HasGone (request_bytes request) got Kept t o o' → IsAsking (next got.first got.whole t.kept) → Walks (numbered request next) o (next got.first got.whole t.kept) o'
-unfolding by_number
-numbered_goes request got t o o' next g asking =
-    walk_one Kept request (by_answer (by_number next)) (Answered g.head g.body got.whole) nothing (next got.first got.whole t.kept) o o' g.answered g.took
-    (by_below (by_number next) g.head g.body got.whole g.status
-    ∙ ap (λ first. next first got.whole g.body) (sym g.first)
-    ∙ ap (next got.first got.whole) (sym (ap (λ (k : Taken). k.kept) g.kept))
-    ∙ writes_nothing (next got.first got.whole t.kept) asking)
-    asking
-
-pub numbered_fails : (request : Request) (fault : Fault) (t : Taken) (o o' : Reach) → ExchangeSays (request_bytes request) (Err fault) Kept t o o'
-    → (next : Option ℕ → Bool → List ℕ → Plan) → ((first : Option ℕ) (body : List ℕ) → (f : Fault) × (next first false body ≡ fails f))
-    → Does (numbered request next) (Err fault) o o'
-unfolding by_number
-numbered_fails request fault t o o' (inl r) next cut = refused_does Kept request (by_number next) fault o o' r
-numbered_fails request fault t o o' (inr (inl b)) next cut =
-    broken_does Kept request (by_number next) fault o o'
-    (λ h body. let c = cut (first_in h.form) body in (c.0, c.1)) b
-numbered_fails request fault t o o' (inr (inr m)) next cut = missed_does (alone Kept request) (by_number next) fault o o' m
-
--- ---- a body that is shown
-
+-- by where its frames stand, whether it may end
 pub ends_as : (showing : Showing) (t : Taken) (body : List ℕ) → t ≡ taken showing body → ends_by t ≡ may_end showing body
 ends_as showing t body is = ap ends_by is ∙ ends_so showing body
 
-unfoldable pub by_shown : Showing → Plan → Head → List ℕ → Bool → Plan
-by_shown showing next h body whole = writes (shows showing body) (if whole && may_end showing body then next else fails F.Answer)
+and_true : (t : Bool) → (t && true) ≡ t
+and_true true = refl
+and_true false = refl
 
-pub show_goes : (request : Request) (got : Got) (showing : Showing) (t : Taken) (o o' : Reach) (next : Plan) → (got.whole && ends_by t) ≡ true
-    → HasGone (request_bytes request) got showing t o o' → IsAsking next → Walks (shown_by showing request false next) o next o'
-unfolding by_shown
-show_goes request got showing t o o' next all g asking =
-    walk_one showing request (by_answer (by_shown showing next)) (Answered g.head g.body got.whole) (shows showing g.body) next o o' g.answered g.took
-    (by_below (by_shown showing next) g.head g.body got.whole g.status
-    ∙ ap (λ e. writes (shows showing g.body) (if got.whole && e then next else fails F.Answer)) (sym (ends_as showing t g.body g.kept))
-    ∙ ap (λ e. writes (shows showing g.body) (if e then next else fails F.Answer)) all)
-    asking
+-- what it shows is written first, of a kept one nothing
+pub shown_writes : (showing : Showing) (next : Onward) (h : Head) (body : List ℕ) (whole : Bool)
+    → IsAsking (next (first_in h.form) (taken showing body).kept (whole && may_end showing body))
+    → shown_then showing next h body whole ≡ writes (shows showing body) (next (first_in h.form) (taken showing body).kept (whole && may_end showing body))
+shown_writes Kept next h body whole asking =
+    ap (next (first_in h.form) body) (sym (and_true whole)) ∙ writes_nothing (next (first_in h.form) body (whole && true)) asking
+shown_writes Copied next h body whole asking = refl
+shown_writes Demuxed next h body whole asking = refl
 
-pub show_cut : (request : Request) (got : Got) (showing : Showing) (t : Taken) (o o' : Reach) (next : Plan) → (got.whole && ends_by t) ≡ false
-    → HasGone (request_bytes request) got showing t o o' → Does (shown_by showing request false next) (Err F.Answer) o o'
-unfolding by_shown
-show_cut request got showing t o o' next cut g =
-    does_fail (shown_by showing request false next) F.Answer o o'
-    (walk_one showing request (by_answer (by_shown showing next)) (Answered g.head g.body got.whole) (shows showing g.body) (fails F.Answer) o o' g.answered g.took
-    (by_below (by_shown showing next) g.head g.body got.whole g.status
-    ∙ ap (λ e. writes (shows showing g.body) (if got.whole && e then next else fails F.Answer)) (sym (ends_as showing t g.body g.kept))
-    ∙ ap (λ e. writes (shows showing g.body) (if e then next else fails F.Answer)) cut)
-    tt)
-
-pub show_fails : (request : Request) (fault : Fault) (showing : Showing) (t : Taken) (o o' : Reach) → ExchangeSays (request_bytes request) (Err fault) showing t o o'
-    → (next : Plan) → Does (shown_by showing request false next) (Err fault) o o'
-unfolding by_shown
-show_fails request fault showing t o o' (inl r) next = refused_does showing request (by_shown showing next) fault o o' r
-show_fails request fault showing t o o' (inr (inl b)) next = broken_does showing request (by_shown showing next) fault o o' (λ h body. (F.Answer, refl)) b
-show_fails request fault showing t o o' (inr (inr m)) next = missed_does (alone showing request) (by_shown showing next) fault o o' m
+-- behind a body that was cut it fails
+pub shown_cut : (asked : Asked) (next : Onward) → FailsShort next → (input : List ℕ) → CutFails asked input (shown_then asked.showing next)
+shown_cut asked next short input h body = by_showing asked.showing
+  where
+    by_showing : (showing : Showing) → (fault : Fault) × (shown_then showing next h body false ≡ writes (shows showing body) (fails fault))
+    by_showing Kept = let c = short (first_in h.form) body in (c.0, c.1)
+    by_showing Copied = let c = short (first_in h.form) [] in (c.0, ap (writes (shows Copied body)) c.1)
+    by_showing Demuxed = let c = short (first_in h.form) [] in (c.0, ap (writes (shows Demuxed body)) c.1)

@@ -1,27 +1,18 @@
 -- A request that standard input follows, by the plan that asks it.
-use Rattle.std.proofs.Common.{◌≡◌, inl, inr, ℕ, List, [], ◌∷◌, ◌++◌, map, refl, sym, ap, ◌∙◌, Result, Ok, Err, Bool, true, false}
+use Rattle.std.proofs.Common.{◌≡◌, inl, inr, ℕ, List, [], ◌∷◌, ◌++◌, map, refl, sym, ap, ◌∙◌, Result, Bool, true, false}
 use Rattle.std.specs.Prelude.{if◌then◌else◌, ◌&&◌, ◌||◌}
 use Rattle.std.specs.List.{list_any}
 use Rattle.std.proofs.lemmas.List.Folds.{list_any-append}
-use Rattle.engine_ports.specs.Source.{SourceView, SourceGave, SourceEnded}
-use Rattle.http_edge.specs.Message.{Request}
-use Rattle.response_reader.specs.Answers.{Answered}
+use Rattle.engine_ports.specs.Source.{SourceView}
 use Rattle.client_model.specs.Requests.{request_bytes}
-use Rattle.client_model.specs.Plans.{Plan, Asked, nothing, writes, fails, by_answer}
+use Rattle.client_model.specs.Plans.{Plan, Asked}
 use Rattle.client_model.specs.Runs.{sent_by}
 use Rattle.client_model.specs.declared.fault.Fault.{Fault}
 use Rattle.client_model.specs.declared.fault.Fault.TheVariants as F
-use Rattle.client_model.specs.Streams.{shows}
-use Rattle.client_streams.specs.Taking.{Taken, ends_by}
-use Rattle.client_model.specs.declared.showing.Showing.{Showing}
-use Rattle.client_streams.proofs.OutputLemmas.{both_none}
-use Rattle.client_exchange.specs.declared.got.Got.{Got}
-use Rattle.client_exchange.specs.Exchanges.{Reach, HasGone}
-use Rattle.client_exchange.specs.Walks.{IsAsking, AreQuiet, Walked, Walks, Does}
-use Rattle.client_exchange.specs.Asking.{shown_by}
-use Rattle.client_exchange.specs.Feeding.{InputFails, FedFails, FedSays, Feeds, FedDoes}
-use Rattle.client_exchange.proofs.WalkLemmas.{way_one, way_on, walk_none, walk_on}
-use Rattle.client_exchange.proofs.AskLemmas.{by_below, by_shown, ends_as, refused_way, broken_stops, missed_does}
+use Rattle.client_exchange.specs.Exchanges.{Reach}
+use Rattle.client_exchange.specs.Walks.{AreQuiet, Walked, Walks, Does}
+use Rattle.client_exchange.specs.Feeding.{Feeds, FedDoes}
+use Rattle.client_exchange.proofs.WalkLemmas.{way_on, walk_on}
 
 -- ---- walks beside input
 
@@ -109,74 +100,3 @@ fed_does plan next result v v' o p q w (inr (inr (fault, is, s))) =
         fed = s.fed;
       },
     ))
-
--- ---- a body that is shown
-
-module _ (showing : Showing) (request : Request) (next : Plan) where
-  abbrev plan : Plan
-  plan = shown_by showing request true next
-
-  abbrev asked : Asked
-  asked = record { request = request; input = true; showing = showing }
-
-  -- the plan that an answer leads to is reached
-  reaches : (got : Got) (t : Taken) (input : List ℕ) (last : Plan) (v v' : SourceView) (o o' : Reach) → SourceGave v input v' → SourceEnded v v'
-      → (g : HasGone (request_bytes request ++ input) got showing t o o') → (if got.whole && ends_by t then next else fails F.Answer) ≡ last → IsAsking last
-      → Feeds plan v v' o last o'
-  unfolding by_shown way_one
-  reaches got t input last v v' o o' gave ended g is asking = record {
-    input = input;
-    way =
-        way_one asked input (by_answer (by_shown showing next)) (Answered g.head g.body got.whole) (shows showing g.body) last o o' g.answered g.took
-        (by_below (by_shown showing next) g.head g.body got.whole g.status
-        ∙ ap (λ e. writes (shows showing g.body) (if got.whole && e then next else fails F.Answer)) (sym (ends_as showing t g.body g.kept))
-        ∙ ap (writes (shows showing g.body)) is)
-        asking;
-    loud = refl;
-    gave = gave;
-    ended = ended;
-  }
-
-  fails_fed : (fault : Fault) (v v' : SourceView) (o o' : Reach) → Feeds plan v v' o (fails fault) o' → FedDoes plan (Err fault) v v' o o'
-  fails_fed fault v v' o o' f = inr (inl (record {
-    next = fails fault;
-    between = o';
-    feeds = f;
-    comes = inl (record { written = nothing; is = refl; took = both_none o'.shown; link = refl });
-  }))
-
-  pub fed_goes : (got : Got) (t : Taken) (v v' : SourceView) (o o' : Reach) → (got.whole && ends_by t) ≡ true
-      → FedSays (request_bytes request) (Ok got) showing t v v' o o' → IsAsking next → Feeds plan v v' o next o'
-  fed_goes got t v v' o o' all (input, gave, ended, g) asking =
-      reaches got t input next v v' o o' gave ended g (ap (λ e. if e then next else fails F.Answer) all) asking
-
-  pub fed_cut : (got : Got) (t : Taken) (v v' : SourceView) (o o' : Reach) → (got.whole && ends_by t) ≡ false
-      → FedSays (request_bytes request) (Ok got) showing t v v' o o' → FedDoes plan (Err F.Answer) v v' o o'
-  fed_cut got t v v' o o' cut (input, gave, ended, g) =
-      fails_fed F.Answer v v' o o' (reaches got t input (fails F.Answer) v v' o o' gave ended g (ap (λ e. if e then next else fails F.Answer) cut) tt)
-
-  pub fed_fails : (fault : Fault) (v v' : SourceView) (o o' : Reach)
-      → FedFails (request_bytes request) fault showing v v' o o' → FedDoes plan (Err fault) v v' o o'
-  unfolding by_shown refused_way way_one broken_stops
-  fed_fails fault v v' o o' (inl (input, gave, inl (ended, r))) = fails_fed fault v v' o o' (record {
-    input = input;
-    way = refused_way asked input (by_shown showing next) fault o o' r;
-    loud = refl;
-    gave = gave;
-    ended = ended;
-  })
-  fed_fails fault v v' o o' (inl (input, gave, inr (b, fed))) = inr (inr (
-    fault,
-    refl,
-    record {
-      next = plan;
-      between = o;
-      walks = walk_none plan o;
-      input = input;
-      gave = gave;
-      stops = broken_stops asked input (by_shown showing next) (InputFails v v') fault o o' (λ h body. (F.Answer, refl)) b;
-      loud = refl;
-      fed = fed;
-    },
-  ))
-  fed_fails fault v v' o o' (inr (same, m)) = inl (missed_does asked (by_shown showing next) fault o o' m, same)

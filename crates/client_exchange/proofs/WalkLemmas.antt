@@ -4,17 +4,13 @@ use Rattle.std.proofs.lemmas.List.{map-append}
 use Rattle.std.proofs.lemmas.List.Folds.{list_any-append}
 use Rattle.engine_ports.specs.Link.{Wire}
 use Rattle.response_reader.specs.Answers.{Answer}
-use Rattle.client_model.specs.Requests.{request_bytes}
 use Rattle.client_model.specs.Plans.{Plan, Ends, Asks, Judges, Asked, Written, nothing, joined, writes}
 use Rattle.client_model.specs.Client.{Said, said, said_first, said_by}
 use Rattle.client_model.specs.Runs.{Exchange, AreAnswered, HaveCome, AreLeft, sent_by, AreFronts}
 use Rattle.client_model.specs.declared.fault.Fault.{Fault}
-use Rattle.client_model.specs.declared.showing.Showing.{Showing}
-use Rattle.http_edge.specs.Message.{Request}
 use Rattle.client_streams.specs.Outputs.{BothTook}
 use Rattle.client_exchange.specs.Exchanges.{Reach, IsAnswered}
 use Rattle.client_exchange.specs.Walks.{IsAsking, AreQuiet, said_behind, WroteBefore, Walked, Walks, Does}
-use Rattle.client_exchange.specs.Asking.{alone}
 use Rattle.client_streams.proofs.OutputLemmas.{both_none, both_on, fronts_none, fronts_longer, fronts_behind}
 
 -- ---- lists of connections
@@ -204,10 +200,3 @@ way_one asked input cont answer w next o o' is took goes asking = record {
       ap (λ (p : Plan). said_first nothing asked (said_by p None more)) goes
       ∙ ap (said_first nothing asked) (writes_says w next more asking);
 }
-
-pub walk_one : (showing : Showing) (request : Request) (cont : Answer → Plan) (answer : Answer) (w : Written) (next : Plan) (o o' : Reach)
-    → IsAnswered (request_bytes request) showing answer o.link o'.link → BothTook o.shown w o'.shown → cont answer ≡ writes w next → IsAsking next
-    → Walks (Asks nothing (alone showing request) cont) o next o'
-unfolding way_one
-walk_one showing request cont answer w next o o' is took goes asking =
-    record { way = way_one (alone showing request) [] cont answer w next o o' is took goes asking; quiet = refl }

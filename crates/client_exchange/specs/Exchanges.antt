@@ -1,6 +1,5 @@
 -- One request over a connection of its own, and its answer (own: told of the bytes that are sent, whatever they are).
-use Rattle.std.specs.Prelude.{ℕ, ◌≡◌, ◌⊎◌, ◌&&◌, nat_lt, Bool, true, false, List, [], ◌∷◌, Vec, Result, Ok, Err, ⊤}
-use Rattle.std.specs.declared.alloc.Global.{Global}
+use Rattle.std.specs.Prelude.{ℕ, ◌≡◌, ◌⊎◌, ◌&&◌, nat_lt, true, List, [], ◌∷◌, Result, Ok, Err, ⊤}
 use Rattle.engine_ports.specs.Rose.{Rose}
 use Rattle.engine_ports.specs.Source.{SourceView}
 use Rattle.engine_ports.specs.Sink.{SinkView, SinkTook, IsFront}
@@ -8,8 +7,8 @@ use Rattle.engine_ports.specs.Link.{LinkView}
 use Rattle.http_edge.specs.declared.head.Head.{Head}
 use Rattle.response_reader.specs.Answers.{Answer, Answered, TellsSoFar}
 use Rattle.response_reader.specs.Heads.{first_in}
-use Rattle.client_model.specs.Plans.{nothing, cut_fault}
-use Rattle.client_model.specs.Streams.{shows, may_end}
+use Rattle.client_model.specs.Plans.{nothing}
+use Rattle.client_model.specs.Streams.{shows}
 use Rattle.client_model.specs.Runs.{Exchange, has_ended, shows_unfit, IsRead, WasSent, HaveCome, AreLeft, HasFailed, missed_by}
 use Rattle.client_model.specs.declared.fault.Fault.{Fault}
 use Rattle.client_model.specs.declared.fault.Fault.TheVariants as F
@@ -18,7 +17,6 @@ use Rattle.client_streams.specs.Taking.{Taken, taken}
 use Rattle.client_exchange.specs.Telling.{HadToWrite, CountsAll, Refuses, answer_shows, AnswerSays}
 use Rattle.client_exchange.specs.declared.got.Got.{Got}
 use Rattle.client_model.specs.declared.showing.Showing.{Showing}
-use Rattle.client_model.specs.declared.showing.Showing.TheVariants.{Kept}
 
 -- what a request reaches: the link but for the call's address, and the outputs
 pub record Reach : Type 0 where
@@ -131,35 +129,3 @@ FailsSo request fault showing o o' =
 abbrev pub ExchangeSays : List ℕ → Result Got Fault → Showing → Taken → Reach → Reach → Type 0
 ExchangeSays request (Ok got) showing t o o' = HasGone request got showing t o o'
 ExchangeSays request (Err fault) showing t o o' = FailsSo request fault showing o o'
-
--- ---- what is handed on of it
-
--- what came of a body was shown, and it is so whether all of it came and ends where it may
-pub record HasShown (request : List ℕ) (all : Bool) (showing : Showing) (o o' : Reach) : Type 0 where
-  pub got : Got
-  pub t : Taken
-  pub gone : HasGone request got showing t o o'
-  pub is : (got.whole && may_end showing gone.body) ≡ all
-
--- not all of it came, or it ends where it may not
-abbrev pub IsShort : List ℕ → Fault → Showing → Reach → Reach → Type 0
-IsShort request fault showing o o' = (fault ≡ F.Answer) × HasShown request false showing o o'
-
--- not all of a body came that is kept
-abbrev pub IsCut : List ℕ → Fault → Reach → Reach → Type 0
-IsCut request fault o o' = (x : HasShown request false Kept o o') × (fault ≡ cut_fault x.gone.body)
-
--- all of a body came, and this is it; or it was cut, or the exchange failed
-abbrev pub AskSays : List ℕ → Result (Vec ℕ Global) Fault → Reach → Reach → Type 0
-AskSays request (Ok body) o o' = (got : Got) × (got.whole ≡ true) × HasGone request got Kept (taken Kept body.items) o o'
-AskSays request (Err fault) o o' = IsCut request fault o o' ⊎ FailsSo request fault Kept o o'
-
--- so much of a body came; or the exchange failed
-abbrev pub NumberedSays : List ℕ → Result (Got × Vec ℕ Global) Fault → Reach → Reach → Type 0
-NumberedSays request (Ok read) o o' = HasGone request read.0 Kept (taken Kept read.1.items) o o'
-NumberedSays request (Err fault) o o' = FailsSo request fault Kept o o'
-
--- all of a body was shown; or it was short, or the exchange failed
-abbrev pub ShowSays : List ℕ → Showing → Result (Unit {0}) Fault → Reach → Reach → Type 0
-ShowSays request showing (Ok x) o o' = HasShown request true showing o o'
-ShowSays request showing (Err fault) o o' = IsShort request fault showing o o' ⊎ FailsSo request fault showing o o'

@@ -4,7 +4,6 @@ use Rattle.std.specs.List.{list_any}
 use Rattle.engine_ports.specs.Rose.{Rose}
 use Rattle.engine_ports.specs.Source.{SourceView, SourceGave, SourceEnded}
 use Rattle.engine_ports.specs.Sink.{SinkView, SinkTook, IsFront}
-use Rattle.http_edge.specs.Message.{Request}
 use Rattle.client_model.specs.Plans.{Plan}
 use Rattle.client_model.specs.declared.fault.Fault.{Fault}
 use Rattle.client_model.specs.declared.fault.Fault.TheVariants as F
@@ -13,9 +12,8 @@ use Rattle.client_streams.specs.Taking.{Taken}
 use Rattle.client_model.specs.declared.showing.Showing.{Showing}
 use Rattle.client_exchange.specs.declared.got.Got.{Got}
 use Rattle.client_exchange.specs.Telling.{AnswerSays}
-use Rattle.client_exchange.specs.Exchanges.{Reach, SendFails, IsUnsent, HasGone, HasRefused, HasBroken, HasMissed, HasShown}
-use Rattle.client_exchange.specs.Walks.{IsAsking, Walked, Walks, StopsIn, Comes, Does}
-use Rattle.client_exchange.specs.Asking.{shown_by}
+use Rattle.client_exchange.specs.Exchanges.{Reach, SendFails, IsUnsent, HasGone, HasRefused, HasBroken, HasMissed, ExchangeSays}
+use Rattle.client_exchange.specs.Walks.{Walked, Walks, StopsIn, Comes, Does}
 
 -- ---- on a connection
 
@@ -72,16 +70,10 @@ FedSays request (Ok got) showing t v v' o o' =
     (input : List ℕ) × SourceGave v input v' × SourceEnded v v' × HasGone (request ++ input) got showing t o o'
 FedSays request (Err fault) showing t v v' o o' = FedFails request fault showing v v' o o'
 
--- the request and all of standard input were sent, and what came of a body was shown, all of it or not
-abbrev pub HasFed : List ℕ → Bool → Showing → SourceView → SourceView → Reach → Reach → Type 0
-HasFed request all showing v v' o o' =
-    (input : List ℕ) × SourceGave v input v' × SourceEnded v v' × HasShown (request ++ input) all showing o o'
-
--- all of a body was shown; or it was short, or the exchange failed
-abbrev pub ShowFedSays : List ℕ → Showing → Result (Unit {0}) Fault → SourceView → SourceView → Reach → Reach → Type 0
-ShowFedSays request showing (Ok x) v v' o o' = HasFed request true showing v v' o o'
-ShowFedSays request showing (Err fault) v v' o o' =
-    ((fault ≡ F.Answer) × HasFed request false showing v v' o o') ⊎ FedFails request fault showing v v' o o'
+-- standard input follows the request, or is untouched
+abbrev pub SaysAs : Bool → List ℕ → Result Got Fault → Showing → Taken → SourceView → SourceView → Reach → Reach → Type 0
+SaysAs true request result showing t v v' o o' = FedSays request result showing t v v' o o'
+SaysAs false request result showing t v v' o o' = ExchangeSays request result showing t o o' × (v' ≡ v)
 
 -- ---- by the plan that asks it
 
@@ -117,8 +109,3 @@ abbrev pub FedDoes : Plan → Result ℕ Fault → SourceView → SourceView →
 FedDoes plan result v v' o o' =
     (Does plan result o o' × (v' ≡ v))
     ⊎ (DoesBehind plan result v v' o o' ⊎ ((fault : Fault) × (result ≡ Err fault) × StopsFeeding plan fault v v' o o'))
-
--- the body was shown, all of it, and the plan behind it is reached; or the plan ended or broke off
-abbrev pub ShowFedDoes : Showing → Request → Result (Unit {0}) Fault → SourceView → SourceView → Reach → Reach → Type 0
-ShowFedDoes showing request (Ok x) v v' o o' = (next : Plan) → IsAsking next → Feeds (shown_by showing request true next) v v' o next o'
-ShowFedDoes showing request (Err fault) v v' o o' = (next : Plan) → FedDoes (shown_by showing request true next) (Err fault) v v' o o'

@@ -1,66 +1,67 @@
 // One request, and what is handed on of its answer.
 ghost use Rattle.std.specs.Prelude.{◌≡◌, ◌&&◌, []};
 ghost use Rattle.engine_ports.specs.Link.{but_for};
+ghost use Rattle.http_edge.specs.Message.{Request};
+ghost use Rattle.client_model.specs.Requests.{request_bytes};
 ghost use Rattle.client_streams.specs.Taking.{ends_by, taken};
-ghost use Rattle.client_exchange.specs.Exchanges.{AskSays, NumberedSays, ShowSays, reach};
-ghost use Rattle.client_exchange.specs.Feeding.{ShowFedSays};
+ghost use Rattle.client_exchange.specs.Asking.{AskDoes, asked_as};
+ghost use Rattle.client_exchange.specs.Exchanges.{reach};
+ghost use Rattle.client_exchange.specs.Feeding.{SaysAs};
 
+use crate::body::Body;
 use crate::connection::exchange;
 use crate::feeding::exchange_with_input;
 use crate::got::Got;
 use crate::made::fresh_taker;
-use client_model::{Fault, Showing};
-use client_streams::{Taker, cut_fault};
+use crate::outside::Outside;
+use crate::request::Ask;
+use client_model::Fault;
+use client_streams::Taker;
 use engine_ports::{Link, Sink, Source};
 use std::alloc::Global;
 use std::sync::Wait;
 
-/// Sends a request, and hands the body of its answer on, all of which came.
-pub fn ask<W: Wait, L: Link, K: Sink, E: Sink>(
+/// Sends a request, and maybe standard input behind it; then shows the body of its answer through this taker.
+fn exchange_as<W: Wait, L: Link, N: Source, K: Sink, E: Sink>(
     rt: &W,
     alloc: Global,
-    link: &mut L,
+    outside: &mut Outside<L, N, K, E>,
     address: &str,
     request: &[u8],
-    out: &mut K,
-    errors: &mut E,
-) -> Result<Vec<u8>, Fault>
-    ensures { AskSays request.now result
-        (reach (but_for address.now (L.links link.old)) (K.takes out.old) (E.takes errors.old))
-        (reach (but_for address.now (L.links link.new)) (K.takes out.new) (E.takes errors.new)) }
+    fed: bool,
+    taker: &mut Taker,
+) -> Result<Got, Fault>
+    requires { taker.old ≡ taken taker.old.showing [] }
+    ensures { SaysAs fed request.now result taker.old.showing taker.new
+        (N.gives outside.old.input) (N.gives outside.new.input)
+        (reach (but_for address.now (L.links outside.old.link)) (K.takes outside.old.out)
+        (E.takes outside.old.errors))
+        (reach (but_for address.now (L.links outside.new.link)) (K.takes outside.new.out)
+        (E.takes outside.new.errors)) }
 {
-    let mut taker = fresh_taker(alloc, Showing::Kept);
-    match exchange(rt, alloc, link, address, request, &mut taker, out, errors) {
-        Ok(got) => {
-            if got.whole {
-                Ok(taker.into_kept())
-            } else {
-                Err(cut_fault(taker.kept()))
-            }
-        }
-        Err(fault) => Err(fault),
-    }
-}
-
-/// Sends a request, and hands on as much of the body of its answer as came, with the number of its first event and whether
-/// all of it came.
-pub fn ask_numbered<W: Wait, L: Link, K: Sink, E: Sink>(
-    rt: &W,
-    alloc: Global,
-    link: &mut L,
-    address: &str,
-    request: &[u8],
-    out: &mut K,
-    errors: &mut E,
-) -> Result<(Got, Vec<u8>), Fault>
-    ensures { NumberedSays request.now result
-        (reach (but_for address.now (L.links link.old)) (K.takes out.old) (E.takes errors.old))
-        (reach (but_for address.now (L.links link.new)) (K.takes out.new) (E.takes errors.new)) }
-{
-    let mut taker = fresh_taker(alloc, Showing::Kept);
-    match exchange(rt, alloc, link, address, request, &mut taker, out, errors) {
-        Ok(got) => Ok((got, taker.into_kept())),
-        Err(fault) => Err(fault),
+    if fed {
+        exchange_with_input(
+            rt,
+            alloc,
+            &mut outside.link,
+            address,
+            request,
+            &mut outside.input,
+            taker,
+            &mut outside.out,
+            &mut outside.errors,
+        )
+    } else {
+        exchange(
+            rt,
+            alloc,
+            &mut outside.link,
+            address,
+            request,
+            taker,
+            &mut outside.out,
+            &mut outside.errors,
+        )
     }
 }
 
@@ -71,102 +72,48 @@ fn is_whole(got: Got, taker: &Taker) -> bool
     if got.whole { taker.may_end() } else { false }
 }
 
-/// Sends a request, and shows the body of its answer through this taker.
-fn show_through<W: Wait, L: Link, K: Sink, E: Sink>(
-    rt: &W,
-    alloc: Global,
-    link: &mut L,
-    address: &str,
-    request: &[u8],
-    taker: &mut Taker,
-    out: &mut K,
-    errors: &mut E,
-) -> Result<(), Fault>
-    requires { taker.old ≡ taken taker.old.showing [] }
-    ensures { ShowSays request.now taker.old.showing result
-        (reach (but_for address.now (L.links link.old)) (K.takes out.old) (E.takes errors.old))
-        (reach (but_for address.now (L.links link.new)) (K.takes out.new) (E.takes errors.new)) }
+/// What is handed on of an answer whose body this taker took.
+fn body_of(got: Got, taker: Taker) -> Body
+    ensures first { result.first ≡ got.first }
+    ensures bytes { result.bytes.items ≡ taker.kept }
+    ensures whole { result.whole ≡ got.whole && ends_by taker }
 {
-    match exchange(rt, alloc, link, address, request, taker, out, errors) {
-        Ok(got) => {
-            if is_whole(got, taker) {
-                Ok(())
-            } else {
-                Err(Fault::Answer)
-            }
-        }
-        Err(fault) => Err(fault),
+    let whole = is_whole(got, &taker);
+    Body {
+        first: got.first,
+        bytes: taker.into_kept(),
+        whole,
     }
 }
 
-/// Sends a request, and shows the body of its answer as it comes.
-pub fn show<W: Wait, L: Link, K: Sink, E: Sink>(
+/// Asks over a connection of its own, and shows the body of the answer as it comes; hands on what is told of it. The
+/// connection is given back in any case. What it needs of memory, but for what is kept of a body, it takes before it connects.
+pub fn ask<W: Wait, L: Link, N: Source, K: Sink, E: Sink>(
     rt: &W,
     alloc: Global,
-    link: &mut L,
+    outside: &mut Outside<L, N, K, E>,
     address: &str,
-    request: &[u8],
-    showing: Showing,
-    out: &mut K,
-    errors: &mut E,
-) -> Result<(), Fault>
-    ensures { ShowSays request.now showing result
-        (reach (but_for address.now (L.links link.old)) (K.takes out.old) (E.takes errors.old))
-        (reach (but_for address.now (L.links link.new)) (K.takes out.new) (E.takes errors.new)) }
+    ask: &Ask,
+) -> Result<Body, Fault>
+    ensures { (r : Request) → ask.now.request.items ≡ request_bytes r
+        → AskDoes (asked_as r ask.now.input ask.now.showing) result
+        (N.gives outside.old.input) (N.gives outside.new.input)
+        (reach (but_for address.now (L.links outside.old.link)) (K.takes outside.old.out)
+        (E.takes outside.old.errors))
+        (reach (but_for address.now (L.links outside.new.link)) (K.takes outside.new.out)
+        (E.takes outside.new.errors)) }
 {
-    let mut taker = fresh_taker(alloc, showing);
-    show_through(rt, alloc, link, address, request, &mut taker, out, errors)
-}
-
-/// Sends a request, and behind it standard input to its end; then shows the body of its answer through this taker.
-fn show_input_through<W: Wait, L: Link, N: Source, K: Sink, E: Sink>(
-    rt: &W,
-    alloc: Global,
-    link: &mut L,
-    address: &str,
-    request: &[u8],
-    input: &mut N,
-    taker: &mut Taker,
-    out: &mut K,
-    errors: &mut E,
-) -> Result<(), Fault>
-    requires { taker.old ≡ taken taker.old.showing [] }
-    ensures { ShowFedSays request.now taker.old.showing result
-        (N.gives input.old) (N.gives input.new)
-        (reach (but_for address.now (L.links link.old)) (K.takes out.old) (E.takes errors.old))
-        (reach (but_for address.now (L.links link.new)) (K.takes out.new) (E.takes errors.new)) }
-{
-    match exchange_with_input(rt, alloc, link, address, request, input, taker, out, errors) {
-        Ok(got) => {
-            if is_whole(got, taker) {
-                Ok(())
-            } else {
-                Err(Fault::Answer)
-            }
-        }
+    let mut taker = fresh_taker(alloc, ask.showing);
+    match exchange_as(
+        rt,
+        alloc,
+        outside,
+        address,
+        &ask.request,
+        ask.input,
+        &mut taker,
+    ) {
+        Ok(got) => Ok(body_of(got, taker)),
         Err(fault) => Err(fault),
     }
-}
-
-/// Sends a request, and behind it standard input to its end; then shows the body of its answer as it comes.
-pub fn show_with_input<W: Wait, L: Link, N: Source, K: Sink, E: Sink>(
-    rt: &W,
-    alloc: Global,
-    link: &mut L,
-    address: &str,
-    request: &[u8],
-    input: &mut N,
-    showing: Showing,
-    out: &mut K,
-    errors: &mut E,
-) -> Result<(), Fault>
-    ensures { ShowFedSays request.now showing result
-        (N.gives input.old) (N.gives input.new)
-        (reach (but_for address.now (L.links link.old)) (K.takes out.old) (E.takes errors.old))
-        (reach (but_for address.now (L.links link.new)) (K.takes out.new) (E.takes errors.new)) }
-{
-    let mut taker = fresh_taker(alloc, showing);
-    show_input_through(
-        rt, alloc, link, address, request, input, &mut taker, out, errors,
-    )
 }

@@ -57,7 +57,7 @@ fn converse<W: Wait, S: Source, I: Sink, K: Sink, E: Sink>(
 
 /// Sends a request over a connection of its own, reads its answer to its end, and shows the body as it comes. The connection is
 /// given back in any case. What it needs of memory, but for what is kept of a body, it takes before it connects.
-pub fn exchange<W: Wait, L: Link, K: Sink, E: Sink>(
+pub(crate) fn exchange<W: Wait, L: Link, K: Sink, E: Sink>(
     rt: &W,
     alloc: Global,
     link: &mut L,

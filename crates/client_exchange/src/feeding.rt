@@ -50,7 +50,7 @@ fn talk<W: Wait, N: Source, S: Source, I: Sink, K: Sink, E: Sink>(
 
 /// Sends a request over a connection of its own, and behind it standard input to its end; then reads its answer to its end, and
 /// shows the body as it comes. The connection is given back in any case.
-pub fn exchange_with_input<W: Wait, L: Link, N: Source, K: Sink, E: Sink>(
+pub(crate) fn exchange_with_input<W: Wait, L: Link, N: Source, K: Sink, E: Sink>(
     rt: &W,
     alloc: Global,
     link: &mut L,

@@ -3,14 +3,17 @@
 
 mod answer;
 mod asking;
+mod body;
 mod connection;
 mod feeding;
 mod following;
 mod got;
 mod made;
+mod outside;
+mod request;
 mod sending;
 
-pub use asking::{ask, ask_numbered, show, show_with_input};
-pub use connection::exchange;
-pub use feeding::exchange_with_input;
-pub use got::Got;
+pub use asking::ask;
+pub use body::Body;
+pub use outside::Outside;
+pub use request::Ask;

@@ -21,22 +21,10 @@ use Rattle.client_exchange.specs.Walks.{IsAsking, Walked, Walks, Finishes, Stops
 use Rattle.client_exchange.specs.Feeding.{Feeds, StopsFeeding, DoesBehind, FedDoes, InputFails}
 use Rattle.client_exchange.proofs.WalkLemmas.{came_none, left_none}
 use Rattle.client_exchange.proofs.FeedLemmas.{with_input}
-use Rattle.client_commands.specs.Printing.{PrintsOrLacks}
+use Rattle.client_program.specs.Printing.{PrintsOrLacks}
 use Rattle.client_program.specs.Replaying as replay
-use Rattle.client_program.specs.Running.{outside, reach_of, Ran, Tells}
+use Rattle.client_program.specs.Running.{outside_of, reach_of, Ran, Tells}
 use Rattle.client_program.proofs.RunLemmas.{ended, course, broken_off, asks_one, stopped_before, stopped_in, quiet_stop, alone_cause}
-
--- ---- a plan by another name
-
-pub alone : (address : List ℕ) (plan plan' : Plan) (result : Result ℕ Fault) (o o' : Outside) → plan ≡ plan'
-    → Does plan result (reach_of address o) (reach_of address o') → o'.input ≡ o.input → IsAsking plan → Ran address plan' result o o'
-alone address plan plan' result o o' is d same asking =
-    inl (subst IsAsking is asking, inl (subst (λ p. Does p result (reach_of address o) (reach_of address o')) is d, same))
-
-pub fed : (address : List ℕ) (plan plan' : Plan) (result : Result ℕ Fault) (o o' : Outside) → plan ≡ plan'
-    → FedDoes plan result o.input o'.input (reach_of address o) (reach_of address o') → IsAsking plan → Ran address plan' result o o'
-fed address plan plan' result o o' is d asking =
-    inl (subst IsAsking is asking, subst (λ p. FedDoes p result o.input o'.input (reach_of address o) (reach_of address o')) is d)
 
 -- ---- standard input of a plan
 
@@ -68,9 +56,9 @@ module _ (words : List (List ℕ)) (o m : Outside) (asking : IsAsking (plan_for 
   fails_so : (fault : Fault) (status : ℕ) (e : SinkView) (input : List ℕ) (next : Plan) (p : Reach) (way : Walked (plan_for words) input (reach_of (address_in words) o) next p)
       → Finishes next (Fails fault) p (reach_of (address_in words) m) → SourceGave o.input input m.input
       → InputStands (list_any (λ a. a.input) way.asked) false [] input o.input m.input → Tells words fault status m.err e
-      → IsEnded words status o (outside m.link m.input m.out e)
+      → IsEnded words status o (outside_of m.link m.input m.out e)
   fails_so fault status e input next p way f gave reads tells =
-      ended words input next f.written (Fails fault) status o (outside m.link m.input m.out e) p m.err tells.part asking way f.is f.took f.link gave reads tells.took tells.line tells.status_is
+      ended words input next f.written (Fails fault) status o (outside_of m.link m.input m.out e) p m.err tells.part asking way f.is f.took f.link gave reads tells.took tells.line tells.status_is
 
   -- ---- without input
 
@@ -80,7 +68,7 @@ module _ (words : List (List ℕ)) (o m : Outside) (asking : IsAsking (plan_for 
       (quiet_read d.walks.way.asked false [] o.input m.input d.walks.quiet refl same)
 
   comes_err : (fault : Fault) (status : ℕ) (e : SinkView) (next : Plan) (p : Reach) (walks : Walks (plan_for words) (reach_of (address_in words) o) next p) → m.input ≡ o.input
-      → Comes next (Err fault) p (reach_of (address_in words) m) → Tells words fault status m.err e → Runs words status o (outside m.link m.input m.out e)
+      → Comes next (Err fault) p (reach_of (address_in words) m) → Tells words fault status m.err e → Runs words status o (outside_of m.link m.input m.out e)
   comes_err fault status e next p walks same (inl f) tells =
       inl (fails_so fault status e [] next p walks.way f (none_read o.input m.input same) (quiet_read walks.way.asked false [] o.input m.input walks.quiet refl same) tells)
   comes_err fault status e next p walks same (inr (inl b)) tells =
@@ -98,7 +86,7 @@ module _ (words : List (List ℕ)) (o m : Outside) (asking : IsAsking (plan_for 
       (loud_read d.feeds.way.asked false [] d.feeds.input o.input m.input d.feeds.loud d.feeds.ended)
 
   behind_err : (fault : Fault) (status : ℕ) (e : SinkView) (next : Plan) (p : Reach) (feeds : Feeds (plan_for words) o.input m.input (reach_of (address_in words) o) next p)
-      → Comes next (Err fault) p (reach_of (address_in words) m) → Tells words fault status m.err e → Runs words status o (outside m.link m.input m.out e)
+      → Comes next (Err fault) p (reach_of (address_in words) m) → Tells words fault status m.err e → Runs words status o (outside_of m.link m.input m.out e)
   behind_err fault status e next p feeds (inl f) tells =
       inl (fails_so fault status e feeds.input next p feeds.way f feeds.gave
       (loud_read feeds.way.asked false [] feeds.input o.input m.input feeds.loud feeds.ended) tells)
@@ -110,7 +98,7 @@ module _ (words : List (List ℕ)) (o m : Outside) (asking : IsAsking (plan_for 
       (loud_read feeds.way.asked _ _ feeds.input o.input m.input feeds.loud feeds.ended) tells)
 
   feeding_err : (fault : Fault) (status : ℕ) (e : SinkView) → StopsFeeding (plan_for words) fault o.input m.input (reach_of (address_in words) o) (reach_of (address_in words) m) → Tells words fault status m.err e
-      → Runs words status o (outside m.link m.input m.out e)
+      → Runs words status o (outside_of m.link m.input m.out e)
   unfolding with_input
   feeding_err fault status e s tells =
       inr (stopped_in words s.input s.next (InputFails o.input m.input) fault status o m s.between e asking
@@ -154,7 +142,7 @@ module _ (words : List (List ℕ)) (o m : Outside) where
 
   judged_stops : (fault : Fault) (status : ℕ) (e : SinkView) (charter : Charter) (next : Verdict → Plan) → plan_for words ≡ Judges charter next
       → (j : replay.HasVerdict charter next (Err fault) o.input m.input (reach_of (address_in words) o) (reach_of (address_in words) m)) → StopsBefore (next j.verdict) fault (reach_of (address_in words) o) (reach_of (address_in words) m)
-      → Tells words fault status m.err e → IsBrokenOff words status o (outside m.link m.input m.out e)
+      → Tells words fault status m.err e → IsBrokenOff words status o (outside_of m.link m.input m.out e)
   judged_stops fault status e charter next is j b tells =
       broken_off words (course [] j.input (Some j.verdict) (said_by (next j.verdict) None []) b.began.part) fault status o m e
       (subst (HaveCome o.link.coming []) (sym b.missed.coming) (came_none o.link.coming))
@@ -182,7 +170,7 @@ module _ (words : List (List ℕ)) (o m : Outside) where
   unjudged : (fault : Fault) (status : ℕ) (e : SinkView) (charter : Charter) (next : Verdict → Plan) (input : List ℕ) → plan_for words ≡ Judges charter next
       → SourceGave o.input input m.input → reach_of (address_in words) m ≡ reach_of (address_in words) o
       → (fault ≡ F.NoMemory) ⊎ ((fault ≡ F.Input) × Rose o.input.faults m.input.faults) → Tells words fault status m.err e
-      → IsBrokenOff words status o (outside m.link m.input m.out e)
+      → IsBrokenOff words status o (outside_of m.link m.input m.out e)
   unjudged fault status e charter next input is gave same cause tells =
       broken_off words (record { xs = []; input = input; verdict = None; said = said [] nothing None; wrote = nothing }) fault status o m e
       (subst (λ (r : Reach). HaveCome o.link.coming [] r.link.coming) (sym same) (came_none o.link.coming))
@@ -229,11 +217,11 @@ module _ (words : List (List ℕ)) (o m : Outside) where
   by_plan_ok status (Asks w asked next) is j = absurd j
 
   by_plan_err : (fault : Fault) (status : ℕ) (e : SinkView) (plan : Plan) → plan_for words ≡ plan
-      → replay.Judged plan (Err fault) o.input m.input (reach_of (address_in words) o) (reach_of (address_in words) m) → Tells words fault status m.err e → IsBrokenOff words status o (outside m.link m.input m.out e)
+      → replay.Judged plan (Err fault) o.input m.input (reach_of (address_in words) o) (reach_of (address_in words) m) → Tells words fault status m.err e → IsBrokenOff words status o (outside_of m.link m.input m.out e)
   by_plan_err fault status e (Judges charter next) is (inl j) tells = by_print j.prints
     where
       by_print : PrintsOrLacks (next j.verdict) (Err fault) (reach_of (address_in words) o) (reach_of (address_in words) m)
-          → IsBrokenOff words status o (outside m.link m.input m.out e)
+          → IsBrokenOff words status o (outside_of m.link m.input m.out e)
       by_print (inl b) = judged_stops fault status e charter next is j b.1 tells
       by_print (inr (lack, same)) = unjudged fault status e charter next j.input is j.gave same (inl (same_err (Err F.NoMemory) F.NoMemory fault refl (sym lack))) tells
   by_plan_err fault status e (Judges charter next) is (inr u) tells =
@@ -251,7 +239,7 @@ ran_ok words status o o' (inl (asking, inr (inr (fault, is, s)))) = absurd (ok_e
 ran_ok words status o o' (inr j) = inl (by_plan_ok words o o' status (plan_for words) refl j)
 
 pub ran_err : (words : List (List ℕ)) (fault : Fault) (status : ℕ) (o m : Outside) (e : SinkView) → Ran (address_in words) (plan_for words) (Err fault) o m → Tells words fault status m.err e
-    → Runs words status o (outside m.link m.input m.out e)
+    → Runs words status o (outside_of m.link m.input m.out e)
 ran_err words fault status o m e (inl (asking, inl (d, same))) tells = comes_err words o m asking fault status e d.next d.between d.walks same d.comes tells
 ran_err words fault status o m e (inl (asking, inr (inl d))) tells = behind_err words o m asking fault status e d.next d.between d.feeds d.comes tells
 ran_err words fault status o m e (inl (asking, inr (inr (other, is, s)))) tells =

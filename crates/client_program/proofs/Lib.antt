@@ -3,3 +3,4 @@ pub mod RunLemmas
 pub mod CallLemmas
 pub mod MomentLemmas
 pub mod LineLemmas
+pub mod PerformLemmas

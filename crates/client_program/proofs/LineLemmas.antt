@@ -18,6 +18,7 @@ use Rattle.client_exchange.proofs.AskLemmas.{does_fail}
 use Rattle.engine_client.specs.Reading.{Reads}
 use Rattle.engine_client.specs.declared.unread.Unread.{Unread}
 use Rattle.engine_client.specs.declared.unread.Unread.TheVariants.{NoForm}
+use Rattle.client_commands.specs.Places.{Begins}
 use Rattle.client_program.specs.Running.{reach_of, Ran}
 use Rattle.client_program.proofs.InputLemmas.{unread_lacks}
 
@@ -75,3 +76,10 @@ pub line_lacks : (address : List ℕ) (plan : Plan) (o : Outside) → Ran addres
 line_lacks address (Ends w ending) o = asking_lacks address (Ends w ending) o tt
 line_lacks address (Asks w asked next) o = asking_lacks address (Asks w asked next) o tt
 line_lacks address (Judges charter next) o = inr (inr (record { fault = F.NoMemory; is = refl; unread = unread_lacks o.input; unshown = refl }))
+
+-- the first step wasn't had
+pub not_begun : (address : List ℕ) (plan : Plan) (fault : Fault) (o : Outside) → Begins (Err fault) plan → Ran address plan (Err fault) o o
+not_begun address plan fault o (inl lack) = subst (λ f. Ran address plan (Err f) o o) (sym lack) (line_lacks address plan o)
+not_begun address plan fault o (inr is) =
+    subst (λ p. Ran address p (Err fault) o o) (sym is)
+    (inl (tt, inl (does_fail (fails fault) fault (reach_of address o) (reach_of address o) (walk_none (fails fault) (reach_of address o)), refl)))

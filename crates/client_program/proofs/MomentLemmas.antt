@@ -23,7 +23,7 @@ use Rattle.client_model.specs.Commands.Replay.{replay_options, replay_in}
 use Rattle.client_model.specs.declared.command.Command.{Command}
 use Rattle.client_model.specs.declared.command.Command.TheVariants as command
 use Rattle.client_model.specs.declared.command.Line.{Line}
-use Rattle.client_program.specs.Running.{IsTimed}
+use Rattle.client_commands.specs.Places.{IsTimed}
 
 -- ---- what is there is so
 

@@ -23,7 +23,7 @@ use Rattle.client_exchange.specs.Telling.{HadToWrite, CountsAll}
 use Rattle.client_exchange.specs.Exchanges.{Reach, FailsOn}
 use Rattle.client_exchange.specs.Walks.{IsAsking, said_behind, WroteBefore, Walked, AsksFirst, StopsBefore, StopsIn, StopsQuietly, FailsAlone}
 use Rattle.client_exchange.proofs.WalkLemmas.{came_on, left_on}
-use Rattle.client_program.specs.Running.{outside, reach_of, Tells}
+use Rattle.client_program.specs.Running.{outside_of, reach_of, Tells}
 
 -- ---- plans that ask for no verdict
 
@@ -123,7 +123,7 @@ alone_cause next (F.Refused message) c sooner w o m p q is fronts took same one 
 
 -- what is told behind it doesn't change it
 behind_until : (fault : Fault) (c : Course) (sooner : Written) (more : List Asked) (o m : Outside) (e : SinkView) → CauseBehind fault c sooner more o m
-    → CauseBehind fault c sooner more o (outside m.link m.input m.out e)
+    → CauseBehind fault c sooner more o (outside_of m.link m.input m.out e)
 behind_until F.Output c sooner more o m e r = r
 behind_until F.NoMemory c sooner more o m e r = r
 behind_until F.Link c sooner more o m e r = r
@@ -183,7 +183,7 @@ module _ (starved : Type 0) (x : Exchange) (answer : Answer) (now : Asked) (c : 
   within_cause F.Link is wrote said took rose r had all = absurd r
 
 within_until : (fault : Fault) (x : Exchange) (answer : Answer) (now : Asked) (c : Course) (old : Written) (o m : Outside) (e : SinkView) → m.err.faults ≤ e.faults
-    → CauseWithin fault x answer now c old o m → CauseWithin fault x answer now c old o (outside m.link m.input m.out e)
+    → CauseWithin fault x answer now c old o m → CauseWithin fault x answer now c old o (outside_of m.link m.input m.out e)
 within_until F.Errors x answer now c old o m e le r = (rose_until o.err.faults m.err.faults e.faults r.0 le, r.1)
 within_until F.Output x answer now c old o m e le r = r
 within_until F.Input x answer now c old o m e le r = r
@@ -218,7 +218,7 @@ abbrev pub Breaks : Plan → Fault → Course → Outside → Outside → Type 0
 Breaks plan fault c o o' = LacksVerdict plan fault c o o' ⊎ (BreaksBehind plan fault c o o' ⊎ BreaksWithin plan fault c o o')
 
 breaks_until : (plan : Plan) (fault : Fault) (c : Course) (o m : Outside) (e : SinkView) → m.err.faults ≤ e.faults → Breaks plan fault c o m
-    → Breaks plan fault c o (outside m.link m.input m.out e)
+    → Breaks plan fault c o (outside_of m.link m.input m.out e)
 breaks_until plan fault c o m e le (inl b) =
     inl (record { judging = b.judging; none = b.none; unasked = b.unasked; says = b.says; cause = b.cause })
 breaks_until plan fault c o m e le (inr (inl b)) = inr (inl (record {
@@ -256,7 +256,7 @@ pub broken_off : (words : List (List ℕ)) (c : Course) (fault : Fault) (status 
     → HaveCome o.link.coming (map (λ x. x.came) c.xs) m.link.coming → AreLeft o.link.past (map (λ x. x.left) c.xs) m.link.past
     → others (address_in words) m.link.addresses ≡ others (address_in words) o.link.addresses → SourceGave o.input c.input m.input
     → Breaks (plan_for words) fault c o m → AreFronts c.wrote c.said.written → BothTook (outputs o.out o.err) c.wrote (outputs m.out m.err)
-    → m.link.faults ≡ missed_by fault o.link.faults → Tells words fault status m.err e → IsBrokenOff words status o (outside m.link m.input m.out e)
+    → m.link.faults ≡ missed_by fault o.link.faults → Tells words fault status m.err e → IsBrokenOff words status o (outside_of m.link m.input m.out e)
 broken_off words c fault status o m e came left others gave breaks fronts took missed tells = record {
   fault = fault;
   course = c;
@@ -298,7 +298,7 @@ course xs input verdict s wrote = record { xs = xs; input = input; verdict = ver
 pub stopped_before : (words : List (List ℕ)) (input : List ℕ) (next : Plan) (fault : Fault) (status : ℕ) (o m : Outside) (p : Reach) (e : SinkView)
     → IsAsking (plan_for words) → (way : Walked (plan_for words) input (reach_of (address_in words) o) next p) → StopsBefore next fault p (reach_of (address_in words) m)
     → SourceGave o.input input m.input → InputStands (list_any (λ a. a.input) way.asked) false [] input o.input m.input → Tells words fault status m.err e
-    → IsBrokenOff words status o (outside m.link m.input m.out e)
+    → IsBrokenOff words status o (outside_of m.link m.input m.out e)
 stopped_before words input next fault status o m p e asking way b gave reads tells =
     broken_off words (course way.xs input None (said_behind way.asked way.written (said_by next None [])) (joined way.written b.began.part)) fault status o m e
     (subst (HaveCome o.link.coming (map (λ x. x.came) way.xs)) (sym b.missed.coming) way.came)
@@ -354,7 +354,7 @@ pub stopped_in : (words : List (List ℕ)) (input : List ℕ) (next : Plan) (sta
     → IsAsking (plan_for words) → (way : Walked (plan_for words) input (reach_of (address_in words) o) next p) → (b : StopsIn next input starved fault p (reach_of (address_in words) m))
     → (starved → (b.asks.asked.input ≡ true) × Rose o.input.faults m.input.faults) → SourceGave o.input input m.input
     → InputStands (list_any (λ a. a.input) way.asked) b.asks.asked.input b.exchange.given input o.input m.input → Tells words fault status m.err e
-    → IsBrokenOff words status o (outside m.link m.input m.out e)
+    → IsBrokenOff words status o (outside_of m.link m.input m.out e)
 stopped_in words input next starved fault status o m p e asking way b rose gave reads tells =
     broken_off words (course (way.xs ++ b.exchange ∷ []) input None (said_behind way.asked way.written (said_by next None (b.answer ∷ []))) (joined way.written b.began.part)) fault status o m e
     (came_on o.link.coming p.link.coming m.link.coming way.xs (b.exchange ∷ []) way.came b.meets.came)

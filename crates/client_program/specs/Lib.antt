@@ -1,2 +1,4 @@
+pub mod Printing
 pub mod Replaying
+pub mod Performing
 pub mod Running

@@ -11,7 +11,7 @@ use Rattle.client_model.specs.Plans.{Plan, Judges}
 use Rattle.client_model.specs.declared.fault.Fault.{Fault}
 use Rattle.client_model.specs.declared.fault.Fault.TheVariants as F
 use Rattle.client_exchange.specs.Exchanges.{Reach}
-use Rattle.client_commands.specs.Printing.{PrintsOrLacks}
+use Rattle.client_program.specs.Printing.{PrintsOrLacks}
 
 -- ---- standard input
 

@@ -1,22 +1,19 @@
 -- A line, from its words to its end (own).
-use Rattle.std.specs.Prelude.{ℕ, ◌≡◌, ◌⊎◌, ◌≤◌, ⊤, List, Result}
+use Rattle.std.specs.Prelude.{ℕ, ◌≡◌, ◌⊎◌, List, Result}
 use Rattle.engine_ports.specs.Source.{SourceView}
 use Rattle.engine_ports.specs.Sink.{SinkView, SinkTook}
 use Rattle.engine_ports.specs.Link.{LinkView, but_for}
-use Rattle.machine_model.specs.History.{greatest_moment}
 use Rattle.client_model.specs.Faults.{status_of, fault_line}
 use Rattle.client_model.specs.Plans.{Plan}
 use Rattle.client_model.specs.Runs.{Outside, WroteLine}
 use Rattle.client_model.specs.declared.fault.Fault.{Fault}
-use Rattle.client_model.specs.declared.command.Command.{Command}
-use Rattle.client_model.specs.declared.command.Command.TheVariants as command
 use Rattle.client_exchange.specs.Exchanges.{Reach, reach}
 use Rattle.client_exchange.specs.Walks.{IsAsking}
 use Rattle.client_exchange.specs.Feeding.{FedDoes}
 use Rattle.client_program.specs.Replaying.{Judged}
 
-abbrev pub outside : LinkView → SourceView → SinkView → SinkView → Outside
-outside link input out err = record { link = link; input = input; out = out; err = err }
+abbrev pub outside_of : LinkView → SourceView → SinkView → SinkView → Outside
+outside_of link input out err = record { link = link; input = input; out = out; err = err }
 
 -- what requests to this address reach of it
 abbrev pub reach_of : List ℕ → Outside → Reach
@@ -27,11 +24,6 @@ abbrev pub Ran : List ℕ → Plan → Result ℕ Fault → Outside → Outside 
 Ran address plan result o o' =
     (IsAsking plan × FedDoes plan result o.input o'.input (reach_of address o) (reach_of address o'))
     ⊎ Judged plan result o.input o'.input (reach_of address o) (reach_of address o')
-
--- a journal's daemon was opened at a moment that has a text
-abbrev pub IsTimed : Command → Type 0
-IsTimed (command.Replay seed moment) = moment ≤ greatest_moment
-IsTimed other = ⊤
 
 -- the fault's line was written, or a front of it; and its status is this
 pub record Tells (words : List (List ℕ)) (fault : Fault) (status : ℕ) (e e' : SinkView) : Type 0 where

@@ -2,9 +2,10 @@
 ghost use Rattle.client_model.specs.Lines.{address_in};
 ghost use Rattle.client_model.specs.Client.{plan_for};
 ghost use Rattle.client_model.specs.Runs.{Runs};
-ghost use Rattle.client_program.specs.Running.{Ran, Tells, outside};
+ghost use Rattle.client_program.specs.Running.{Ran, Tells, outside_of};
 
-use crate::dispatch::run_command;
+use crate::performing::run_command;
+use client_exchange::Outside;
 use client_model::Fault;
 use engine_client::{Unread, read_line, status_of, write_fault};
 use engine_ports::{Link, Sink, Source};
@@ -17,26 +18,16 @@ fn run_words<W: Wait, L: Link, N: Source, K: Sink, E: Sink>(
     rt: &W,
     alloc: Global,
     words: &[Text],
-    link: &mut L,
-    input: &mut N,
-    out: &mut K,
-    errors: &mut E,
+    outside: &mut Outside<L, N, K, E>,
 ) -> Result<u8, Fault>
     ensures { Ran (address_in words.now) (plan_for words.now) result
-        (outside (L.links link.old) (N.gives input.old) (K.takes out.old) (E.takes errors.old))
-        (outside (L.links link.new) (N.gives input.new) (K.takes out.new) (E.takes errors.new)) }
+        (outside_of (L.links outside.old.link) (N.gives outside.old.input)
+        (K.takes outside.old.out) (E.takes outside.old.errors))
+        (outside_of (L.links outside.new.link) (N.gives outside.new.input)
+        (K.takes outside.new.out) (E.takes outside.new.errors)) }
 {
     match read_line(alloc, words) {
-        Ok(line) => run_command(
-            rt,
-            alloc,
-            link,
-            line.address.as_str(),
-            &line.command,
-            input,
-            out,
-            errors,
-        ),
+        Ok(line) => run_command(rt, alloc, outside, line.address.as_str(), &line.command),
         Err(Unread::NoForm) => Err(Fault::Words),
         Err(Unread::NoMemory) => Err(Fault::NoMemory),
     }
@@ -55,17 +46,16 @@ pub fn run_client<W: Wait, L: Link, N: Source, K: Sink, E: Sink>(
     rt: &W,
     alloc: Global,
     words: &[Text],
-    link: &mut L,
-    input: &mut N,
-    out: &mut K,
-    errors: &mut E,
+    outside: &mut Outside<L, N, K, E>,
 ) -> u8
     ensures { Runs words.now result
-        (outside (L.links link.old) (N.gives input.old) (K.takes out.old) (E.takes errors.old))
-        (outside (L.links link.new) (N.gives input.new) (K.takes out.new) (E.takes errors.new)) }
+        (outside_of (L.links outside.old.link) (N.gives outside.old.input)
+        (K.takes outside.old.out) (E.takes outside.old.errors))
+        (outside_of (L.links outside.new.link) (N.gives outside.new.input)
+        (K.takes outside.new.out) (E.takes outside.new.errors)) }
 {
-    match run_words(rt, alloc, words, link, input, out, errors) {
+    match run_words(rt, alloc, words, outside) {
         Ok(status) => status,
-        Err(fault) => tell(errors, words, &fault),
+        Err(fault) => tell(&mut outside.errors, words, &fault),
     }
 }

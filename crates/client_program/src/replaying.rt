@@ -5,11 +5,11 @@ ghost use Rattle.engine_ports.specs.Sink.{SinkView};
 ghost use Rattle.machine_model.specs.History.{greatest_moment};
 ghost use Rattle.client_model.specs.Commands.Replay.{verdict_plan, replay_plan};
 ghost use Rattle.client_exchange.specs.Exchanges.{reach};
-ghost use Rattle.client_commands.specs.Printing.{PrintsOrLacks};
+ghost use Rattle.client_program.specs.Printing.{PrintsOrLacks};
 ghost use Rattle.client_program.specs.Replaying as spec;
 
 use crate::input::read_input;
-use client_commands::print_all;
+use crate::printing::write_lines;
 use client_model::Fault;
 use engine_ports::{Sink, Source};
 use engine_text::{NoMemory, Text, Words};
@@ -90,7 +90,7 @@ fn print_verdict<K: Sink>(alloc: Global, verdict: &Verdict, out: &mut K) -> Resu
         (reach link (K.takes out.old) e) (reach link (K.takes out.new) e) }
 {
     match verdict_lines(alloc, verdict) {
-        Ok(lines) => print_all(out, lines.as_slice(), verdict_status(verdict)),
+        Ok(lines) => write_lines(alloc, lines.as_slice(), verdict_status(verdict), out),
         Err(_) => Err(Fault::NoMemory),
     }
 }

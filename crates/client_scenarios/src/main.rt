@@ -27,13 +27,13 @@ fn main(rt: HostRuntime) -> io::Result<()> {
         return println!(rt; "no address");
     };
     let address = format!(in alloc; "127.0.0.1:{}", address.port())?;
-    let mut link = TcpLink::new(&rt, alloc);
+    let link = TcpLink::new(&rt, alloc);
     let mut told = Vec::new(alloc);
     let (worst, ran) = join(
         &rt,
         || -> Worst { daemon::serve(&rt, alloc, most, &mut door) },
         || -> Result<(), NoMemory> {
-            run::tell_all(&rt, alloc, address.as_str(), &lines, &mut link, &mut told)
+            run::tell_all(&rt, alloc, address.as_str(), &lines, link, &mut told)
         },
     );
     io::writer(&rt).write_all(&told)?;

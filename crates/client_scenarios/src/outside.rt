@@ -1,18 +1,11 @@
 // What a line has outside: its streams, and what stands in the place of the daemon.
 use crate::line::{Line, bytes_of};
+use client_program::Outside;
 use engine_ports::{MemLink, MemSink, MemSource, NoMemory};
 use std::alloc::{AllocError, Global};
 
 /// How much a source gives at once.
 const CUT: usize = 4096;
-
-/// The three streams of a program.
-#[derive(Drop)]
-pub struct Streams {
-    pub input: MemSource,
-    pub out: MemSink,
-    pub errors: MemSink,
-}
 
 /// What stands before an answer behind which a connection stays open: a read behind it fails.
 const OPEN: &str = "open ";
@@ -25,15 +18,22 @@ fn failing(fails: bool) -> &'static [u64] {
     if fails { &[0] } else { &[] }
 }
 
-impl Streams {
-    /// Those of a line; of what `input fails`, `output fails` and `errors fail` name the first call
-    /// fails.
-    pub fn of(alloc: Global, line: &Line) -> Result<Streams, NoMemory> {
-        let input = MemSource::new(alloc, &line.input, CUT, failing(line.has("input fails")))?;
-        let out = MemSink::new(alloc, failing(line.has("output fails")))?;
-        let errors = MemSink::new(alloc, failing(line.has("errors fail")))?;
-        Ok(Streams { input, out, errors })
-    }
+/// What a line has outside, with this link; of what `input fails`, `output fails` and `errors fail` name
+/// the first call fails.
+pub fn outside_of<L>(
+    alloc: Global,
+    line: &Line,
+    link: L,
+) -> Result<Outside<L, MemSource, MemSink, MemSink>, NoMemory> {
+    let input = MemSource::new(alloc, &line.input, CUT, failing(line.has("input fails")))?;
+    let out = MemSink::new(alloc, failing(line.has("output fails")))?;
+    let errors = MemSink::new(alloc, failing(line.has("errors fail")))?;
+    Ok(Outside {
+        link,
+        input,
+        out,
+        errors,
+    })
 }
 
 // The bytes of an answer: those of a text; or of `TEXT times N PIECE`, a text and a piece so often.

@@ -1,6 +1,6 @@
 // The client's side: each line run, one behind the other, and told.
 use crate::line::{Line, owned};
-use crate::outside::{Streams, link_of};
+use crate::outside::{link_of, outside_of};
 use client_program::run_client;
 use engine_ports::{Link, NoMemory};
 use engine_text::Text;
@@ -33,33 +33,26 @@ fn words_of(alloc: Global, address: &str, line: &Line) -> Result<Vec<Text>, NoMe
 }
 
 /// Runs the client of one line over this link to this address, and tells what it wrote and its
-/// status.
+/// status; the link is given back.
 fn tell_line<W: Wait, L: Link>(
     rt: &W,
     alloc: Global,
     address: &str,
     line: &Line,
-    link: &mut L,
+    link: L,
     told: &mut Vec<u8>,
-) -> Result<(), NoMemory> {
+) -> Result<L, NoMemory> {
     let words = words_of(alloc, address, line)?;
-    let mut streams = Streams::of(alloc, line)?;
-    let status = run_client(
-        rt,
-        alloc,
-        &words,
-        link,
-        &mut streams.input,
-        &mut streams.out,
-        &mut streams.errors,
-    );
+    let mut outside = outside_of(alloc, line, link)?;
+    let status = run_client(rt, alloc, &words, &mut outside);
     tell_lines(told, "$ dockc ", line.text.as_slice())?;
-    tell_lines(told, "", streams.out.bytes())?;
-    tell_lines(told, "! ", streams.errors.bytes())?;
+    tell_lines(told, "", outside.out.bytes())?;
+    tell_lines(told, "! ", outside.errors.bytes())?;
     let Ok(status) = format!(in alloc; "{status}") else {
         return Err(NoMemory);
     };
-    tell_lines(told, "status ", status.as_bytes())
+    tell_lines(told, "status ", status.as_bytes())?;
+    Ok(outside.link)
 }
 
 // Tells how often a link was asked for this address, and how often for another.
@@ -89,15 +82,15 @@ pub fn tell_all<W: Wait, L: Link>(
     alloc: Global,
     address: &str,
     lines: &[Line],
-    link: &mut L,
+    link: L,
     told: &mut Vec<u8>,
 ) -> Result<(), NoMemory> {
+    let mut link = link;
     for line in lines {
         if line.instead.is_empty() {
-            tell_line(rt, alloc, address, line, link, told)?;
+            link = tell_line(rt, alloc, address, line, link, told)?;
         } else {
-            let mut link = link_of(alloc, line)?;
-            tell_line(rt, alloc, ELSEWHERE, line, &mut link, told)?;
+            let link = tell_line(rt, alloc, ELSEWHERE, line, link_of(alloc, line)?, told)?;
             tell_asked(alloc, ELSEWHERE, link.asked(), told)?;
         }
     }

@@ -2,7 +2,7 @@
 //! top call.
 #![tactic(auto)]
 
-use client_program::run_client;
+use client_program::{Outside, run_client};
 use engine_ports::{HeldStreams, ReadSource, TcpLink, WriteSink};
 use engine_text::Text;
 use std::env;
@@ -33,19 +33,13 @@ fn main(rt: HostRuntime) -> ExitCode {
     let Some(words) = words(&rt) else {
         return ExitCode::from(NO_MEMORY);
     };
-    let mut link = TcpLink::new(&rt, rt.alloc());
-    let mut input = ReadSource::new(rt.stdin());
-    let mut out = WriteSink::new(io::writer(&rt));
-    let mut errors = WriteSink::new(rt.stderr());
-    let status = run_client(
-        &rt,
-        rt.alloc(),
-        &words,
-        &mut link,
-        &mut input,
-        &mut out,
-        &mut errors,
-    );
+    let mut outside = Outside {
+        link: TcpLink::new(&rt, rt.alloc()),
+        input: ReadSource::new(rt.stdin()),
+        out: WriteSink::new(io::writer(&rt)),
+        errors: WriteSink::new(rt.stderr()),
+    };
+    let status = run_client(&rt, rt.alloc(), &words, &mut outside);
     drop(held);
     ExitCode::from(status)
 }

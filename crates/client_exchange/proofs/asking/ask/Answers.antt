@@ -1,14 +1,12 @@
-use Rattle.std.proofs.Common.{inl, inr, ap, ◌∙◌}
-use Rattle.client_model.specs.Plans.{cut_fault}
-use Rattle.client_exchange.proofs.AskingLemmas.{kept_body, kept_cut, kept_not}
+use Rattle.std.proofs.Common.{◌∙◌}
+use Rattle.client_exchange.proofs.AskingLemmas.{asked_ok, asked_err}
 use Rattle.client_exchange.proofs.asking.ask.Goals as goal
 
-pub returns-then-got : goal.returns-then-got
-returns-then-got g c = (c.in-Ok.got, c.if-got.true, kept_body _ _ _ _ _ c.fresh_taker-taker.ensures.showing c.in-Ok.got _ c.in-Ok.ensures c.into_kept.ensures)
-
-pub returns-else-got : goal.returns-else-got
-returns-else-got g c =
-    inl (kept_cut _ _ _ _ _ c.fresh_taker-taker.ensures.showing c.in-Ok.got c.cut_fault.result c.in-Ok.ensures c.if-got.false (c.cut_fault.ensures ∙ ap cut_fault c.kept.ensures))
+pub returns-in-Ok : goal.returns-in-Ok
+returns-in-Ok g c = λ r is.
+    asked_ok r _ (c.deref.ensures.value ∙ is) _ c.args.ask.now.showing c.fresh_taker-taker.ensures.showing _ _ _ _ _ c.args.ask.now.input c.in-Ok.got c.body_of.result c.in-Ok.ensures
+    c.body_of.ensures.first c.body_of.ensures.bytes c.body_of.ensures.whole
 
 pub returns-in-Err : goal.returns-in-Err
-returns-in-Err g c = inr (kept_not _ _ c.fresh_taker-taker.result _ _ c.fresh_taker-taker.ensures.showing c.in-Err.fault c.in-Err.ensures)
+returns-in-Err g c = λ r is.
+    asked_err r _ (c.deref.ensures.value ∙ is) _ c.args.ask.now.showing c.fresh_taker-taker.ensures.showing _ _ _ _ _ c.args.ask.now.input c.in-Err.fault c.in-Err.ensures

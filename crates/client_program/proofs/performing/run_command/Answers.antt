@@ -1,0 +1,11 @@
+use Rattle.client_program.proofs.LineLemmas.{not_begun}
+use Rattle.client_program.proofs.performing.run_command.Goals as goal
+
+pub perform_all-requires : goal.perform_all-requires
+perform_all-requires g c = (_, c.in-Ok.ensures)
+
+pub returns-in-Ok : goal.returns-in-Ok
+returns-in-Ok g c = c.perform_all.ensures _ c.in-Ok.ensures
+
+pub returns-in-Err : goal.returns-in-Err
+returns-in-Err g c = not_begun _ _ c.in-Err.fault _ c.in-Err.ensures
