@@ -1,6 +1,7 @@
 -- A command, step by step.
-use Rattle.std.proofs.Common.{◌≡◌, ◌≤◌, ◌⊎◌, inl, inr, ℕ, List, [], ◌∷◌, ◌++◌, refl, sym, ap, ◌∙◌, subst, None, Result, Ok, Err, Bool, true, false}
-use Rattle.std.specs.Prelude.{if◌then◌else◌, ◌||◌, Vec, is_empty}
+use Rattle.std.proofs.Common.{arith, ◌≡◌, ◌<◌, ◌≤◌, ◌⊎◌, inl, inr, ℕ, List, [], ◌∷◌, ◌++◌, length, refl, sym, ap, ◌∙◌, subst, None, Result, Ok, Err, Bool, true, false}
+use Rattle.std.specs.Prelude.{if◌then◌else◌, ◌||◌, ◌==◌, Vec}
+use Rattle.std.proofs.lemmas.Bool.Decides.{nat_tests}
 use Rattle.std.specs.declared.alloc.Global.{Global}
 use Rattle.machine_model.specs.History.{greatest_moment}
 use Rattle.client_model.specs.Requests.{request_bytes}
@@ -8,6 +9,7 @@ use Rattle.client_model.specs.Commands.Replay.{replay_plan}
 use Rattle.client_exchange.specs.declared.request.Ask.{Ask}
 use Rattle.client_commands.specs.Printing.{lines_text}
 use Rattle.client_commands.proofs.PrintLemmas.{prints_all_so}
+use Rattle.client_commands.proofs.WatchLemmas.{some_text}
 use Rattle.engine_ports.specs.Source.{SourceView}
 use Rattle.engine_ports.specs.Sink.{SinkView, WriteSays}
 use Rattle.engine_ports.specs.Link.{LinkView}
@@ -32,7 +34,7 @@ use Rattle.client_commands.specs.declared.step.Step.{Step}
 use Rattle.client_commands.specs.declared.step.Step.TheVariants as step
 use Rattle.client_program.specs.Printing.{Prints, PrintsOrLacks}
 use Rattle.client_program.specs.Replaying.{Judged}
-use Rattle.client_program.specs.Performing.{performed_of, Follows, AskedSays, PerformSays}
+use Rattle.client_program.specs.Performing.{IsFirst, IsInTime, performed_of, Follows, AskedSays, PerformSays}
 use Rattle.client_program.specs.declared.performed.Performed.{Performed}
 use Rattle.client_program.specs.declared.performed.Performed.TheVariants.{On, Ended}
 
@@ -62,21 +64,18 @@ wrote_none text status link u e none =
     subst (λ t. Prints (Ends (to_out t) (Done status)) (Ok status) (reach link u e) (reach link u e)) (sym none)
     (record { written = nothing; is = refl; took = both_none (reach link u e).shown; link = refl })
 
-is_none : (text : List ℕ) → is_empty text ≡ true → text ≡ []
-is_none [] e = refl
-is_none (b ∷ text) e = absurd (never e)
-  where
-    never : false ≡ true → ⊥
-    never e = cc
+no_length : (text : List ℕ) → (length text == 0) ≡ true → length text ≡ 0
+no_length text none = grind (arith, nat_tests)
 
-pub none_so : (text : List ℕ) → is_empty text ≡ true → text ≡ []
-none_so text e = is_none text e
+is_none : (text : List ℕ) → length text ≡ 0 → text ≡ []
+is_none [] none = refl
+is_none (b ∷ text) none = absurd (omega arith)
 
-pub some_so : (text : List ℕ) → is_empty text ≡ false → ¬ (text ≡ [])
-some_so text e none = never (sym (ap is_empty none) ∙ e)
-  where
-    never : true ≡ false → ⊥
-    never e = cc
+pub none_so : (text : List ℕ) → (length text == 0) ≡ true → text ≡ []
+none_so text none = is_none text (no_length text none)
+
+pub some_so : (text : List ℕ) → (length text == 0) ≡ false → ¬ (text ≡ [])
+some_so text some none = let within : 0 < 0 = subst (λ (t : List ℕ). 0 < length t) none (some_text text some) in omega arith
 
 -- lines with their ends
 pub lines_print : (lines : List (List ℕ)) (status : ℕ) (bytes text : List ℕ) (result : Result ℕ Fault) (o o' : Reach) → bytes ≡ text → text ≡ lines_text lines
@@ -147,9 +146,13 @@ module _ (now : Step) (plan : Plan) (v v' : SourceView) (o o' : Reach) where
   performs : (one : Step) (result : Result Performed Fault) → one ≡ now → PerformSays one plan result v v' o o' → PerformSays now plan result v v' o o'
   performs one result is says = subst (λ s. PerformSays s plan result v v' o o') is says
 
--- the moment of a verdict's daemon
-pub in_time : (now : Step) (seed : List ℕ) (moment : ℕ) (plan : Plan) → now ≡ step.Judges seed moment → IsStep now plan → moment ≤ greatest_moment
-in_time now seed moment plan is begins = (subst (λ n. IsStep n plan) is begins).1
+pub first_of : (now : Step) (plan : Plan) → IsStep now plan → IsFirst now
+first_of now plan is = record { plan = plan; is = is }
+
+pub in_time : (now : Step) (plan : Plan) → IsStep now plan → IsInTime now
+in_time (step.Asks ask onward) plan is = tt
+in_time (step.Writes text status) plan is = tt
+in_time (step.Judges seed moment) plan is = is.1
 
 pub performs_ask : (now : Step) (ask : Ask) (onward : Then) (plan : Plan) (result : Result Performed Fault) (v v' : SourceView) (o o' : Reach) → now ≡ step.Asks ask onward → IsStep now plan
     → ((r : Request) → ask.request.items ≡ request_bytes r → AskedSays ask.input (feeds_at onward) (asks_then (asked_as r ask.input ask.showing) (plan_at onward)) result v v' o o')
@@ -195,7 +198,7 @@ WasDone plan result v v' o o' = (IsAsking plan × FedDoes plan result v v' o o')
 
 plan_asks : (plan next : Plan) (v v' : SourceView) (o o' : Reach) → IsAsking next → (IsAsking plan × IsAsking next) ⊎ ((next ≡ plan) × (v' ≡ v) × (o' ≡ o)) → IsAsking plan
 plan_asks plan next v v' o o' asking (inl a) = a.0
-plan_asks plan next v v' o o' asking (inr (is, same)) = subst IsAsking is asking
+plan_asks plan next v v' o o' asking (inr (is, sv, so)) = subst IsAsking is asking
 
 -- none follows where input was sent
 no_more : (fed input onward : Bool) → (fed ≡ true → (if input then true else onward) ≡ false) → fed ≡ true → input ≡ false

@@ -1,6 +1,7 @@
 -- One step of a command (own).
-use Rattle.std.specs.Prelude.{ℕ, ◌≡◌, Bool, Result, Ok, Err}
+use Rattle.std.specs.Prelude.{ℕ, ◌≡◌, ◌≤◌, ⊤, Bool, Result, Ok, Err}
 use Rattle.engine_ports.specs.Source.{SourceView}
+use Rattle.machine_model.specs.History.{greatest_moment}
 use Rattle.client_model.specs.Plans.{Plan}
 use Rattle.client_model.specs.declared.fault.Fault.{Fault}
 use Rattle.client_exchange.specs.Exchanges.{Reach}
@@ -15,8 +16,14 @@ use Rattle.client_program.specs.declared.performed.Performed.{Performed}
 use Rattle.client_program.specs.declared.performed.Performed.TheVariants.{On, Ended}
 
 -- it is the first step of a plan
-abbrev pub IsFirst : Step → Type 0
-IsFirst first = (plan : Plan) × IsStep first plan
+pub record IsFirst (first : Step) : Type 0 where
+  pub plan : Plan
+  pub is : IsStep first plan
+
+-- a verdict is on a journal whose daemon was opened at a moment that has a text
+abbrev pub IsInTime : Step → Type 0
+IsInTime (step.Judges seed moment) = moment ≤ greatest_moment
+IsInTime other = ⊤
 
 -- an end as it is told
 abbrev pub performed_of : Result ℕ Fault → Result Performed Fault

@@ -8,7 +8,7 @@ ghost use Rattle.client_model.specs.Client.{plan_of};
 ghost use Rattle.client_exchange.specs.Asking.{asked_as, asks_then};
 ghost use Rattle.client_exchange.specs.Exchanges.{reach};
 ghost use Rattle.client_commands.specs.Places.{IsStep, IsTimed, feeds_at, plan_at};
-ghost use Rattle.client_program.specs.Performing.{AskedSays, Follows, IsFirst, PerformSays, performed_of};
+ghost use Rattle.client_program.specs.Performing.{AskedSays, Follows, IsFirst, IsInTime, PerformSays, performed_of};
 ghost use Rattle.client_program.specs.Running.{Ran, outside_of};
 
 use crate::performed::Performed;
@@ -74,7 +74,7 @@ fn perform<W: Wait, L: Link, N: Source, K: Sink, E: Sink>(
     address: &str,
     step: &Step,
 ) -> Result<Performed, Fault>
-    requires { IsFirst step.now }
+    requires { IsInTime step.now }
     ensures { (plan : Plan) → IsStep step.now plan → PerformSays step.now plan result
         (N.gives outside.old.input) (N.gives outside.new.input)
         (reach (but_for address.now (L.links outside.old.link)) (K.takes outside.old.out)

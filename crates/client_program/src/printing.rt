@@ -12,10 +12,9 @@ use engine_ports::Sink;
 use engine_text::Text;
 use std::alloc::Global;
 
-/// Writes a text of at least one byte, and ends with this status.
+/// Writes a text that isn't empty, and ends with this status.
 fn write_some<K: Sink>(out: &mut K, text: &[u8], status: u8) -> Result<u8, Fault>
-    requires { ¬ (text.now ≡ []) }
-    ensures { (link : LinkView) (e : SinkView)
+    ensures { (link : LinkView) (e : SinkView) → ¬ (text.now ≡ [])
         → Prints (Ends (to_out text.now) (Done status)) result
         (reach link (K.takes out.old) e) (reach link (K.takes out.new) e) }
 {

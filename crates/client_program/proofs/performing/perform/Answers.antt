@@ -1,9 +1,5 @@
-use Rattle.std.proofs.Common.{sym, refl}
-use Rattle.client_program.proofs.PerformLemmas.{in_time, performs_ask, performs_text, performs_verdict}
+use Rattle.client_program.proofs.PerformLemmas.{performs_ask, performs_text, performs_verdict}
 use Rattle.client_program.proofs.performing.perform.Goals as goal
-
-pub replay_journal-requires : goal.replay_journal-requires
-replay_journal-requires g c = in_time c.args.step.now c.in-Judges.seed c.in-Judges.moment c.requires.0 c.in-Judges.is c.requires.1
 
 pub returns-in-Asks : goal.returns-in-Asks
 returns-in-Asks g c = λ plan is. performs_ask c.args.step.now c.in-Asks.ask c.in-Asks.place plan c.ask_and_go_on.result _ _ _ _ c.in-Asks.is is c.ask_and_go_on.ensures

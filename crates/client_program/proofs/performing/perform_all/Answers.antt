@@ -1,9 +1,9 @@
-use Rattle.std.proofs.Common.{refl, Ok, Err}
-use Rattle.client_program.proofs.PerformLemmas.{at_first, at_next_as, at_end, at_end_as}
+use Rattle.std.proofs.Common.{rules, Ok, Err}
+use Rattle.client_program.proofs.PerformLemmas.{in_time, at_first, at_next_as, at_end, at_end_as}
 use Rattle.client_program.proofs.performing.perform_all.Goals as goal
 
 pub perform-requires : goal.perform-requires
-perform-requires g c = let at = c.loop.invariant.at c.requires.0 c.requires.1 in (at.next, at.is)
+perform-requires g c = let at = c.loop.invariant.at c.requires.plan c.requires.is in search (rules, in_time c.loop.step at.next at.is)
 
 pub loop-init : goal.loop-init
 loop-init g c = record { iterator = (tt, tt); at = λ plan is. at_first plan _ _ _ is }
