@@ -93,11 +93,12 @@ class Daemon:
         self.ask("DELETE", f"/containers/{name}?force=true")
 
     def falls_to(self, threads, seconds=30):
-        """Whether there are no more threads than that, at last. Each try is a connection, which lets the daemon join others."""
+        """Whether there are no more threads than that, at last. Each try is a connection, which lets the daemon join others, and whose
+        own thread may still be there."""
         end = time.monotonic() + seconds
         while time.monotonic() < end:
             self.ask("GET", "/_ping")
-            if self.threads() <= threads:
+            if self.threads() <= threads + 1:
                 return True
             time.sleep(0.01)
         return False
@@ -232,7 +233,7 @@ def idle(part):
     finally:
         for link in links:
             link.close()
-    fell = part.daemon.falls_to(before[2] + 1, 60)
+    fell = part.daemon.falls_to(before[2], 60)
     print(told("  before", before))
     print(told(f"  with {count}, {(held[0] - before[0]) / count:.1f} KB each", held))
     print(f"  one more is answered in {1000 * sorted(times)[50]:.1f} ms, {1000 * max(times):.1f} ms at most")
@@ -331,7 +332,7 @@ def gone(part):
             reset(link)
         fell = daemon.falls_to(before, 10)
         print(f"  {count} of {begin.__name__.replace('_', ' ')}: threads {before} before, {held} with them, {daemon.threads()} behind them")
-        good &= fell and held >= before + count
+        good &= fell and held > count
         part.check_time()
     link = a_wait(daemon)
     link.shutdown(socket.SHUT_WR)
@@ -351,7 +352,7 @@ def scarce(part):
     held = daemon.threads()
     for link in links:
         link.close()
-    fell = daemon.falls_to(before + 1)
+    fell = daemon.falls_to(before)
     print(f"  threads {before} before, {held} with them, {daemon.threads()} behind them, where pings are answered")
     return fell and daemon.started.poll() is None
 
@@ -409,7 +410,7 @@ def followers(part):
         for link in links:
             reset(link)
     daemon.remove("waits")
-    fell = daemon.falls_to(before + 1, 60)
+    fell = daemon.falls_to(before, 60)
     print(f"  {readers} readers beside {count - readers} that don't read: {readers * whole / took / MEBIBYTE:.0f} MiB a second in all")
     print(f"  {min(got)} bytes at least; a ping beside them {1000 * answered:.1f} ms; threads behind them {daemon.threads()}")
     return fell and min(got) >= whole and answered < 5
@@ -464,7 +465,7 @@ def attaches(part):
         reset(link) if number % 2 else link.close()
     for number in range(count):
         daemon.remove(f"a{number}")
-    fell = daemon.falls_to(before + 1, 60)
+    fell = daemon.falls_to(before, 60)
     print(f"  {count} attaches: threads {before} before, {held} with them, {daemon.threads()} behind them")
     return fell
 
@@ -482,7 +483,7 @@ def main():
     line.add_argument("--scale", type=int, default=1)
     line.add_argument("--seconds", type=int, default=600)
     line.add_argument("parts", nargs="*", metavar="PART")
-    asked = line.parse_args()
+    asked = line.parse_intermixed_args()
     for name in asked.parts:
         if name not in PARTS:
             line.error(f"no part {name}")
