@@ -20,7 +20,7 @@ fn failing(fails: bool) -> &'static [u64] {
 
 /// What a line has outside, with this link; of what `input fails`, `output fails` and `errors fail` name
 /// the first call fails.
-pub fn outside_of<L>(
+pub fn outside_of<L: Drop>(
     alloc: Global,
     line: &Line,
     link: L,

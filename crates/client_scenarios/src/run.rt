@@ -34,7 +34,7 @@ fn words_of(alloc: Global, address: &str, line: &Line) -> Result<Vec<Text>, NoMe
 
 /// Runs the client of one line over this link to this address, and tells what it wrote and its
 /// status; the link is given back.
-fn tell_line<W: Wait, L: Link>(
+fn tell_line<W: Wait, L: Link + Drop>(
     rt: &W,
     alloc: Global,
     address: &str,
@@ -77,7 +77,7 @@ fn tell_asked(
 }
 
 /// Runs and tells all lines: those that have nothing in the place of the daemon over this link.
-pub fn tell_all<W: Wait, L: Link>(
+pub fn tell_all<W: Wait, L: Link + Drop>(
     rt: &W,
     alloc: Global,
     address: &str,
