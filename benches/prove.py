@@ -42,8 +42,8 @@ def check(crate, jobs):
     return status, time.time() - began, verdict[-1].split(" sum=")[0].strip() if verdict else "as it was"
 
 
-def main(names):
-    top = pathlib.Path(__file__).resolve().parent.parent
+def repository(top):
+    """The toolchain's command, and the crates of the repository, those below first."""
     os.chdir(top)
     rt = load_rt()
     rt.rtlib.guarded()
@@ -54,7 +54,11 @@ def main(names):
         rt.read_files(self)
 
     rt.rtlib.Crate.__init__ = make
-    crates = sorted(rt.rtlib.crates_below(str(top)), key=lambda it: len(it.below()))
+    return rt, sorted(rt.rtlib.crates_below(top), key=lambda it: len(it.below()))
+
+
+def main(names):
+    _, crates = repository(str(pathlib.Path(__file__).resolve().parent.parent))
     if names:
         asked = [it for it in crates if it.name in names]
         wanted = {it.name for crate in asked for it in [crate, *crate.below()]}
