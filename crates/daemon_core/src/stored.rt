@@ -44,10 +44,9 @@ impl Stored {
             (length self.new.journal.entries + ends_of self.new.journal.entries
             + (length self.new.machine.memory.state.tickets + 2) ≤ self.new.journal.room) }
     {
-        match self.machine.tickets().checked_add(2) {
-            Some(places) => self.journal.make_places(places),
-            None => Err(NoMemory),
-        }
+        self.machine.kept();
+        let places = self.machine.tickets() + 2;
+        self.journal.make_places(places)
     }
 
     // The place of the call, and of the end of the ticket that it may give. The end of a ticket has
