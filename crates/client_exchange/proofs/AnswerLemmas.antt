@@ -22,12 +22,12 @@ use Rattle.client_model.specs.Runs.{AreFronts, shows_unfit}
 use Rattle.client_model.specs.Streams.{shows, is_unfit}
 use Rattle.client_model.specs.declared.fault.Fault.{Fault}
 use Rattle.client_model.specs.declared.fault.Fault.TheVariants as F
-use Rattle.client_streams.specs.Outputs.{Outputs, BothBegan}
-use Rattle.client_streams.specs.Taking.{Taken, taken}
+use Rattle.client_exchange.specs.Outputs.{Outputs, BothBegan}
+use Rattle.client_exchange.specs.Taking.{Taken, taken}
 use Rattle.client_exchange.specs.Telling.{Stands, Told, ToldSoFar, ReadFails, HadToWrite, FollowSays, Refuses, answer_shows, unread_answer, FaultSays, Goes, IsRefused, BreaksOff, RefusalSays, AnswerSays}
 use Rattle.client_model.specs.declared.showing.Showing.{Showing}
 use Rattle.client_model.specs.declared.showing.Showing.TheVariants.{Kept}
-use Rattle.client_streams.proofs.OutputLemmas.{both_none, fronts_none}
+use Rattle.client_exchange.proofs.OutputLemmas.{both_none, fronts_none}
 use Rattle.client_exchange.proofs.FollowLemmas.{has_ended}
 
 -- ---- statuses

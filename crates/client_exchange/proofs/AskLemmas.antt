@@ -11,17 +11,17 @@ use Rattle.client_model.specs.Client.{said_by}
 use Rattle.client_model.specs.Runs.{AreFronts, sent_by}
 use Rattle.client_model.specs.declared.fault.Fault.{Fault}
 use Rattle.client_model.specs.declared.fault.Fault.TheVariants as F
-use Rattle.client_streams.specs.Outputs.{BothBegan}
+use Rattle.client_exchange.specs.Outputs.{BothBegan}
 use Rattle.client_model.specs.Streams.{shows, may_end}
-use Rattle.client_streams.specs.Taking.{Taken, taken, ends_by}
+use Rattle.client_exchange.specs.Taking.{Taken, taken, ends_by}
 use Rattle.client_exchange.specs.Telling.{HadToWrite, answer_shows}
 use Rattle.client_exchange.specs.Exchanges.{Reach, HasRefused, HasBroken, KeepsOff, HasMissed}
 use Rattle.client_exchange.specs.Walks.{IsAsking, Walked, Walks, FailsAlone, StopsIn, Does}
 use Rattle.client_exchange.specs.Asking.{asked_as, Onward, shown_then, FailsShort}
 use Rattle.client_model.specs.declared.showing.Showing.{Showing}
 use Rattle.client_model.specs.declared.showing.Showing.TheVariants.{Kept, Copied, Demuxed}
-use Rattle.client_streams.proofs.OutputLemmas.{both_none, began_none}
-use Rattle.client_streams.proofs.TakingLemmas.{ends_so}
+use Rattle.client_exchange.proofs.OutputLemmas.{both_none, began_none}
+use Rattle.client_exchange.proofs.TakingLemmas.{ends_so}
 use Rattle.client_exchange.proofs.WalkLemmas.{way_one, walk_none}
 
 writes_nothing : (plan : Plan) → IsAsking plan → plan ≡ writes nothing plan

@@ -9,8 +9,8 @@ use Rattle.client_model.specs.Requests.{request_bytes}
 use Rattle.client_model.specs.Plans.{nothing, writes, fails, by_answer}
 use Rattle.client_model.specs.Streams.{shows, may_end}
 use Rattle.client_model.specs.declared.fault.Fault.{Fault}
-use Rattle.client_streams.specs.Taking.{Taken, taken, ends_by}
-use Rattle.client_streams.proofs.OutputLemmas.{both_none}
+use Rattle.client_exchange.specs.Taking.{Taken, taken, ends_by}
+use Rattle.client_exchange.proofs.OutputLemmas.{both_none}
 use Rattle.client_model.specs.declared.showing.Showing.{Showing}
 use Rattle.client_model.specs.declared.showing.Showing.TheVariants.{Kept, Copied, Demuxed}
 use Rattle.client_exchange.specs.declared.got.Got.{Got}

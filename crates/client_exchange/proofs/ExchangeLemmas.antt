@@ -14,14 +14,14 @@ use Rattle.client_model.specs.Plans.{nothing}
 use Rattle.client_model.specs.Runs.{Exchange, shows_unfit, IsSilent, WasSent, HaveCome, AreLeft}
 use Rattle.client_model.specs.declared.fault.Fault.{Fault}
 use Rattle.client_model.specs.declared.fault.Fault.TheVariants as F
-use Rattle.client_streams.specs.Outputs.{Outputs, BothTook}
-use Rattle.client_streams.specs.Taking.{Taken}
+use Rattle.client_exchange.specs.Outputs.{Outputs, BothTook}
+use Rattle.client_exchange.specs.Taking.{Taken}
 use Rattle.client_exchange.specs.Telling.{Told, ReadFails, HadToWrite, BreaksOff}
 use Rattle.client_exchange.specs.Exchanges.{SendFails, IsUnsent, ConverseSays, MeetsOne, IsAnswered, HasGone, HasRefused, FailsOn, HasBroken, HasMissed, ExchangeSays}
 use Rattle.client_exchange.specs.Feeding.{InputFails, TalkSays, FedSays}
 use Rattle.client_exchange.specs.declared.got.Got.{Got}
 use Rattle.client_model.specs.declared.showing.Showing.{Showing}
-use Rattle.client_streams.proofs.OutputLemmas.{both_none, fronts_none}
+use Rattle.client_exchange.proofs.OutputLemmas.{both_none, fronts_none}
 
 -- a connection that was made is owed
 pub is_owed : (address : List ℕ) (w : Wire) (v v' : LinkView) → Connects address w v v' → 0 < v'.owed

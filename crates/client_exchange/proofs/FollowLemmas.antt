@@ -23,14 +23,14 @@ use Rattle.client_model.specs.Plans.{Written, nothing}
 use Rattle.client_model.specs.Runs.{AreFronts}
 use Rattle.client_model.specs.declared.fault.Fault.{Fault}
 use Rattle.client_model.specs.declared.fault.Fault.TheVariants as F
-use Rattle.client_streams.specs.Outputs.{Outputs, BothTook, OutputsFail, WritesBoth, WasToWrite}
+use Rattle.client_exchange.specs.Outputs.{Outputs, BothTook, OutputsFail, WritesBoth, WasToWrite}
 use Rattle.client_model.specs.Streams.{shows, is_unfit}
-use Rattle.client_streams.specs.Taking.{Taken, taken, adds, IfUntaken, after, unfit_by}
+use Rattle.client_exchange.specs.Taking.{Taken, taken, adds, IfUntaken, after, unfit_by}
 use Rattle.client_exchange.specs.Telling.{Stands, Told, ToldSoFar, ReadFails, HadToWrite, FollowSays}
 use Rattle.client_model.specs.declared.showing.Showing.{Showing}
 use Rattle.client_model.specs.declared.showing.Showing.TheVariants.{Kept, Copied, Demuxed}
-use Rattle.client_streams.proofs.OutputLemmas.{both_none, goes_on, breaks_on, was_behind}
-use Rattle.client_streams.proofs.TakingLemmas.{nothing_shown, taken_on, shown_on, unfit_so, fit_first}
+use Rattle.client_exchange.proofs.OutputLemmas.{both_none, goes_on, breaks_on, was_behind}
+use Rattle.client_exchange.proofs.TakingLemmas.{nothing_shown, taken_on, shown_on, unfit_so, fit_first}
 
 -- ---- what a reader says, of all the bytes of a connection
 

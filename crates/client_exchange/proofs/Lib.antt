@@ -1,3 +1,7 @@
+pub mod OutputLemmas
+pub mod FrameLemmas
+pub mod WholeLemmas
+pub mod TakingLemmas
 pub mod FollowLemmas
 pub mod AnswerLemmas
 pub mod ExchangeLemmas

@@ -8,10 +8,10 @@ use Rattle.client_model.specs.Plans.{Plan, Ends, Asks, Judges, Asked, Written, n
 use Rattle.client_model.specs.Client.{Said, said, said_first, said_by}
 use Rattle.client_model.specs.Runs.{Exchange, AreAnswered, HaveCome, AreLeft, sent_by, AreFronts}
 use Rattle.client_model.specs.declared.fault.Fault.{Fault}
-use Rattle.client_streams.specs.Outputs.{BothTook}
+use Rattle.client_exchange.specs.Outputs.{BothTook}
 use Rattle.client_exchange.specs.Exchanges.{Reach, IsAnswered}
 use Rattle.client_exchange.specs.Walks.{IsAsking, AreQuiet, said_behind, WroteBefore, Walked, Walks, Does}
-use Rattle.client_streams.proofs.OutputLemmas.{both_none, both_on, fronts_none, fronts_longer, fronts_behind}
+use Rattle.client_exchange.proofs.OutputLemmas.{both_none, both_on, fronts_none, fronts_longer, fronts_behind}
 
 -- ---- lists of connections
 

@@ -12,8 +12,8 @@ use Rattle.client_model.specs.Streams.{shows}
 use Rattle.client_model.specs.Runs.{Exchange, has_ended, shows_unfit, IsRead, WasSent, HaveCome, AreLeft, HasFailed, missed_by}
 use Rattle.client_model.specs.declared.fault.Fault.{Fault}
 use Rattle.client_model.specs.declared.fault.Fault.TheVariants as F
-use Rattle.client_streams.specs.Outputs.{Outputs, outputs, BothTook, BothBegan, OutputsFail}
-use Rattle.client_streams.specs.Taking.{Taken, taken}
+use Rattle.client_exchange.specs.Outputs.{Outputs, outputs, BothTook, BothBegan, OutputsFail}
+use Rattle.client_exchange.specs.Taking.{Taken, taken}
 use Rattle.client_exchange.specs.Telling.{HadToWrite, CountsAll, Refuses, answer_shows, AnswerSays}
 use Rattle.client_exchange.specs.declared.got.Got.{Got}
 use Rattle.client_model.specs.declared.showing.Showing.{Showing}

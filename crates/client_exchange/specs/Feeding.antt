@@ -7,8 +7,8 @@ use Rattle.engine_ports.specs.Sink.{SinkView, SinkTook, IsFront}
 use Rattle.client_model.specs.Plans.{Plan}
 use Rattle.client_model.specs.declared.fault.Fault.{Fault}
 use Rattle.client_model.specs.declared.fault.Fault.TheVariants as F
-use Rattle.client_streams.specs.Outputs.{Outputs}
-use Rattle.client_streams.specs.Taking.{Taken}
+use Rattle.client_exchange.specs.Outputs.{Outputs}
+use Rattle.client_exchange.specs.Taking.{Taken}
 use Rattle.client_model.specs.declared.showing.Showing.{Showing}
 use Rattle.client_exchange.specs.declared.got.Got.{Got}
 use Rattle.client_exchange.specs.Telling.{AnswerSays}

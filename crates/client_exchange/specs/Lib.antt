@@ -1,3 +1,7 @@
+pub mod Outputs
+pub mod Writing
+pub mod Taking
+pub mod Laws
 pub mod Telling
 pub mod Exchanges
 pub mod Walks

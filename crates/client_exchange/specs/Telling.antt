@@ -13,8 +13,8 @@ use Rattle.client_model.specs.Runs.{ReadSo, shows_unfit}
 use Rattle.client_model.specs.Streams.{shows, is_unfit}
 use Rattle.client_model.specs.declared.fault.Fault.{Fault}
 use Rattle.client_model.specs.declared.fault.Fault.TheVariants as F
-use Rattle.client_streams.specs.Outputs.{Outputs, BothTook, BothBegan, OutputsFail}
-use Rattle.client_streams.specs.Taking.{Taken, taken}
+use Rattle.client_exchange.specs.Outputs.{Outputs, BothTook, BothBegan, OutputsFail}
+use Rattle.client_exchange.specs.Taking.{Taken, taken}
 use Rattle.client_exchange.specs.declared.got.Got.{Got}
 use Rattle.client_model.specs.declared.showing.Showing.{Showing}
 

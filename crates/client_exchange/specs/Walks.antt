@@ -8,7 +8,7 @@ use Rattle.client_model.specs.Client.{Said, said, said_by}
 use Rattle.client_model.specs.Runs.{Exchange, shows_unfit, AreAnswered, WasSent, HaveCome, AreLeft, AreFronts, sent_by, IsUnfailed}
 use Rattle.client_model.specs.declared.fault.Fault.{Fault}
 use Rattle.client_model.specs.declared.fault.Fault.TheVariants as F
-use Rattle.client_streams.specs.Outputs.{BothTook, BothBegan}
+use Rattle.client_exchange.specs.Outputs.{BothTook, BothBegan}
 use Rattle.client_exchange.specs.Telling.{HadToWrite, CountsAll}
 use Rattle.client_exchange.specs.Exchanges.{Reach, MeetsOne, IsMissed, FailsOn}
 

@@ -1,15 +1,15 @@
 // One request over a connection of its own.
 ghost use Rattle.std.specs.Prelude.{◌≡◌, ◌<◌, [], length, IfOk};
 ghost use Rattle.engine_ports.specs.Link.{but_for};
-ghost use Rattle.client_streams.specs.Outputs.{outputs};
-ghost use Rattle.client_streams.specs.Taking.{taken};
+ghost use Rattle.client_exchange.specs.Outputs.{outputs};
+ghost use Rattle.client_exchange.specs.Taking.{taken};
 ghost use Rattle.client_exchange.specs.Telling.{unread_answer};
 ghost use Rattle.client_exchange.specs.Exchanges.{ConverseSays, ExchangeSays, reach};
 
 use crate::answer::read_answer;
 use crate::got::Got;
 use client_model::Fault;
-use client_streams::Taker;
+use crate::taker::Taker;
 use engine_ports::{Link, NoMemory, Sink, Source};
 use response_reader::ResponseReader;
 use std::alloc::Global;

@@ -1,8 +1,8 @@
 // A request and its input over a connection of its own.
 ghost use Rattle.std.specs.Prelude.{◌≡◌, ◌<◌, [], length};
 ghost use Rattle.engine_ports.specs.Link.{but_for};
-ghost use Rattle.client_streams.specs.Outputs.{outputs};
-ghost use Rattle.client_streams.specs.Taking.{taken};
+ghost use Rattle.client_exchange.specs.Outputs.{outputs};
+ghost use Rattle.client_exchange.specs.Taking.{taken};
 ghost use Rattle.client_exchange.specs.Telling.{unread_answer};
 ghost use Rattle.client_exchange.specs.Exchanges.{reach};
 ghost use Rattle.client_exchange.specs.Feeding.{TalkSays, FedSays};
@@ -12,7 +12,7 @@ use crate::connection::place;
 use crate::got::Got;
 use crate::sending::send_with_input;
 use client_model::Fault;
-use client_streams::Taker;
+use crate::taker::Taker;
 use engine_ports::{Link, Sink, Source};
 use response_reader::ResponseReader;
 use std::alloc::Global;

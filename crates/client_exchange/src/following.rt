@@ -3,12 +3,12 @@ ghost use Rattle.std.specs.Prelude.{◌≡◌, ◌<◌, [], length};
 ghost use Rattle.engine_ports.specs.Source.{SourceView};
 ghost use Rattle.http_edge.specs.declared.head.Head.{Head};
 ghost use Rattle.response_reader.specs.Reader.{IsInBody};
-ghost use Rattle.client_streams.specs.Outputs.{outputs};
-ghost use Rattle.client_streams.specs.Taking.{taken};
+ghost use Rattle.client_exchange.specs.Outputs.{outputs};
+ghost use Rattle.client_exchange.specs.Taking.{taken};
 ghost use Rattle.client_exchange.specs.Telling.{Stands, FollowSays};
 
 use client_model::Fault;
-use client_streams::Taker;
+use crate::taker::Taker;
 use engine_ports::{Sink, Source};
 use response_reader::{BodyGot, ResponseReader};
 use std::sync::Wait;

@@ -1,4 +1,4 @@
-//! One request of the client over a connection of its own, and its answer.
+//! One request of the client over a connection of its own, and its answer, whose body is shown as it comes.
 #![tactic(auto)]
 
 mod answer;
@@ -7,13 +7,19 @@ mod body;
 mod connection;
 mod feeding;
 mod following;
+mod frames;
 mod got;
+mod laws;
+mod limit;
 mod made;
 mod outside;
 mod request;
 mod sending;
+mod taker;
 
 pub use asking::ask;
 pub use body::Body;
+pub use laws::{law_ends, law_frames, law_pieces};
+pub use limit::cut_fault;
 pub use outside::Outside;
 pub use request::Ask;

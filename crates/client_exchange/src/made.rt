@@ -1,9 +1,9 @@
 // A taker that has taken nothing.
 ghost use Rattle.std.specs.Prelude.{◌≡◌, []};
-ghost use Rattle.client_streams.specs.Taking.{taken};
+ghost use Rattle.client_exchange.specs.Taking.{taken};
 
 use client_model::Showing;
-use client_streams::Taker;
+use crate::taker::Taker;
 use std::alloc::Global;
 
 /// A taker before the first byte of a body.

@@ -1,6 +1,6 @@
 // What a line has outside: its streams, and what stands in the place of the daemon.
 use crate::line::{Line, bytes_of};
-use client_program::Outside;
+use engine_client::Outside;
 use engine_ports::{MemLink, MemSink, MemSource, NoMemory};
 use std::alloc::{AllocError, Global};
 

@@ -1,7 +1,7 @@
 // The client's side: each line run, one behind the other, and told.
 use crate::line::{Line, owned};
 use crate::outside::{link_of, outside_of};
-use client_program::run_client;
+use engine_client::run_client;
 use engine_ports::{Link, NoMemory};
 use engine_text::Text;
 use std::alloc::Global;

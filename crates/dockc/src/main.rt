@@ -2,7 +2,7 @@
 //! top call.
 #![tactic(auto)]
 
-use client_program::{Outside, run_client};
+use engine_client::{Outside, run_client};
 use engine_ports::{HeldStreams, ReadSource, TcpLink, WriteSink};
 use engine_text::Text;
 use std::env;

@@ -1,5 +1,9 @@
-pub mod OptionLemmas
-pub mod BodyLemmas
-pub mod RequestLemmas
-pub mod WordLemmas
-pub mod CodeLemmas
+pub mod PrintLemmas
+pub mod WatchLemmas
+pub mod StepLemmas
+pub mod InputLemmas
+pub mod RunLemmas
+pub mod CallLemmas
+pub mod MomentLemmas
+pub mod LineLemmas
+pub mod PerformLemmas

@@ -1,4 +1,9 @@
 pub mod Reading
-pub mod Options
-pub mod Heads
-pub mod Object
+pub mod Printing
+pub mod Steps
+pub mod Places
+pub mod Cutting
+pub mod Writing
+pub mod Replaying
+pub mod Performing
+pub mod Running

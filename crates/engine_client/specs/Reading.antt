@@ -1,16 +1,11 @@
--- What is read, by what it is to be (own: it is just that, but for want of memory).
-use Rattle.std.specs.Prelude.{◌≡◌, Option, Some, None, Result, Ok, Err, ⊤}
-use Rattle.engine_client.specs.declared.unread.Unread.{Unread}
-use Rattle.engine_client.specs.declared.unread.Unread.TheVariants.{NoForm, NoMemory}
+-- What is read of a body that is kept (own).
+use Rattle.std.specs.Prelude.{◌≡◌, ⊤, Option, Some, None, Result, Ok, Err}
+use Rattle.client_model.specs.declared.fault.Fault.{Fault}
+use Rattle.client_model.specs.declared.fault.Fault.TheVariants as F
 
--- what was read is this, of what a view shows
-abbrev pub ReadsAs : {A B : Type 0} → (A → B) → Result A Unread → Option B → Type 0
-ReadsAs view (Ok x) meaning = meaning ≡ Some (view x)
-ReadsAs view (Err NoForm) meaning = meaning ≡ None
-ReadsAs view (Err NoMemory) meaning = ⊤
-
--- what was read is this
-abbrev pub Reads : {A : Type 0} → Result A Unread → Option A → Type 0
-Reads (Ok x) meaning = meaning ≡ Some x
-Reads (Err NoForm) meaning = meaning ≡ None
-Reads (Err NoMemory) meaning = ⊤
+-- this was read, and is what is meant; or nothing is meant, or memory was refused
+abbrev pub ReadsOrFails : {A : Type 0} → Result A Fault → Option A → Type 0
+ReadsOrFails (Ok x) meaning = meaning ≡ Some x
+ReadsOrFails (Err F.Answer) meaning = meaning ≡ None
+ReadsOrFails (Err F.NoMemory) meaning = ⊤
+ReadsOrFails (Err fault) meaning = ⊥

@@ -1,7 +1,7 @@
 use Rattle.response_reader.specs.Reader.{IsInBody}
 use Rattle.std.proofs.Common.{◌≡◌, false}
-use Rattle.client_streams.specs.Outputs.{outputs}
-use Rattle.client_streams.specs.Taking.{unfit_by}
+use Rattle.client_exchange.specs.Outputs.{outputs}
+use Rattle.client_exchange.specs.Taking.{unfit_by}
 use Rattle.client_exchange.proofs.FollowLemmas.{Showed}
 use Rattle.client_exchange.proofs.following.follow.Given as goal
 

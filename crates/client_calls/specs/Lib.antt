@@ -1,4 +1,0 @@
-pub mod Classes
-pub mod Table
-pub mod Laws
-pub mod Sent

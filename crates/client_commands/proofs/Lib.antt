@@ -1,3 +1,0 @@
-pub mod PrintLemmas
-pub mod WatchLemmas
-pub mod StepLemmas

@@ -1,9 +1,0 @@
-use Rattle.std.proofs.Common.{inl, refl}
-use Rattle.client_commands.proofs.PrintLemmas.{line_written}
-use Rattle.client_commands.proofs.printing.prints.Goals as goal
-
-pub returns-in-Ok : goal.returns-in-Ok
-returns-in-Ok c = (line_written c.args.line.now c.in-Ok.text.items c.in-Ok.ensures, refl)
-
-pub returns-in-Err : goal.returns-in-Err
-returns-in-Err c = inl refl

@@ -1,7 +1,0 @@
-use Rattle.std.proofs.Common.{ap, ◌∙◌, false}
-use Rattle.client_model.specs.Plans.{prints, done}
-use Rattle.client_commands.proofs.StepLemmas.{step_as}
-use Rattle.client_commands.proofs.printing.prints_code.Goals as goal
-
-pub returns : goal.returns
-returns c = step_as _ false _ _ (ap (λ l. prints l done) (c.as_bytes.ensures.value ∙ c.format.ensures.text)) c.prints.ensures

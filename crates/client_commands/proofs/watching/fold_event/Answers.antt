@@ -1,7 +1,0 @@
-use Rattle.client_commands.proofs.watching.fold_event.Goals as goal
-
-pub returns-in-Ok : goal.returns-in-Ok
-returns-in-Ok c = λ meaning is. (c.args.event.now, is, c.in-Ok.ensures.ok)
-
-pub returns-in-Err : goal.returns-in-Err
-returns-in-Err c = λ meaning is. tt

@@ -1,9 +1,0 @@
-use Rattle.std.proofs.Common.{length}
-use Rattle.client_commands.proofs.WatchLemmas.{Folds}
-use Rattle.client_commands.proofs.watching.fold_events.Given as goal
-
-abbrev pub invariant-lines : goal.invariant-lines
-invariant-lines l = Folds l.fold l.rest l.body
-
-abbrev pub decreases-lines : goal.decreases-lines
-decreases-lines l = length l.rest

@@ -1,0 +1,5 @@
+pub mod OptionLemmas
+pub mod BodyLemmas
+pub mod RequestLemmas
+pub mod WordLemmas
+pub mod CodeLemmas

@@ -1,0 +1,39 @@
+// `replay`.
+ghost use Rattle.client_model.specs.Commands.Replay as spec;
+ghost use Rattle.client_parts.specs.Reading.{Reads};
+
+use super::options::value_of;
+use super::split::split_options;
+use crate::Unread;
+use client_model::{Command, Kind};
+use engine_line::{moment_in, seed_of};
+use engine_text::{Pair, Text};
+use std::alloc::Global;
+
+/// Of these options and this word.
+fn replay_of(alloc: Global, given: &[Pair], word: &Text) -> Result<Command, Unread>
+    ensures { Reads result (spec.replay_of given.now word.now) }
+{
+    let seed = value_of(alloc, "--seed", given)?;
+    let seed = seed_of(seed.as_ref().map(|seed| seed.as_str())).ok_or(Unread::NoForm)?;
+    let moment = moment_in(word.as_str()).ok_or(Unread::NoForm)?;
+    Ok(Command::Replay { seed, moment })
+}
+
+/// One word behind the options.
+fn replay_in(alloc: Global, given: &[Pair], words: &[Text]) -> Result<Command, Unread>
+    ensures { Reads result (spec.replay_in given.now words.now) }
+{
+    match words {
+        [word] => replay_of(alloc, given, word),
+        _ => Err(Unread::NoForm),
+    }
+}
+
+/// `replay [--seed HEX] MOMENT`.
+pub(crate) fn read_replay(alloc: Global, words: &[Text]) -> Result<Command, Unread>
+    ensures { Reads result (spec.read_replay words.now) }
+{
+    let split = split_options(alloc, &[("--seed", Kind::Valued)], words)?;
+    replay_in(alloc, split.given.as_slice(), split.words.as_slice())
+}

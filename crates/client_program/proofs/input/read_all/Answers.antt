@@ -1,5 +1,0 @@
-use Rattle.client_program.proofs.InputLemmas.{read_lacks}
-use Rattle.client_program.proofs.input.read_all.Goals as goal
-
-pub returns-in-Err : goal.returns-in-Err
-returns-in-Err g c = read_lacks _ _ _ _ _ _ c.loop.invariant.so c.in-Bytes.ensures.2

@@ -1,4 +1,0 @@
-pub mod Printing
-pub mod Replaying
-pub mod Performing
-pub mod Running

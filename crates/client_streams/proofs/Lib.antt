@@ -1,4 +1,0 @@
-pub mod OutputLemmas
-pub mod FrameLemmas
-pub mod WholeLemmas
-pub mod TakingLemmas

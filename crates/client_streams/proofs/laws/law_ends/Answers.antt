@@ -1,5 +1,0 @@
-use Rattle.client_streams.proofs.TakingLemmas.{ends_so, unfit_so}
-use Rattle.client_streams.proofs.laws.law_ends.Goals as goal
-
-pub returns : goal.returns
-returns c = λ showing body. (ends_so showing body, unfit_so showing body)

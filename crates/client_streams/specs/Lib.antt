@@ -1,4 +1,0 @@
-pub mod Outputs
-pub mod Writing
-pub mod Taking
-pub mod Laws

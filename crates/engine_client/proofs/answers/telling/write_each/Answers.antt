@@ -1,5 +1,0 @@
-use Rattle.engine_ports.proofs.PortLemmas.{written_on}
-use Rattle.engine_client.proofs.answers.telling.write_each.Goals as goal
-
-pub returns : goal.returns
-returns g c = written_on tt c.write.result _ _ _ _ _ c.in_ok-write_both.ensures c.write.ensures

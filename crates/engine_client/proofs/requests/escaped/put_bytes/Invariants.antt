@@ -1,6 +1,0 @@
-use Rattle.std.proofs.Common.{◌≡◌, ◌++◌, flat_map, take}
-use Rattle.client_model.specs.Requests.{escaped_byte}
-use Rattle.engine_client.proofs.requests.escaped.put_bytes.Given as goal
-
-abbrev pub invariant-bytes : goal.invariant-bytes
-invariant-bytes l = l.out.items ≡ l.fn.out.items ++ flat_map escaped_byte (take l.byte-index l.segment)

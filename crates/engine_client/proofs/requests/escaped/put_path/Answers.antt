@@ -1,6 +1,0 @@
-use Rattle.std.proofs.Common.{◌∙◌}
-use Rattle.engine_client.proofs.RequestLemmas.{all_segments}
-use Rattle.engine_client.proofs.requests.escaped.put_path.Goals as goal
-
-pub returns : goal.returns
-returns c = c.path.invariant ∙ all_segments c.args.out.now.items c.args.path.now c.path.segment-index c.path-test.false

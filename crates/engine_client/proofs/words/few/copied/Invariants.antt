@@ -1,5 +1,0 @@
-use Rattle.std.proofs.Common.{◌≡◌, take}
-use Rattle.engine_client.proofs.words.few.copied.Given as goal
-
-abbrev pub invariant-words : goal.invariant-words
-invariant-words l = l.again ≡ take l.word-index l.words

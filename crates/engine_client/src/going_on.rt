@@ -1,0 +1,82 @@
+// What a command does behind an answer that doesn't refuse.
+ghost use Rattle.std.specs.Prelude.{◌≡◌, true, false};
+ghost use Rattle.client_model.specs.Plans.{fails};
+ghost use Rattle.client_model.specs.Commands.Watch.{watched};
+ghost use Rattle.engine_client.specs.Places.{GoesOn, feeds_at, plan_at};
+
+use crate::onward::Then;
+use crate::places::{
+    attaches, ends, ends_exec, ends_run, executes, inspects, prints_containers, prints_exit,
+    prints_id, prints_volumes, prints_watched, starts, waits,
+};
+use crate::printing::{prints, prints_body};
+use crate::step::Step;
+use client_exchange::Body;
+use client_model::Fault;
+use client_exchange::cut_fault;
+use std::alloc::Global;
+
+/// What `watch` fails by, where not all of a body came.
+fn short_rows(first: Option<u64>, body: &Vec<u8>) -> Fault
+    ensures { watched first body.now.items false ≡ fails result }
+{
+    match first {
+        None => Fault::Answer,
+        Some(0) => cut_fault(body),
+        Some(_) => Fault::EventsGone,
+    }
+}
+
+/// What it fails by, where not all of a body came.
+fn short(place: &Then, first: Option<u64>, body: &Vec<u8>) -> Fault
+    ensures { plan_at place.now first body.now.items false ≡ fails result }
+{
+    match place {
+        Then::PrintsRows => short_rows(first, body),
+        _ => cut_fault(body),
+    }
+}
+
+/// What it does by a body that came whole, which may be taken.
+fn whole(alloc: Global, place: &Then, first: Option<u64>, body: &mut Vec<u8>) -> Result<Step, Fault>
+    ensures { GoesOn result (feeds_at place.now) (plan_at place.now first body.old.items true) }
+{
+    match place {
+        Then::Ends { status } => ends(alloc, *status),
+        Then::Prints { line } => prints(alloc, line.as_slice()),
+        Then::PrintsBody => prints_body(alloc, body),
+        Then::PrintsId => prints_id(alloc, body),
+        Then::PrintsContainers => prints_containers(alloc, body),
+        Then::PrintsVolumes => prints_volumes(alloc, body),
+        Then::PrintsCode => prints_exit(alloc, body),
+        Then::PrintsRows => prints_watched(alloc, first, body),
+        Then::Starts { input, remove } => starts(alloc, *input, *remove, body),
+        Then::Attaches { id, input, remove } => attaches(alloc, id, *input, *remove),
+        Then::Waits { id, remove } => waits(alloc, id, *remove),
+        Then::Removes { id, remove } => ends_run(alloc, id, *remove, body),
+        Then::Executes { input } => executes(alloc, *input, body),
+        Then::Inspects { id } => inspects(alloc, id),
+        Then::EndsExec => ends_exec(alloc, body),
+    }
+}
+
+/// What a command does from this place on, by what came of the body of an answer that doesn't refuse; that may be taken.
+fn onward(alloc: Global, place: &Then, body: &mut Body) -> Result<Step, Fault>
+    ensures { GoesOn result (feeds_at place.now)
+        (plan_at place.now body.old.first body.old.bytes.items body.old.whole) }
+{
+    if !body.whole {
+        return Err(short(place, body.first, &body.bytes));
+    }
+    let first = body.first;
+    whole(alloc, place, first, &mut body.bytes)
+}
+
+/// What a command does from this place on, by what came of the body of an answer that doesn't refuse.
+pub fn next(alloc: Global, place: &Then, body: Body) -> Result<Step, Fault>
+    ensures { GoesOn result (feeds_at place.now)
+        (plan_at place.now body.first body.bytes.items body.whole) }
+{
+    let mut body = body;
+    onward(alloc, place, &mut body)
+}
