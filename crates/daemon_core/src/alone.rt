@@ -24,10 +24,16 @@ impl Alone {
         Alone { daemon }
     }
 
-    pub fn into_daemon(self) -> Daemon
-        ensures { whole_pass result ≡ alone_pass self }
+    /// The daemon, as its turns left it.
+    pub fn daemon(&self) -> &Daemon
+        ensures { whole_pass result.now ≡ alone_pass self.now }
     {
-        self.daemon
+        &self.daemon
+    }
+
+    /// The daemon comes to its end.
+    pub fn end(self) {
+        self.daemon.end();
     }
 }
 

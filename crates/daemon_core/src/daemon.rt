@@ -102,6 +102,10 @@ impl Daemon {
         self.stored.journal.steps()
     }
 
+    /// It comes to its end, and all that it keeps is let go. Who lets a daemon go by this has none of its parts to let go,
+    /// and so no proof of that.
+    pub fn end(self) {}
+
     /// Makes every step that is due at or before the moment that counts, and then the call. A drop is
     /// made at once, and takes no memory.
     pub fn turn(&mut self, alloc: Global, conn: u32, handed: u64, call: Option<&Call>) -> Turned

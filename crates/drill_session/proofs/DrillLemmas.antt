@@ -1,5 +1,5 @@
 -- The one session of a drill.
-use Rattle.std.proofs.Common.{arith, ◌≡◌, ◌⊎◌, inl, inr, ℕ, List, [], Some, subst}
+use Rattle.std.proofs.Common.{arith, ◌≡◌, ◌⊎◌, inl, inr, ℕ, List, [], Some, subst, sym}
 use Rattle.std.specs.Prelude.{Result, Ok, Err, IsErrAnd}
 use Rattle.std.specs.List.{concat}
 use Rattle.engine_ports.specs.Clock.{ClockView}
@@ -19,8 +19,9 @@ use Rattle.session_model.proofs.CauseLemmas.{causes}
 use Rattle.daemon_core.specs.Storing.{pass_of}
 use Rattle.drill_model.specs.Source.{Supply, full_source, empty_sink}
 use Rattle.drill_model.specs.Requests.{drill_requests}
-use Rattle.drill_session.specs.Running.{Session, Drills}
+use Rattle.drill_session.specs.Running.{Session, IsReport, Drills}
 use Rattle.drill_session.specs.declared.drill.Drilled.{Drilled}
+use Rattle.drill_session.specs.declared.drill.Drilled.TheVariants.{Reported}
 use Rattle.drill_model.proofs.UnrefusedLemmas.{IsUnrefused, ends_unrefused}
 
 -- what was served is the session
@@ -53,6 +54,18 @@ module _ (ch c : Charter) (requests : ℕ) (e : Ending) (t t' : ClockView) (h : 
         (outside (full_source (concat (drill_requests ch.seed requests)) 0) empty_sink t)
         (outside (full_source to.left to.ends) (sink_of taken) t')) same_charter first;
   }
+
+-- a closed session and its report
+pub reported : (ch : Charter) (requests : ℕ) (e : Ending) (t t' : ClockView) (written : List ℕ) (h : List Step) (text : List ℕ) → e ≡ E.Closed
+    → IsReport ch requests written h text
+    → (s : Session ch requests e t t') → s.written ≡ written → s.history ≡ h → Drills ch requests (Ok (Reported text)) t t'
+reported ch requests e t t' written h text is report =
+    subst (λ (x : Ending). (s : Session ch requests x t t') → s.written ≡ written → s.history ≡ h → Drills ch requests (Ok (Reported text)) t t') (sym is)
+    (λ s wrote seen. (
+      s,
+      subst (λ (l : List Step). IsReport ch requests s.written l text) (sym seen)
+          (subst (λ (w : List ℕ). IsReport ch requests w h text) (sym wrote) report),
+    ))
 
 -- a call of it found no memory, before it or behind it
 pub wants : (r : Result Drilled NoMemory) (none : NoMemory) (ch : Charter) (requests : ℕ) (t t' : ClockView) → IsErrAnd r (λ e. e ≡ none)

@@ -1,10 +1,11 @@
 // A drill, and what it came to.
 ghost use Rattle.std.specs.Prelude.{◌≡◌, ◌≤◌, IfOk};
+ghost use Rattle.engine_ports.specs.Clock.{ClockView};
 ghost use Rattle.machine_model.specs.History.{greatest_moment};
 ghost use Rattle.daemon_core.specs.Keeping.{history_of};
 ghost use Rattle.daemon_core.specs.Passing.{charter};
 ghost use Rattle.drill_model.specs.Source.{empty_sink};
-ghost use Rattle.drill_session.specs.Running.{charter_by, Drills, IsReport};
+ghost use Rattle.drill_session.specs.Running.{charter_by, Drills, IsReport, Session};
 
 use super::drill::{Drill, Drilled};
 use super::judging::journal_text;
@@ -46,6 +47,31 @@ fn memory_sink(alloc: Global) -> Result<MemSink, NoMemory>
     }
 }
 
+/// What a drill comes to whose session ended so, with these bytes written on it: where it was closed, a report. The sink
+/// in memory fails for want of memory alone.
+fn outcome(
+    alloc: Global,
+    ending: Ending,
+    daemon: &Daemon,
+    drill: Drill,
+    bytes: &[u8],
+) -> Result<Drilled, NoMemory>
+    requires opening { drill.opening ≤ greatest_moment }
+    requires charter { charter daemon.now ≡ charter_by drill }
+    ensures { (from to : ClockView) (s : Session (charter_by drill) drill.requests ending from to)
+        → s.written ≡ bytes.now → s.history ≡ history_of daemon.now.stored.journal
+        → Drills (charter_by drill) drill.requests result from to }
+{
+    match ending {
+        Ending::Closed => {
+            let text = report_of(alloc, daemon, drill, bytes)?;
+            Ok(Drilled::Reported(text))
+        }
+        Ending::WriteFault => Err(NoMemory),
+        ending => Ok(Drilled::Ended(ending)),
+    }
+}
+
 /// Runs a drill: its requests are served on one connection by a new daemon, the daemon's journal is checked, and what
 /// they came to is reported. It may wait.
 pub fn drilled<R: Threads + Wait + Sync, C: Clock>(
@@ -63,13 +89,8 @@ pub fn drilled<R: Threads + Wait + Sync, C: Clock>(
     let mut sink = memory_sink(alloc)?;
     let daemon = Daemon::new(alloc, drill.seed, drill.opening, drill.entries)?;
     let mut turns = Alone::new(daemon);
-    match serve(rt, &mut turns, alloc, 0, &mut source, &mut sink, clock) {
-        Ending::Closed => {
-            let daemon = turns.into_daemon();
-            let text = report_of(alloc, &daemon, drill, sink.bytes())?;
-            Ok(Drilled::Reported(text))
-        }
-        Ending::WriteFault => Err(NoMemory),
-        ending => Ok(Drilled::Ended(ending)),
-    }
+    let ending = serve(rt, &mut turns, alloc, 0, &mut source, &mut sink, clock);
+    let drilled = outcome(alloc, ending, turns.daemon(), drill, sink.bytes());
+    turns.end();
+    drilled
 }
