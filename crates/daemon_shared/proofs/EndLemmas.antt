@@ -1,52 +1,47 @@
 -- What the root's last turn tells of every connection.
-use Rattle.std.proofs.Common.{◌≡◌, ◌≢◌, ◌≤◌, ◌<◌, ◌+◌, ◌-◌, ◌==◌, ℕ, zero, suc, List, [], ◌∷◌, ◌++◌, Bool, true, false, length, map, nat_le, Option, Some, refl, sym, ◌∙◌, ap, subst, inl, inr, arith, append_assoc}
-use Rattle.std.specs.Prelude.{slice_index_or}
+use Rattle.std.proofs.Common.{◌≡◌, ◌≢◌, ◌≤◌, ◌<◌, ◌+◌, ◌-◌, ◌==◌, ℕ, zero, suc, List, [], ◌∷◌, ◌++◌, Bool, true, false, length, map, nat_le, Option, Some, refl, sym, ◌∙◌, ap, subst, inl, inr, ⊎_elim, arith, append-nil, append_assoc, eq-eqb}
+use mathlib.Core.Logic.{dite}
+use native.Mathlib.Decide.{ℕ_discrete}
+use Rattle.std.specs.Prelude.{slice_index_or, Contains}
 use Rattle.std.proofs.lemmas.Bool.Decides.{nat_tests}
 use Rattle.atomic_table.specs.Seated.{TableId}
 use Rattle.engine_text.specs.declared.step.Step.{Step}
-use Rattle.engine_ports.specs.Rose.{Rose}
-use Rattle.engine_ports.specs.Door.{Outside, DoorView, IsEmpty}
+use Rattle.engine_ports.specs.Door.{Outside, DoorView}
 use Rattle.machine_model.specs.History.{input_of}
 use Rattle.session_model.specs.Pass.{Only, KeepsInput}
 use Rattle.session_model.specs.declared.ending.Worst.{Worst}
-use Rattle.session_model.specs.declared.ending.Worst.TheVariants as worst
 use Rattle.daemon_core.specs.Keeping.{history_of}
 use Rattle.daemon_core.specs.declared.daemon.Daemon.{Daemon}
 use Rattle.daemon_core.specs.Passing.{whole_pass}
 use Rattle.daemon_core.specs.Storing.{pass_of}
 use Rattle.turnstile.specs.Steps.{steps_by}
-use Rattle.turnstile.specs.Claims.{Claim, pair_claim, Each, Stands, Fresh}
-use Rattle.turnstile.specs.Views.{claims}
+use Rattle.turnstile.specs.Claims.{Claim, bit, times, pair_claim, Each, Stands, Fresh}
+use Rattle.turnstile.specs.Views.{claims, ClaimsAll}
 use Rattle.turnstile.specs.Plays.{Meets}
 use Rattle.turnstile.specs.declared.view.View.{View}
 use Rattle.turnstile.proofs.Lists.{steps_by-append}
-use Rattle.turnstile.proofs.Totals.{each_first, each_last, each_both}
+use Rattle.turnstile.proofs.Totals.{times-append, each_first, each_last, each_both, below}
 use Rattle.daemon_shared.specs.Sharing.{author_of, opening_in, charter_by, charter_in, IsKept, with_calls, shared_pass}
 use Rattle.daemon_shared.specs.Worsts.{called_by, IsWorst}
 use Rattle.daemon_shared.specs.Running.{ServesBy, Life, Lived, AllLived, numbered, ComeIn, GoOut, Halts, IsNobodys, RunsDaemon}
-use Rattle.daemon_shared.specs.Sessions.{SharedSeat, start_of, end_of}
-use Rattle.daemon_shared.specs.Threads.{AllPairs, begun_of, starts_of, IsRunning, AllRunning, IsTaken, ServesAll}
+use Rattle.daemon_shared.specs.Sessions.{SharedSeat, IsReady, start_of, end_of}
+use Rattle.daemon_shared.specs.Threads.{AllPairs, AllReady, IsTaken, ServesAll}
 use Rattle.daemon_shared.specs.declared.one_daemon.OneDaemon.{OneDaemon}
 use Rattle.daemon_shared.specs.declared.one_daemon.Opening.{Opening}
-use Rattle.daemon_shared.specs.declared.hall.Ended.{Ended}
-use Rattle.daemon_shared.specs.declared.running.Running.{Running}
+use Rattle.daemon_shared.specs.declared.admission.Begun.{Begun}
+use Rattle.daemon_shared.specs.declared.admission.Ended.{Ended}
 use Rattle.daemon_shared.proofs.TurnLemmas.{by_same, none_both, cancel}
 use Rattle.daemon_shared.proofs.ServeLemmas.{passes}
-
-only_same : (a b : ℕ) → Only a ≡ Only b → a ≡ b
-only_same a b e = cc
+use Rattle.daemon_shared.proofs.WorstLemmas.{worst_for}
+use Rattle.daemon_shared.proofs.RootLemmas.{only_same}
 
 some_same : {A : Type 0} (a b : A) → Some a ≡ Some b → a ≡ b
 some_same a b e = cc
 
-append_nothing : {A : Type 0} (l : List A) → l ++ [] ≡ l
-append_nothing [] = refl
-append_nothing (x ∷ l) = ap (λ m. x ∷ m) (append_nothing l)
-
 -- no more of a number behind a part that has them all
 none_behind : (n : ℕ) (h e rest : List Step) → h ≡ e ++ rest → steps_by author_of n h ≡ steps_by author_of n e → steps_by author_of n rest ≡ []
 none_behind n h e rest is same = cancel (steps_by author_of n e) (steps_by author_of n rest) []
-    (sym (steps_by-append author_of n e rest) ∙ ap (steps_by author_of n) (sym is) ∙ same ∙ sym (append_nothing (steps_by author_of n e)))
+    (sym (steps_by-append author_of n e rest) ∙ ap (steps_by author_of n) (sym is) ∙ same ∙ sym (append-nil (steps_by author_of n e)))
 
 -- of each number that a pass claims, none is behind what it has seen
 behind_claims : (h e rest more : List Step) (cs : List (Claim Step)) → h ≡ e ++ rest → Each (Stands author_of h more) cs
@@ -72,6 +67,23 @@ input_behind table v n rest is each (inr at) =
     claimed (λ m. steps_by author_of m rest ≡ []) v.seen v.joined_calls (input_of n) _
     (each_last (λ c. steps_by author_of c.0 rest ≡ []) (pair_claim v.pair v.number) v.joined_calls each.1) at.0 at.1 at.2
 
+-- a number that stands in a list of joined calls is claimed
+counted : (h : List Step) (cs : List (Claim Step)) (m : ℕ) (ys : List Step) (k : ℕ) → k < length (map (with_calls h) cs) → slice_index_or (map (with_calls h) cs) k (m, ys) ≡ (m, ys) → 1 ≤ times m cs
+counted h [] m ys k less at = absurd (omega (arith, less))
+counted h (c ∷ cs) m ys zero less at = let e : bit (c.0 == m) ≡ 1 = ap bit (eq-eqb c.0 m (ap (λ (x : ℕ × List Step). x.0) at)) in omega (arith, e)
+counted h (c ∷ cs) m ys (suc k) less at = let e = counted h cs m ys k (omega (arith, less)) at in omega (arith, e)
+
+-- a pass that keeps the number of its input claims it
+input_claimed : (table : TableId) (v : View Step Opening) (n : ℕ) → v.number ≡ n → KeepsInput n (shared_pass table v) → 1 ≤ times (input_of n) (claims v)
+input_claimed table v n is (inl on) =
+    let e : bit ((v.number + 2147483648) == input_of n) ≡ 1 = ap bit (eq-eqb (v.number + 2147483648) (input_of n) (ap (λ m. m + 2147483648) is)) in
+    let t : times (input_of n) (pair_claim v.pair v.number ++ v.joined_calls) ≡ bit ((v.number + 2147483648) == input_of n) + times (input_of n) v.joined_calls = ap (λ (b : Bool). times (input_of n) (pair_claim b v.number ++ v.joined_calls)) on in
+    omega (arith, e, t)
+input_claimed table v n is (inr at) =
+    let c = counted v.seen v.joined_calls (input_of n) _ at.0 at.1 at.2 in
+    let t = times-append (input_of n) (pair_claim v.pair v.number) v.joined_calls in
+    omega (arith, c, t)
+
 -- ---- one connection
 
 module _ {Q S K C P : Type 0} (seat : Q → SharedSeat) (told : S → K → C → Outside) (tells : P → Outside) (steps : Option (ℕ × ℕ)) (table : TableId) (o : Opening)
@@ -81,14 +93,18 @@ module _ {Q S K C P : Type 0} (seat : Q → SharedSeat) (told : S → K → C �
       let k = each_last (Stands author_of h more) (pair_claim v.pair v.number) v.joined_calls stand.1 in
       each_last (Stands author_of h more) before (claims r) (each_first (Stands author_of h more) (before ++ claims r) behind (subst (λ l. Each (Stands author_of h more) l) is k))
 
-  abbrev life_of : Running Q S K C P → Ended Q P → Life
-  life_of x r = record { came = start_of told (begun_of x); left = tells r.past; ending = r.ending }
+  abbrev life_of : Begun Q S K C → Ended Q P → Life
+  life_of b r = record {
+    came = start_of told b;
+    left = tells r.past;
+    from = shared_pass (seat b.pass).table_id (seat b.pass).me.0;
+    to = shared_pass (seat r.pass).table_id (seat r.pass).me.0;
+    ending = r.ending;
+  }
 
-  lived : (n : ℕ) (x : Running Q S K C P) (r : Ended Q P) → IsRunning seat told tells steps table (Some o) n x → IsTaken seat told tells steps v x r
-      → (r.number ≡ n) × Lived (charter_by o) h steps n (life_of x r)
-  lived n x r run t =
-      let ready = run.ready in
-      let b = begun_of x in
+  lived : (n : ℕ) (b : Begun Q S K C) (r : Ended Q P) → IsReady seat told table (Some o) n b → IsTaken seat told tells steps v b r
+      → (r.number ≡ n) × Lived (charter_by o) h steps n (life_of b r)
+  lived n b r ready t =
       let p = shared_pass (seat b.pass).table_id (seat b.pass).me.0 in
       let q = shared_pass (seat r.pass).table_id (seat r.pass).me.0 in
       let pass = passes steps b.number r.ending p q (start_of told b) (tells r.past) t.served.serves in
@@ -102,8 +118,6 @@ module _ {Q S K C P : Type 0} (seat : Q → SharedSeat) (told : S → K → C �
         t.served.number ∙ ready.number,
         record {
           new = ready.new;
-          from = p;
-          to = q;
           number = ap Only ready.newcomer.number;
           charter = ap charter_in ready.newcomer.charter;
           serves = subst (λ m. ServesBy steps m r.ending p q (start_of told b) (tells r.past)) ready.number t.served.serves;
@@ -118,30 +132,74 @@ module _ {Q S K C P : Type 0} (seat : Q → SharedSeat) (told : S → K → C �
         },
       )
 
-  pub record Told (n : ℕ) (xs : List (Running Q S K C P)) (rs : List (Ended Q P)) : Type 0 where
+  -- what the root claims of it: its number, and that of its input
+  claimed_both : (n : ℕ) (b : Begun Q S K C) (r : Ended Q P) → IsReady seat told table (Some o) n b → IsTaken seat told tells steps v b r → (1 ≤ times n (claims v)) × (1 ≤ times (input_of n) (claims v))
+  claimed_both n b r ready t =
+      let w = (seat r.pass).me.0 in
+      let p = shared_pass (seat b.pass).table_id (seat b.pass).me.0 in
+      let q = shared_pass (seat r.pass).table_id w in
+      let pass = passes steps b.number r.ending p q (start_of told b) (tells r.past) t.served.serves in
+      let number : w.number ≡ n = only_same _ _ pass.same.number ∙ ready.newcomer.number in
+      let keeps : KeepsInput n q = subst (λ m. KeepsInput m q) ready.number (pass.input refl) in
+      let all_of : (m : ℕ) → times m (claims w) ≤ times m (claims v) = λ m.
+      let a = times-append m (pair_claim v.pair v.number) v.joined_calls in
+      let d : times m v.joined_calls ≡ times m ((t.before ++ claims w) ++ t.behind) = ap (times m) t.joined_calls in
+      let c = times-append m (t.before ++ claims w) t.behind in
+      let f = times-append m t.before (claims w) in
+      omega (arith, a, d, c, f) in
+      let own : bit (w.number == n) ≡ 1 = ap bit (eq-eqb w.number n number) in
+      let i = input_claimed (seat r.pass).table_id w n number keeps in
+      ((let x = all_of n in omega (arith, x, own)), (let x = all_of (input_of n) in omega (arith, x, i)))
+
+  all_claimed : (n : ℕ) (bs : List (Begun Q S K C)) (rs : List (Ended Q P)) → AllReady seat told tells steps table (Some o) n bs → AllPairs (IsTaken seat told tells steps v) bs rs
+      → (k : ℕ) → n ≤ k → k < n + length bs → (1 ≤ times k (claims v)) × (1 ≤ times (input_of k) (claims v))
+  all_claimed n [] [] f g k low high = absurd (omega (arith, low, high))
+  all_claimed n (b ∷ bs) (r ∷ rs) f g k low high = dite (ℕ_discrete n k)
+      (λ same. subst (λ m. (1 ≤ times m (claims v)) × (1 ≤ times (input_of m) (claims v))) same (claimed_both n b r f.0 g.0))
+      (λ other. all_claimed (suc n) bs rs f.1 g.1 k (omega (arith, low, other)) (omega (arith, high)))
+  all_claimed n [] (r ∷ rs) f g k low high = absurd g
+  all_claimed n (b ∷ bs) [] f g k low high = absurd g
+
+  -- every number is fresh, or was admitted, and joined into the root
+  claims_all : (bs : List (Begun Q S K C)) (rs : List (Ended Q P)) → AllReady seat told tells steps table (Some o) 0 bs → AllPairs (IsTaken seat told tells steps v) bs rs
+      → v.number ≡ 4294967295 → v.next ≡ length bs → ClaimsAll v
+  claims_all bs rs f g top next m other =
+      let claimed : (k : ℕ) → k < length bs → (1 ≤ times k (claims v)) × (1 ≤ times (input_of k) (claims v)) = λ k less. all_claimed 0 bs rs f g k (omega arith) (omega (arith, less)) in
+      let not_root : m ≢ 4294967295 = λ e. other (e ∙ sym top) in
+      dite (below m (length bs))
+      (λ less. inr (claimed m less).0)
+      (λ above. dite (below m 2147483648)
+      (λ low. inl record { not_root = not_root; not_below = omega (arith, next, above); no_pair = λ high. absurd (omega (arith, low, high)) })
+      (λ high. dite (below (m - 2147483648) (length bs))
+      (λ less. inr (let e : input_of (m - 2147483648) ≡ m = omega (arith, high) in subst (λ k. 1 ≤ times k (claims v)) e (claimed (m - 2147483648) less).1))
+      (λ beyond. inl record { not_root = not_root; not_below = omega (arith, next, above); no_pair = λ h. omega (arith, next, beyond, high, h) })))
+
+  pub record Told (n : ℕ) (bs : List (Begun Q S K C)) (rs : List (Ended Q P)) : Type 0 where
     pub lives : List Life
-    pub count : length lives ≡ length xs
-    pub came : map (λ l. l.came) lives ≡ starts_of told xs
+    pub count : length lives ≡ length bs
+    pub came : map (λ l. l.came) lives ≡ map (start_of told) bs
     pub left : numbered n (map (λ l. l.left) lives) ≡ map (end_of tells) rs
+    pub saw : map (λ l. l.to.seen) lives ≡ map (λ r. (seat r.pass).me.0.seen) rs
     pub endings : map (λ l. called_by l.ending) lives ≡ map (λ r. called_by r.ending) rs
     pub lived : AllLived (charter_by o) h steps n lives
 
   -- all connections
-  all_lived : (n : ℕ) (xs : List (Running Q S K C P)) (rs : List (Ended Q P)) → AllRunning seat told tells steps table (Some o) n xs → AllPairs (IsTaken seat told tells steps v) xs rs → Told n xs rs
-  all_lived n [] [] f g = record { lives = []; count = refl; came = refl; left = refl; endings = refl; lived = tt }
-  all_lived n (x ∷ xs) (r ∷ rs) f g =
-      let l = lived n x r f.0 g.0 in
-      let ls = all_lived (suc n) xs rs f.1 g.1 in
+  all_lived : (n : ℕ) (bs : List (Begun Q S K C)) (rs : List (Ended Q P)) → AllReady seat told tells steps table (Some o) n bs → AllPairs (IsTaken seat told tells steps v) bs rs → Told n bs rs
+  all_lived n [] [] f g = record { lives = []; count = refl; came = refl; left = refl; saw = refl; endings = refl; lived = tt }
+  all_lived n (b ∷ bs) (r ∷ rs) f g =
+      let l = lived n b r f.0 g.0 in
+      let ls = all_lived (suc n) bs rs f.1 g.1 in
       record {
-        lives = life_of x r ∷ ls.lives;
+        lives = life_of b r ∷ ls.lives;
         count = ap suc ls.count;
-        came = ap (λ z. start_of told (begun_of x) ∷ z) ls.came;
+        came = ap (λ z. start_of told b ∷ z) ls.came;
         left = ap (λ m. (m, tells r.past) ∷ numbered (suc n) (map (λ y. y.left) ls.lives)) (sym l.0) ∙ ap (λ z. end_of tells r ∷ z) ls.left;
+        saw = ap (λ z. (seat r.pass).me.0.seen ∷ z) ls.saw;
         endings = ap (λ z. called_by r.ending ∷ z) ls.endings;
         lived = (l.1, ls.lived);
       }
   all_lived n [] (r ∷ rs) f g = absurd g
-  all_lived n (x ∷ xs) [] f g = absurd g
+  all_lived n (b ∷ bs) [] f g = absurd g
 
 -- ---- whose calls
 
@@ -161,14 +219,6 @@ by_root : (t : Bool) (n : ℕ) → (n == 4294967295) ≡ t → (A : Type 0) → 
 by_root true n is A yes_ no_ = yes_ (grind (arith, nat_tests, is))
 by_root false n is A yes_ no_ = no_ (λ e. grind (arith, nat_tests, is, e))
 
-halts_on : (why : Worst) (most n m : ℕ) (d d1 d2 : DoorView) → n ≡ m → d2.coming ≡ d1.coming → d2.faults ≡ d1.faults → Halts why most n d d1 → Halts why most m d d2
-halts_on worst.Closed most n m d d1 d2 e c f (inl full) = inl (sym e ∙ full)
-halts_on worst.Closed most n m d d1 d2 e c f (inr empty) = inr (subst (λ z. IsEmpty z) (sym c) empty)
-halts_on worst.Fault most n m d d1 d2 e c f rose = subst (λ z. Rose d.faults z) (sym f) rose
-halts_on worst.NoMemory most n m d d1 d2 e c f u = tt
-halts_on worst.Stopped most n m d d1 d2 e c f never = absurd never
-halts_on worst.Refused most n m d d1 d2 e c f never = absurd never
-
 -- ---- the daemon that is left
 
 whole_same : (d : Daemon) (o : Opening) → opening_in d ≡ o → whole_pass d ≡ pass_of (charter_by o) (history_of d.stored.journal)
@@ -181,26 +231,33 @@ module _ {Q S K C P : Type 0} (seat : Q → SharedSeat) (told : S → K → C �
       → RunsDaemon (charter_by o) steps m' w one.daemon.value d d'
   runs table oc o most m' root one w d d' is_o is_m s0 m =
       let s = subst (λ (z : Option Opening × ℕ). ServesAll seat told tells steps table z.0 z.1 root w d d') (λ i. (is_o i, is_m i)) s0 in
+      let so = s.stops.serving in
       let h = (history_of one.daemon.value.stored.journal) in
-      let so = s.begins in
-      let same : opening_in one.daemon.value ≡ o = some_same _ o (sym m.one_charter ∙ s.is_root.charter) in
-      let all = all_lived seat told tells steps table o h root.me.0 m.more m.goes_on m.stand 0 s.xs s.closes.rs so.running s.closes.taken in
-      let count : s.n ≡ length all.lives = sym so.count ∙ sym all.count in
+      let same : opening_in one.daemon.value ≡ o = some_same _ o (sym m.one_charter ∙ so.is_root.charter) in
+      let whole : so.all ≡ so.done = so.split ∙ (append-nil (so.done ++ []) ∙ append-nil so.done) in
+      let ready = subst (λ l. AllReady seat told tells steps table (Some o) 0 l) whole so.ready in
+      let all = all_lived seat told tells steps table o h root.me.0 m.more m.goes_on m.stand 0 so.done so.rs ready so.taken in
+      let long : length so.all ≡ length so.done = ap length whole in
+      let count : s.n ≡ length all.lives = sym so.count ∙ long ∙ sym all.count in
+      let none = m.whole so.is_root.number (claims_all seat told tells steps table o h root.me.0 m.more m.goes_on m.stand so.done so.rs ready so.taken so.is_root.number (so.is_root.next_is ∙ sym so.count ∙ long)) in
+      let seen : root.me.0.seen ≡ h = sym (append-nil root.me.0.seen) ∙ (ap (λ l. root.me.0.seen ++ l) (sym none) ∙ sym m.goes_on) in
+      let saw : Contains ([] ∷ map (λ r. (seat r.pass).me.0.seen) so.rs) root.me.0.seen = ⊎_elim (λ a. a) (λ (b : Contains [] root.me.0.seen). absurd (omega (arith, b.1))) so.saw in
       record {
         history = h;
         holds = whole_same one.daemon.value o same;
         legal = (subst (λ (z : Opening). IsKept z h) same m.met_legal).0;
         lives = all.lives;
+        saw = subst (λ (z : List (List Step) × List Step). Contains ([] ∷ z.0) z.1) (λ i. (sym all.saw i, seen i)) saw;
         few = subst (λ z. z ≤ m') count so.few;
-        came = subst (λ (z : List Outside × Option (List Outside)). ComeIn d.coming z.0 z.1) (λ i. (sym all.came i, sym s.closes.coming i)) so.came;
-        left = subst (λ (z : List (ℕ × Outside) × Option (List (ℕ × Outside))). GoOut z.1 z.0 d'.past) (λ i. (sym all.left i, so.past i)) s.closes.left;
+        came = subst (λ (z : List Outside). ComeIn d.coming z d'.coming) (ap (map (start_of told)) whole ∙ sym all.came) so.came;
+        left = subst (λ (z : List (ℕ × Outside)). GoOut d.past z d'.past) (sym all.left) so.left;
         lived = all.lived;
         whose = λ n nobody. sym (by_same n h) ∙ by_root (n == 4294967295) n refl (steps_by author_of n h ≡ [])
-            (λ e. subst (λ k. steps_by author_of k h ≡ []) (s.is_root.number ∙ sym e) (sym m.stand.0.0 ∙ s.is_root.own_calls))
-            (λ e. m.no_fresh s.is_root.number n (subst (λ z. Fresh z n) (sym (s.is_root.next_is ∙ count)) (fresh (length all.lives) n e nobody)));
-        faults = omega (arith, so.faults, s.closes.faults);
-        bound = s.closes.bound ∙ so.bound;
+            (λ e. subst (λ k. steps_by author_of k h ≡ []) (so.is_root.number ∙ sym e) (sym m.stand.0.0 ∙ so.is_root.own_calls))
+            (λ e. m.no_fresh so.is_root.number n (subst (λ z. Fresh z n) (sym (so.is_root.next_is ∙ count)) (fresh (length all.lives) n e nobody)));
+        faults = so.faults;
+        bound = so.bound;
         why = s.why;
-        halts = halts_on s.why m' s.n (length all.lives) d s.mid d' count s.closes.coming s.closes.faults s.halts;
-        worst_is = subst (λ z. IsWorst w (s.why ∷ z)) (sym all.endings) s.closes.worst_is;
+        halts = subst (λ z. Halts s.why m' z d d') count s.stops.halts;
+        worst_is = subst (λ (z : List Worst × Worst). IsWorst z.1 (s.why ∷ z.0)) (λ i. (sym all.endings i, sym s.worst_is i)) (worst_for s.why s.ends (map (λ r. called_by r.ending) so.rs) so.worst_is);
       }

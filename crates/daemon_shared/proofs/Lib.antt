@@ -1,6 +1,7 @@
 pub mod TurnLemmas
 pub mod ServeLemmas
 pub mod WorstLemmas
+pub mod RootLemmas
 pub mod RunLemmas
 pub mod EndLemmas
 pub mod SessionLemmas

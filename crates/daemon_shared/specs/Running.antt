@@ -1,5 +1,5 @@
 -- What running the shared daemon leaves: one history, and a life of each connection (own).
-use Rattle.std.specs.Prelude.{ℕ, suc, ◌≡◌, ◌≢◌, ◌<◌, ◌≤◌, ◌⊎◌, min, List, [], ◌∷◌, ◌++◌, length, map, Option, Some, None}
+use Rattle.std.specs.Prelude.{ℕ, suc, ◌≡◌, ◌≢◌, ◌<◌, ◌≤◌, ◌⊎◌, min, List, [], ◌∷◌, ◌++◌, length, map, Contains, Option, Some, None}
 use Rattle.engine_text.specs.declared.step.Step.{Step}
 use Rattle.engine_ports.specs.Rose.{Rose}
 use Rattle.engine_ports.specs.Door.{Outside, outside, DoorView, IsNew, IsEmpty}
@@ -25,10 +25,13 @@ ServesBy (Some stepping) k e p q o o' =
     (o'.clock ≡ o.clock)
     × Serves k e p q (outside o.source o.sink unstopped) (outside o'.source o'.sink unstopped)
 
--- what came with a connection, what was left of it, and how its session ended
+-- what came with a connection, what was left of it, what it had seen before and at its end, and how
+-- its session ended
 pub record Life : Type 0 where
   pub came : Outside
   pub left : Outside
+  pub from : PassView
+  pub to : PassView
   pub ending : Ending
 
 -- connection k came new, and was served between two beginnings of the history; no call of it or of
@@ -36,14 +39,12 @@ pub record Life : Type 0 where
 pub record Lived (ch : Charter) (h : List Step) (steps : Option (ℕ × ℕ)) (k : ℕ)
     (l : Life) : Type 0 where
   pub new : IsNew l.came
-  pub from : PassView
-  pub to : PassView
-  pub number : from.number ≡ Only k
-  pub charter : from.charter ≡ ch
-  pub serves : ServesBy steps k l.ending from to l.came l.left
-  pub before : HasNone k from.seen
+  pub number : l.from.number ≡ Only k
+  pub charter : l.from.charter ≡ ch
+  pub serves : ServesBy steps k l.ending l.from l.to l.came l.left
+  pub before : HasNone k l.from.seen
   pub rest : List Step
-  pub goes_on : h ≡ to.seen ++ rest
+  pub goes_on : h ≡ l.to.seen ++ rest
   pub behind : HasNone k rest
 
 -- so did all of these, numbered from k on
@@ -95,15 +96,16 @@ IsNobodys count n = (k : ℕ) → k < count → (n ≢ k) × (n ≢ input_of k)
 
 -- ---- the daemon
 
--- the daemon that is left has one legal history; each connection that came is left to the door
--- once, in order of number, and lived in that history; no call of it is anybody else's; the door
--- stays bound to its address
+-- the daemon that is left has one legal history, which is empty or what some connection had seen at
+-- its end; each connection that came is left to the door once, in order of number, and lived in that
+-- history; no call in it is anybody else's; the door stays bound to its address
 pub record RunsDaemon (ch : Charter) (steps : Option (ℕ × ℕ)) (most : ℕ) (worst : Worst)
     (daemon : Daemon) (d d' : DoorView) : Type 0 where
   pub history : List Step
   pub holds : whole_pass daemon ≡ pass_of ch history
   pub legal : IsLegal ch history
   pub lives : List Life
+  pub saw : Contains ([] ∷ map (λ l. l.to.seen) lives) history
   pub few : length lives ≤ most
   pub came : ComeIn d.coming (map (λ l. l.came) lives) d'.coming
   pub left : GoOut d.past (numbered 0 (map (λ l. l.left) lives)) d'.past

@@ -1,5 +1,5 @@
 -- A session by a pass on the shared daemon: what it takes, and what it leaves (own).
-use Rattle.std.specs.Prelude.{ℕ, ◌≡◌, ◌+◌, [], true, Option}
+use Rattle.std.specs.Prelude.{ℕ, ◌≡◌, ◌+◌, List, [], ◌++◌, true, Option}
 use Rattle.atomic_table.specs.Seated.{TableId}
 use Rattle.atomic_table.specs.declared.shared.Seat.{Seat}
 use Rattle.engine_text.specs.declared.step.Step.{Step}
@@ -8,10 +8,11 @@ use Rattle.engine_ports.specs.Source.{SourceView}
 use Rattle.engine_ports.specs.Sink.{SinkView}
 use Rattle.engine_ports.specs.Clock.{ClockView}
 use Rattle.engine_ports.specs.Door.{Outside, outside, DoorView, IsNew, IsEmpty, SameDoor, TakesIn}
+use Rattle.machine_model.specs.History.{Extends}
 use Rattle.session_model.specs.Pass.{IsConnection}
 use Rattle.session_model.specs.declared.ending.Worst.{Worst}
 use Rattle.session_model.specs.declared.ending.Worst.TheVariants as worst
-use Rattle.turnstile.specs.Claims.{times}
+use Rattle.turnstile.specs.Claims.{Claim, times}
 use Rattle.turnstile.specs.Plays.{Learned}
 use Rattle.turnstile.specs.Turns.{IsPass}
 use Rattle.turnstile.specs.declared.view.View.{View}
@@ -19,8 +20,8 @@ use Rattle.daemon_shared.specs.Sharing.{author_of, IsKept, shared_pass}
 use Rattle.daemon_shared.specs.Running.{ServesBy}
 use Rattle.daemon_shared.specs.declared.one_daemon.OneDaemon.{OneDaemon}
 use Rattle.daemon_shared.specs.declared.one_daemon.Opening.{Opening}
-use Rattle.daemon_shared.specs.declared.hall.Begun.{Begun}
-use Rattle.daemon_shared.specs.declared.hall.Ended.{Ended}
+use Rattle.daemon_shared.specs.declared.admission.Begun.{Begun}
+use Rattle.daemon_shared.specs.declared.admission.Ended.{Ended}
 
 -- a pass on the shared daemon
 abbrev pub SharedSeat : Type 0
@@ -33,6 +34,12 @@ pub record IsRoot (table : TableId) (o : Option Opening) (next : ℕ) (p : Share
   pub next_is : p.me.0.next ≡ next
   pub charter : p.me.0.charter ≡ o
   pub own_calls : p.me.0.own_calls ≡ []
+
+-- what the root had seen begins what it has seen, and what was joined into it stands
+pub record Grows (v w : View Step Opening) : Type 0 where
+  pub seen : Extends v.seen w.seen
+  pub more : List (Claim Step)
+  pub joined_calls : w.joined_calls ≡ v.joined_calls ++ more
 
 -- a pass of this number, which made no call
 pub record IsNewcomer (table : TableId) (o : Option Opening) (n : ℕ) (p : SharedSeat) : Type 0 where
@@ -80,12 +87,14 @@ module _ {Q S K C : Type 0} (seat : Q → SharedSeat) where
       pub newcomer : IsNewcomer table o n (seat b.pass)
       pub new : IsNew (start_of told b)
 
-    -- the next connection was taken in
-    pub record Admits (table : TableId) (o : Option Opening) (n : ℕ) (root : SharedSeat)
+    -- the next connection was taken in: its pass has seen what the root has
+    pub record Admits (table : TableId) (o : Option Opening) (n : ℕ) (root root' : SharedSeat)
         (d d' : DoorView) (b : Begun Q S K C) : Type 0 where
       pub ready : IsReady table o n b
       pub came : TakesIn (start_of told b) d d'
-      pub is_root : IsRoot table o (n + 1) root
+      pub is_root : IsRoot table o (n + 1) root'
+      pub grows : Grows root.me.0 root'.me.0
+      pub saw : (seat b.pass).me.0.seen ≡ root'.me.0.seen
 
     -- a session made this of what it took
     pub record Served {P : Type 0} (tells : P → Outside) (steps : Option (ℕ × ℕ))

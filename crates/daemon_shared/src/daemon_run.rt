@@ -7,11 +7,11 @@ ghost use Rattle.std.specs.Thread.{IsSend};
 ghost use Rattle.daemon_shared.specs.Sessions.{told_by, CanServe, Served};
 ghost use Rattle.daemon_shared.specs.Running.{most_of, RunsDaemon};
 
-use crate::gate::Held;
-use crate::hall::{Begun, Ended};
-use crate::one_daemon::{OneDaemon, open};
-use crate::room::{Room, session};
+use crate::admission::{Begun, Ended};
+use crate::lending::LentDoor;
+use crate::one_daemon::OneDaemon;
 use crate::serving::serve_all;
+use crate::sharing::{SharedDaemon, session};
 use crate::worsts::most_of;
 use daemon_core::Daemon;
 use engine_ports::Door;
@@ -42,24 +42,23 @@ pub fn run_daemon<R: Threads + Wait + Sync, D: Door>(
         (λ d. RunsDaemon (charter_of seed moment greatest) steps (most_of limit)
         result.0 d (D.opens door.old) (D.opens door.new)) }
 {
-    match open(alloc, seed, moment, greatest) {
+    match SharedDaemon::open(rt, alloc, seed, moment, greatest) {
         Err(_) => (Worst::NoMemory, None),
-        Ok((lock, root)) => {
-            let room = Room { rt, lock };
+        Ok((shared, root)) => {
             let serve = |begun: Begun<Pass<OneDaemon>, D::From, D::Into, D::Time>| -> Ended<
                 Pass<OneDaemon>,
                 D::Past,
             >
                 requires send { IsSend D.From.row × IsSend D.Into.row × IsSend D.Time.row }
-                requires may { CanServe (λ p. p) room.lock.table.shared.table_id begun }
+                requires may { CanServe (λ p. p) shared.lock.table.shared.table_id begun }
                 ensures { Served (λ p. p) (told_by D.From.gives D.Into.takes D.Time.times)
                     D.Past.tells steps begun result }
-            { session(&room, alloc, steps, begun) };
-            let held = Held { door };
-            let (worst, root, Held { door: back }) = serve_all(
+            { session(&shared, alloc, steps, begun) };
+            let held = LentDoor { door };
+            let (worst, root, LentDoor { door: back }) = serve_all(
                 rt,
                 alloc,
-                &room,
+                &shared,
                 &serve,
                 root,
                 held,
@@ -67,8 +66,7 @@ pub fn run_daemon<R: Threads + Wait + Sync, D: Door>(
                 most_of(limit),
             );
             let _ = back;
-            let Room { rt: _, lock } = room;
-            let OneDaemon { daemon } = lock.close(rt, root);
+            let OneDaemon { daemon } = shared.close(root);
             (worst, Some(Box::into_inner(daemon)))
         }
     }

@@ -2,22 +2,26 @@
 //! comes, in a thread of its own.
 #![tactic(auto)]
 
+mod accepting;
+mod admission;
+mod closing;
 mod daemon_run;
+mod ends;
 mod event_job;
-mod gate;
-mod hall;
 mod journal_job;
+mod lending;
 mod log_job;
 mod one_daemon;
 mod pairing;
-mod room;
 mod running;
 mod serving;
+mod session_list;
 mod shared;
+mod sharing;
 mod worsts;
 
 pub use daemon_run::run_daemon;
 pub use one_daemon::{OneDaemon, Opening, open};
-pub use room::serve_by;
 pub use shared::{Shared, TurnJob};
+pub use sharing::serve_by;
 pub use worsts::called_by;

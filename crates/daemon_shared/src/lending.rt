@@ -6,7 +6,7 @@ ghost use Rattle.daemon_shared.specs.Sessions.{told_by};
 use engine_ports::{Arrival, Clock, Door, Parting, Sink, Source};
 
 /// What the shared daemon asks of a door: it stays the same one.
-pub trait Gate: Drop {
+pub trait OneDoor: Drop {
     type From: Source + Send + Drop;
 
     type Into: Sink + Send + Drop;
@@ -32,11 +32,11 @@ pub trait Gate: Drop {
 
 /// A door by the reference to it.
 #[derive(Drop)]
-pub struct Held<'d, D> {
+pub struct LentDoor<'d, D> {
     pub door: &'d mut D,
 }
 
-impl<'d, D: Door> Gate for Held<'d, D> {
+impl<'d, D: Door> OneDoor for LentDoor<'d, D> {
     type From = D::From;
 
     type Into = D::Into;
