@@ -4,3 +4,4 @@ pub mod Running
 pub mod Listening
 pub mod Drilling
 pub mod Program
+pub mod Laws

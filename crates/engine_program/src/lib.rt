@@ -2,6 +2,7 @@
 #![tactic(auto)]
 
 mod drilling;
+mod laws;
 mod listening;
 mod opening;
 mod program;
@@ -9,4 +10,5 @@ mod running;
 mod status;
 mod telling;
 
+pub use laws::{law_of_faults, law_of_stops};
 pub use program::run_engined;
