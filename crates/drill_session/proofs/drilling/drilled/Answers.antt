@@ -1,4 +1,4 @@
-use Rattle.std.proofs.Common.{◌≡◌, ◌∙◌, ℕ, List, ap, sym}
+use Rattle.std.proofs.Common.{◌∙◌, ℕ, List, ap, sym}
 use Rattle.engine_ports.specs.Memory.{sink_of}
 use Rattle.session_model.specs.Pass.{PassView}
 use Rattle.daemon_core.specs.Keeping.{history_of}
@@ -7,8 +7,8 @@ use Rattle.drill_session.specs.Running.{charter_by, Session}
 use Rattle.drill_session.proofs.DrillLemmas.{session_of}
 use Rattle.drill_session.proofs.drilling.drilled.Goals as goal
 
-pub outcome-requires-clause-charter : goal.outcome-requires-clause-charter
-outcome-requires-clause-charter g c =
+pub outcome-drilled-requires-clause-charter : goal.outcome-drilled-requires-clause-charter
+outcome-drilled-requires-clause-charter g c =
     ap (λ (p : PassView). p.charter) c.daemon.ensures ∙ c.serve-ending.ensures.same.charter
     ∙ ap (λ (p : PassView). p.charter) (c.new-turns.ensures ∙ c.in_ok-daemon.ensures)
 
