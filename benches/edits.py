@@ -27,8 +27,8 @@ from prove import repository
 
 # What an edit comes to.
 REFUSED, MISSED, BAD, LIMIT = "refused", "NOT REFUSED", "BAD", "no verdict"
-# What is said of a function that isn't proved, and is nothing of its own.
-NO_REASON = re.compile(r"it calls `[^`]*`, which|expected answers in")
+# What is said of a function that isn't proved, beside why that is, and where it only calls one that isn't.
+NO_REASON = re.compile(r"^(no proof: )?expected answers in|^(not proved|no proof)$|^it calls `[^`]*`, which")
 # What a proof file says where an edit took a name away: that shows nothing of the contract.
 LOST_NAME = re.compile(r"has no field|is not in scope|has no `|was not admitted")
 FN = re.compile(r"( *)(?:pub(?:\([a-z]+\))? )?fn (\w+)")
@@ -156,6 +156,48 @@ def rounds_of(edits):
     return [one for one, _ in rounds]
 
 
+def ended(words, folder):
+    """Runs a check to its end, and returns its status and what it said. One that takes no processor time sleeps for good, and is
+    run again."""
+    most = int(os.environ.get("SECONDS", "900"))
+    while True:
+        with tempfile.TemporaryFile("w+", errors="replace") as out:
+            ran = subprocess.Popen(
+                words,
+                cwd=folder,
+                stdin=subprocess.DEVNULL,
+                stdout=out,
+                stderr=subprocess.STDOUT,
+                preexec_fn=lambda: resource.setrlimit(resource.RLIMIT_CPU, (most, most + 5)),
+            )
+            taken, sleeps = [0], False
+            while not sleeps and ran.poll() is None:
+                try:
+                    ran.wait(timeout=60)
+                except subprocess.TimeoutExpired:
+                    taken.append(time_of(ran.pid))
+                    sleeps = len(taken) > 5 and taken[-1] == taken[-6]
+            if not sleeps:
+                out.seek(0)
+                return ran.returncode, out.read()
+            ran.kill()
+            ran.wait()
+
+
+def time_of(pid):
+    """The processor seconds of a process and of those that it began."""
+    found = 0
+    for path in glob.glob("/proc/[0-9]*/stat"):
+        try:
+            name, _, rest = pathlib.Path(path).read_text().rpartition(") ")
+        except OSError:
+            continue
+        words = rest.split()
+        if pid in (int(name.split(" ")[0]), int(words[1])):
+            found += sum(int(it) for it in words[11:15])
+    return found // os.sysconf("SC_CLK_TCK")
+
+
 def checked(rt, crate, edits, kept):
     """Checks a copy of the crate with these edits, and returns the status, what it said, and why nothing was checked."""
     with tempfile.TemporaryDirectory(prefix="edits-") as room:
@@ -172,51 +214,43 @@ def checked(rt, crate, edits, kept):
                 changed.add(path)
         only = sorted({it.path() for edit in edits for it in edit.asked})
         words = crate.words([*[word for it in only for word in ("--only", it)], "--jobs", "1"], keeps=False)
-        most = int(os.environ.get("SECONDS", "900"))
-        ran = subprocess.run(
-            [*rt.rtlib.guarded(), rt.rtlib.RATTLE, "check", *words, "--incremental", kept],
-            cwd=room,
-            stdin=subprocess.DEVNULL,
-            stdout=subprocess.PIPE,
-            stderr=subprocess.STDOUT,
-            text=True,
-            errors="replace",
-            preexec_fn=lambda: resource.setrlimit(resource.RLIMIT_CPU, (most, most + 5)),
-        )
-    lines = ran.stdout.split("\n")
-    unread = [it for it in lines if re.search(r"\berror\[[\w-]+\]", it) or ran.returncode == 1 and rt.unread(it, changed)]
-    if ran.returncode not in (0, 1, 3):
-        return ran.returncode, ran.stdout, f"its check ended with status {ran.returncode}: {lines[-2:][0][:120]}"
-    return ran.returncode, ran.stdout, unread[0][:160] if unread else ""
+        status, said = ended([*rt.rtlib.guarded(), rt.rtlib.RATTLE, "check", *words, "--incremental", kept], room)
+    lines = said.split("\n")
+    unread = [it for it in lines if re.search(r"\berror\[[\w-]+\]", it) or status == 1 and rt.unread(it, changed)]
+    if status not in (0, 1, 3):
+        return status, said, f"its check ended with status {status}: {lines[-2:][0][:120]}"
+    return status, said, unread[0][:160] if unread else ""
 
 
-def own_reasons(line):
-    """Why a function isn't proved, but for what it calls."""
-    return [it for it in line.split("; ") if not NO_REASON.search(it)]
+def is_own(said, there):
+    """Whether a function that isn't proved is refused for itself, by what is said of it and by the errors in its proof files."""
+    reasons = said.split("; ")
+    return bool(there) or len(reasons) == 1 or not all(NO_REASON.search(it) for it in reasons)
 
 
 def judge(crate, edits, status, said):
     """Reads off what each edit of a check came to."""
-    lines = said.split("\n")
+    lines = [it.removeprefix("note: ").removeprefix("./") for it in said.split("\n")]
     fns = [it for it in (re.match(rf"fn {crate.name}::(\S+): (.*)", line) for line in lines) if it]
-    errors = [it for it in lines if re.match(r"(note: )?\S+:\d+:\d+:", it)]
+    errors = [it for it in lines if re.match(r"\S+:\d+:\d+: error", it)]
     for edit in edits:
         mine = [it for it in fns if not edit.asked or any(a.is_called(it[1]) for a in edit.asked)]
-        own = [it for it in mine if not it[2].startswith("proved") and own_reasons(it[2])]
-        told = [it for it in own if not it[2].startswith("could not tell")]
+        own = []
+        for it in mine:
+            there = [error for error in errors if error.startswith(f"proofs/{it[1].replace('::', '/')}/")]
+            if not it[2].startswith("proved") and is_own(it[2], there):
+                own.append((*it.groups(), there))
+        told = [it for it in own if not it[1].startswith("could not tell")]
         if told:
-            name, why = told[0].groups()
-            edit.came, edit.said = REFUSED, name
-            proof = f"proofs/{name.replace('::', '/')}/"
-            there = [it for it in errors if it.removeprefix("note: ").removeprefix("./").startswith(proof)]
-            if there and all(LOST_NAME.search(it) for it in there) and "`search` did not" not in why:
+            edit.came, edit.said = REFUSED, told[0][0]
+            if told[0][2] and all(LOST_NAME.search(it) for it in told[0][2]) and "`search` did not" not in told[0][1]:
                 edit.said += " (only since a proof file names what the edit took away)"
         elif own:
-            edit.came, edit.said = LIMIT, own[0][0][:160]
+            edit.came, edit.said = LIMIT, own[0][0]
         elif edit.asked and not mine:
             edit.came, edit.said = BAD, f"no function of the check is {edit.asked[0].path()}"
         elif not edit.asked and status == 1:
-            edit.came, edit.said = REFUSED, next((it for it in errors if ": error" in it), "")[:120]
+            edit.came, edit.said = REFUSED, (errors or [""])[0][:120]
         else:
             edit.came = MISSED if status < 3 else LIMIT
 
