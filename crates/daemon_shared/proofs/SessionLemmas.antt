@@ -1,18 +1,9 @@
--- What a session leaves, by the pass that it took: the pass goes through turns and comes back. And one that found no memory.
-use Rattle.std.proofs.Common.{ℕ, ◌≡◌, ◌∙◌, ap, sym, subst, refl, Option, Some, None}
-use Rattle.std.specs.Prelude.{IsTrue}
+-- What a session leaves, by the pass that it took: the pass goes through turns and comes back.
+use Rattle.std.proofs.Common.{ℕ, ◌≡◌, ◌∙◌, ap, sym, subst, Option}
 use Rattle.atomic_table.specs.Seated.{TableId}
 use Rattle.turnstile.specs.Turns.{IsPass}
-use Rattle.engine_ports.specs.Source.{SourceView}
-use Rattle.engine_ports.specs.Sink.{SinkView}
-use Rattle.engine_ports.specs.Clock.{ClockView}
-use Rattle.engine_ports.specs.Door.{Outside, outside}
-use Rattle.machine_model.specs.History.{IsLegal}
+use Rattle.engine_ports.specs.Door.{Outside}
 use Rattle.session_model.specs.declared.ending.Ending.{Ending}
-use Rattle.session_model.specs.declared.ending.Ending.TheVariants.{NoMemory}
-use Rattle.session_model.specs.Pass.{PassView}
-use Rattle.engine_serve.specs.OwnClock.{unstopped}
-use Rattle.engine_serve.proofs.ServeLemmas.{ended_unread}
 use Rattle.daemon_shared.specs.Sessions.{SharedSeat}
 use Rattle.daemon_shared.specs.Running.{ServesBy}
 use Rattle.daemon_shared.specs.Sharing.{shared_pass}
@@ -36,9 +27,3 @@ left_by steps k e table p s t w q o o' left mine new serves back is_w is_q stays
       subst (λ x. IsPass x q) (sym mine) is_q,
       subst (λ l. ServesBy steps k e (shared_pass p.table_id p.me.0) (shared_pass q.table_id q.me.0) o l) (sym parted) last,
     )
-
--- without memory nothing was read or written, by either clock
-pub unread : (steps : Option (ℕ × ℕ)) (k : ℕ) (p : PassView) (s : SourceView) (u : SinkView) (t : ClockView)
-    → IsTrue p.pair → IsLegal p.charter p.seen → ServesBy steps k NoMemory p p (outside s u t) (outside s u t)
-unread None k p s u t pair legal = ended_unread k p s u t pair legal
-unread (Some stepping) k p s u t pair legal = (refl, ended_unread k p s u unstopped pair legal)

@@ -15,10 +15,9 @@ use crate::admission::{Admitting, Begun, Ended, Seated};
 use crate::ends::Finished;
 use crate::one_daemon::{OneDaemon, open};
 use crate::shared::Shared;
-use api_routes::Routes;
 use daemon_core::{Pairs, Turns};
 use engine_ports::{Clock, Parting, Sink, Source};
-use engine_serve::{OwnClock, serve_by_routes};
+use engine_serve::{OwnClock, serve};
 use engine_text::NoMemory;
 use session_model::Ending;
 use std::alloc::Global;
@@ -26,12 +25,11 @@ use std::sync::Wait;
 use std::thread::Threads;
 use turnstile::{Pass, Turnstile};
 
-/// What all sessions share: the runtime by which turns wait, the daemon behind its turnstile, the
-/// routes of requests, and who has ended.
+/// What all sessions share: the runtime by which turns wait, the daemon behind its turnstile, and
+/// who has ended.
 pub struct SharedDaemon<'a, R> {
     pub rt: &'a R,
     pub lock: Turnstile<OneDaemon>,
-    pub routes: Routes,
     pub finished: Finished,
 }
 
@@ -48,18 +46,9 @@ impl<'a, R: Wait> SharedDaemon<'a, R> {
         ensures { IfOk result (λ r. IsPass r.0.lock.table.shared.table_id r.1
             × (r.1.me.0 ≡ root [] (record { seed = seed; moment = moment; greatest = greatest }))) }
     {
-        let routes = Routes::new(alloc)?;
         let (lock, root) = open(alloc, seed, moment, greatest)?;
         let finished = Finished::new(alloc);
-        Ok((
-            SharedDaemon {
-                rt,
-                lock,
-                routes,
-                finished,
-            },
-            root,
-        ))
+        Ok((SharedDaemon { rt, lock, finished }, root))
     }
 
     /// Takes the daemon out, once all sessions have ended.
@@ -71,7 +60,6 @@ impl<'a, R: Wait> SharedDaemon<'a, R> {
         let SharedDaemon {
             rt,
             lock,
-            routes: _,
             finished: _,
         } = self;
         lock.close(rt, root)
@@ -122,37 +110,12 @@ pub fn serve_by<R: Threads + Wait + Sync, U: Pairs, F: Source, I: Sink, T: Clock
         (outside (F.gives from.old) (I.takes into.old) (T.times time.old))
         (outside (F.gives from.new) (I.takes into.new) (T.times time.new)) }
 {
-    match Routes::new(alloc) {
-        Ok(routes) => serve_routed(rt, turns, alloc, conn, &routes, steps, from, into, time),
-        Err(_) => Ending::NoMemory,
-    }
-}
-
-/// The same, with routes that sessions share.
-fn serve_routed<R: Threads + Wait + Sync, U: Pairs, F: Source, I: Sink, T: Clock>(
-    rt: &R,
-    turns: &mut U,
-    alloc: Global,
-    conn: u32,
-    routes: &Routes,
-    steps: Option<(u64, u64)>,
-    from: &mut F,
-    into: &mut I,
-    time: &mut T,
-) -> Ending
-    requires connection { IsConnection conn }
-    requires number { IsNumber (U.pass turns.old).number conn }
-    requires pair { IsTrue (U.pass turns.old).pair }
-    ensures { ServesBy steps conn result (U.pass turns.old) (U.pass turns.new)
-        (outside (F.gives from.old) (I.takes into.old) (T.times time.old))
-        (outside (F.gives from.new) (I.takes into.new) (T.times time.new)) }
-{
     match steps {
         Some((moment, step)) => {
             let mut own = OwnClock { moment, step };
-            serve_by_routes(rt, turns, alloc, conn, routes, from, into, &mut own)
+            serve(rt, turns, alloc, conn, from, into, &mut own)
         }
-        None => serve_by_routes(rt, turns, alloc, conn, routes, from, into, time),
+        None => serve(rt, turns, alloc, conn, from, into, time),
     }
 }
 
@@ -174,10 +137,9 @@ pub fn session<R: Threads + Wait + Sync, F: Source, I: Sink, T: Clock, P: Partin
         mut time,
     } = begun;
     let rt = shared.rt;
-    let routes = &shared.routes;
     let mut turns = Shared::new(rt, &shared.lock, pass);
-    let ending = serve_routed(
-        rt, &mut turns, alloc, number, routes, steps, &mut from, &mut into, &mut time,
+    let ending = serve_by(
+        rt, &mut turns, alloc, number, steps, &mut from, &mut into, &mut time,
     );
     let mut pass = turns.into_pass();
     shared.lock.learn(&mut pass);

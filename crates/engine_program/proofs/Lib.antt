@@ -1,4 +1,5 @@
 pub mod ListenLemmas
+pub mod SessionLemmas
 pub mod DrillLemmas
 pub mod StatusLemmas
 pub mod StandardFacts
