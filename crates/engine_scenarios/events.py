@@ -72,6 +72,16 @@ RUNS = [[told("create"), told("start"), told("die", exitCode="1")], [told("start
 scenario("events_followed", [create("web", body=with_policy(["flaky", "2"], ("on-failure", 5))), post("/containers/web/start"),
                              events("since=0&until=1700000001"), events("since=1700000000.1&until=1700000001")],
          [created(0), answer(204), followed(0, *RUNS), followed(3, RUNS[1] + RUNS[2])])
+# a stop: its signal, at the deadline KILL, the end of the run, and then the stop
+STOPS = [create("web", TRAP), post("/containers/web/start"), post("/containers/web/stop?t=1"),
+         create("db", DEAF), post("/containers/db/start"), post("/containers/db/stop?t=1")]
+scenario("events_of_stops", STOPS[:3] + [events("since=0&until=1700000000.5")] + STOPS[3:] + [
+    events("since=0&until=1700000001.5", container=["db"])],
+    [created(0), answer(204), answer(204),
+     followed(0, [told("create"), told("start"), told("kill", signal="15"), told("die", ms=500, exitCode="0"), told("stop", ms=500)]),
+     created(1), answer(204), answer(204),
+     followed(0, [told("create", 1, "db", 500), told("start", 1, "db", 500), told("kill", 1, "db", 500, signal="15"),
+                  told("kill", 1, "db", 1500, signal="9"), told("die", 1, "db", 1500, exitCode="137"), told("stop", 1, "db", 1500)])])
 scenario("events_of_a_rename", [WEB, post("/containers/web/rename?name=site"), get("/containers/site", "DELETE"), events(ALL)],
          [created(0), answer(204), answer(204),
           followed(0, [told("create"), told("rename", name="site", oldName="web"), told("destroy", name="site")])])

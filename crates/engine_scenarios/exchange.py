@@ -179,9 +179,9 @@ def volumes(*items):
     return answer(200, compact({"Volumes": list(items), "Warnings": []}))
 
 
-def exec_shown(n, container, words, stdin=False, out=False, err=False):
+def exec_shown(n, container, words, stdin=False, out=False, err=False, code=None):
     return answer(200, compact({
-        "CanRemove": False, "ContainerID": id_of(container), "DetachKeys": "", "ExitCode": None, "ID": id_of(n),
+        "CanRemove": False, "ContainerID": id_of(container), "DetachKeys": "", "ExitCode": code, "ID": id_of(n),
         "OpenStderr": err, "OpenStdin": stdin, "OpenStdout": out, "Pid": 0,
         "ProcessConfig": {"arguments": words[1:], "entrypoint": words[0], "privileged": False, "tty": False},
         "Running": False}))

@@ -18,6 +18,10 @@ scenario("seed", [WEB, create("db")], [created(0, SEED), created(1, SEED)], word
 scenario("journal_of_one", [WEB, create("db"), get("/containers/json?all=1"), get("/_ping")],
          [created(0), message(503, "journal is full"), message(503, "journal is full"),
           answer(200, "OK", kind="text/plain; charset=utf-8")], words=f"{STDIO} --journal 1")
+scenario("journal_of_three_calls", [create("web", DEAF), post("/containers/web/start"), get("/containers/web/json"),
+                                    get("/containers/web/json"), PING],
+         [created(0), answer(204), shown(0, "web", DEAF, "running", pid=1001, started=NOW), message(503, "journal is full"), PONG],
+         words=f"{STDIO} --journal 3")
 scenario("connections", WEB, created(0), words=f"--connections 1 {STDIO}")
 # (nobody comes to the door of these runs, and neither input nor output is touched)
 scenario("listen", WEB, "", words="--listen 127.0.0.1:2375 --connections 5", comings=("pieces=4096", "read=0", "write=0"))

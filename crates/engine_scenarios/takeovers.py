@@ -56,6 +56,7 @@ FED = "stream=1&stdin=1&stdout=1"
 READS = [create("web", body=CAT), post("/containers/web/start")]
 BY_BYTES = "".join(frame(1, byte) for byte in "abc\n")
 scenario("attach_fed", READS + [attach("web", FED), "abc\n"], LIVE + [UPGRADED + frame(1, "abc\n")], words=GOES_ON)
+scenario("attach_fed_at_one_moment", READS + [attach("web", FED), "abc\n"], LIVE + [UPGRADED + frame(1, "abc\n")])
 scenario("attach_fed_by_bytes", READS + [attach("web", FED), "abc\n"], LIVE + [UPGRADED + BY_BYTES], words=GOES_ON,
          comings=("pieces=1",))
 scenario("attach_fed_plain", READS + [attach("web", FED, upgrade=False), "abc\n"], LIVE + [TAKEN + frame(1, "abc\n")], words=GOES_ON)
@@ -64,3 +65,13 @@ scenario("exec_fed", LIVES + [create_exec("web", ["cat"], AttachStdin=True, Atta
          LIVE + [exec_made(1), UPGRADED + frame(1, "abc\n")], words=GOES_ON)
 # one that has no open input is followed, and what comes behind the request isn't answered
 scenario("attach_unfed", ENDED + [attach("web", FED + "&logs=1"), PING], [created(0), answer(204), UPGRADED + frame(1, "hi\n")], words=GOES_ON)
+# an exec that has ended, as another connection sees it: its code, that it starts once, and that none is made in what is paused
+ECHO_X = ["echo", "x"]
+talk("exec_to_its_end",
+     (0, 0, [create("web", DEAF), post("/containers/web/start"), create_exec("web", ECHO_X, AttachStdout=True),
+             get(f"/exec/{id_of(1)}/json"), start_exec(1)],
+      [created(0), answer(204), exec_made(1), exec_shown(1, 0, ECHO_X, out=True), UPGRADED + frame(1, "x\n")]),
+     (1, 0, [get(f"/exec/{id_of(1)}/json"), detach_exec(1), post("/containers/web/pause"), create_exec("web", ECHO_X)],
+      [exec_shown(1, 0, ECHO_X, out=True, code=0), message(409, f"exec {id_of(1)} has already started"), answer(204),
+       message(409, f"Container {id_of(0)} is paused, unpause the container first")]),
+     ended=[0], words=f"{LISTENS} --clock 1700000000000:0")

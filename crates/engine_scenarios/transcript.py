@@ -88,6 +88,12 @@ scenario("volumes_in_use", [
     [created(0), volumes(volume("data"), volume("logs")), DATA_IN_USE, answer(204),
      DATA_IN_USE, answer(201, compact(volume("data"))), answer(201, compact(volume("spare"))),
      message(409, "remove logs: volume is in use"), answer(204), volumes(volume("data"), volume("logs"))])
+DATA1 = compact({"Image": "engine/tools", "HostConfig": {"Binds": ["data1:/d"]}})
+scenario("volume_of_what_is_removed", [
+    create("web", body=DATA1), get("/volumes/data1", "DELETE"), get("/containers/web", "DELETE"), get("/volumes/data1", "DELETE"),
+    get("/volumes/data1", "DELETE")],
+    [created(0), message(409, "remove data1: volume is in use"), answer(204), answer(204),
+     message(404, "get data1: no such volume")])
 INPUT = compact({"Image": "engine/tools", "Cmd": ["cat"], "OpenStdin": True, "StdinOnce": True, "StopSignal": "SIGINT"})
 scenario("open_input", [create("web", body=INPUT), post("/containers/web/start"), get("/containers/web/json"),
                         post("/containers/web/kill?signal=INT"), get("/containers/web/json")],
