@@ -24,6 +24,14 @@ heading("a stream ends whole, inside a header or inside a payload")
 ask(f"frame|read|3|{frame(2, 0)}", '"", Whole')
 ask("frame|read|6|1 0 0 0 0 0", '"", CutHeader(6)')
 ask(f"frame|read|10|{frame(1, 5, b'ab')}", '"ab", CutPayload(3)')
+heading("a frame and the header of an empty one, which end behind each of their bytes: whole between two frames alone")
+HI = [1, 0, 0, 0, 0, 0, 0, 3, *b"hi\n", 1, 0, 0, 0, 0, 0, 0, 0]
+ENDS = [*(f"CutHeader({n})" for n in range(1, 8)), *(f"CutPayload({n})" for n in (3, 2, 1)), "Whole",
+        *(f"CutHeader({n})" for n in range(1, 8)), "Whole"]
+CAME = ("", "h", "hi", r"hi\n")
+for length, ended in enumerate(ENDS, 1):
+    for size in (1, 19):
+        ask(f"frame|read|{size}|{numbers(HI[:length])}", f'"{CAME[min(max(length - 8, 0), 3)]}", {ended}')
 heading("a mebibyte is read in pieces of any size")
 for size in (1, 7, 8, 9):
     ask(f"frame|many|{size}|32|32768", "1048576 bytes, Whole")
