@@ -47,8 +47,9 @@ def body(answer):
 
 
 def event(action, **more):
-    return compact({"Action": action, "Actor": {"Attributes": {**more, "image": "engine/tools:latest", "name": "web"}, "ID": WEB},
-                    "Type": "container", "scope": "local", "time": 1700000000, "timeNano": 1700000000000000000}) + "\n"
+    named = dict(sorted({**more, "image": "engine/tools:latest", "name": "web"}.items()))
+    return compact({"Action": action, "Actor": {"Attributes": named, "ID": WEB}, "Type": "container", "scope": "local",
+                    "time": 1700000000, "timeNano": 1700000000000000000}) + "\n"
 
 
 def entry(call, conn, dues, reply):
@@ -171,6 +172,23 @@ line("replay 1700000000000", "legal 5\n", connections=0, given=JOURNAL)
 line("replay 1700000000000", f"illegal line 2\nkept {compact(told(304))}\nfound {compact(told(204))}\n", status=1, connections=0,
      given=CREATE + entry(START, 1, 0, told(304)) + WAITED)
 line("replay 1700000000000", "bad line 2\n", status=3, connections=0, given=CREATE + "x\n" + WAITED)
+# (of what ignores TERM, which is started twice: the due step between is counted)
+TWO_STARTS = [entry({"after": 10, "image": "engine/tools:latest", "labels": {}, "maximum": 0, "mounts": [], "name": "web", "once": False,
+                     "op": "create", "policy": "no", "signal": 15, "stdin": False, "words": ["deaf"]},
+                    0, 0, told(201, compact({"Id": WEB, "Warnings": []}))),
+              entry(START, 0, 0, told(204)), entry(START, 0, 1, told(304))]
+line("replay 1700000000000", "legal 4\n", connections=0, given="".join(TWO_STARTS))
+line("replay 1700000000000", f"illegal line 3\nkept {compact(told(204))}\nfound {compact(told(304))}\n", status=1, connections=0,
+     given="".join(TWO_STARTS).replace("304", "204"))
+line("replay 1700000000000", "bad line 2\n", status=3, connections=0,
+     given=TWO_STARTS[0] + TWO_STARTS[1].partition('"dues"')[0] + '"dues"\n' + TWO_STARTS[2])
+# a key twice, a blank behind a colon, no last line end, and a number of 65 bits are none; one of 64 bits is a line
+TAKE = entry({"op": "take", "ticket": 7}, 0, 0, told(204))
+for text in (TAKE.replace('"ticket":7', '"ticket":7,"ticket":7'), TAKE.replace('"ticket":7', '"ticket": 7'), TAKE[:-1],
+             TAKE.replace('"ticket":7', f'"ticket":{2 ** 64}')):
+    line("replay 1700000000000", "bad line 2\n", status=3, connections=0, given=CREATE + text)
+line("replay 1700000000000", f"illegal line 2\nkept {compact(told(204))}\nfound no ticket\n", status=1, connections=0,
+     given=CREATE + TAKE.replace('"ticket":7', f'"ticket":{2 ** 64 - 1}'))
 line("replay 1700000000000", "legal 0\n", connections=0)
 
 # ---- in the place of the daemon: streams whole and cut, answers that are none, and what fails outside
@@ -180,6 +198,7 @@ CHUNKED = "Server: engined\r\nTransfer-Encoding: chunked\r\n\r\n"
 FRAMES = BEGINS + "Content-Type: application/vnd.docker.multiplexed-stream\r\n" + CHUNKED
 TEXT = BEGINS + "Content-Type: text/plain; charset=utf-8\r\n" + CHUNKED
 LATER = BEGINS + "Content-Type: application/json\r\nServer: engined\r\nTransfer-Encoding: chunked\r\nX-Engine-From: 1\r\n\r\n"
+FIRST = LATER.replace("From: 1", "From: 0")
 TAKEN = ("HTTP/1.1 101 UPGRADED\r\nContent-Type: application/vnd.docker.multiplexed-stream\r\nConnection: Upgrade\r\n"
          "Upgrade: tcp\r\n\r\n")
 HI, LAST = "\1\0\0\0\0\0\0\3hi\n", "0\r\n\r\n"
@@ -222,6 +241,32 @@ TOO_LONG = "dockc: the answer has more than 67108864 bytes\n"
 by("inspect web", BEGINS + LONG_BODY, err=TOO_LONG, status=123)
 by("logs web", "HTTP/1.1 404 Not Found\r\nApi-Version: 1.43\r\n" + LONG_BODY, err=TOO_LONG, status=123)
 
+# a body of two frames that ends behind each of its bytes, a byte a chunk: it is whole behind a frame alone
+TWO = HI + "\2\0\0\0\0\0\0\2no"
+for length in range(len(TWO) + 1):
+    ahead, whole = TWO[:length], length in (0, len(HI), len(TWO))
+    by("logs web", FRAMES + "".join(map(chunk, ahead)) + LAST, out=ahead[8:len(HI)],
+       err=ahead[len(HI) + 8:] + ("" if whole else NO_ANSWER), status=0 if whole else 123)
+
+
+def sized(digits):
+    """An answer whose length is told so, and of whose body two bytes come."""
+    return BEGINS + f"Content-Length: {digits}\r\nContent-Type: application/json\r\nServer: engined\r\n\r\n{{}}"
+
+
+def told_size(digits):
+    """An answer of frames whose first chunk has a size that is told so, and of which a frame comes."""
+    return FRAMES + f"{digits}\r\n" + HI
+
+
+# another protocol, and numbers at their limits: a length has 64 bits, and so has the size of a chunk, in sixteen digits. Behind a greater
+# one nothing is waited for, and a body that is shorter than it tells is cut
+no_answer("version", "open RTSP/1.0 200 OK\r\nContent-Length: 2\r\n\r\n{}")
+no_answer("version", "open " + sized(2 ** 64))
+no_answer("version", sized(10 ** 18 + 2))
+by("version", "open " + sized(10 ** 18 + 2), err=NO_MORE, status=125)
+no_answer("logs web", "open " + told_size("1000000000000000b"))
+by("logs web", "open " + told_size("100000000000000b"), out="hi\n", err=NO_MORE, status=125)
 no_answer("version", "HTTP/1.0 200 OK\r\n\r\n")
 no_answer("version", answer(200, "{}")[:-20])
 no_answer("version", answer(200, "{}")[:-1])
@@ -229,6 +274,9 @@ no_answer("journal", TEXT + chunk("x\n"), out="x\n")
 no_answer("create engine/tools", answer(201, compact({"Warnings": []})))
 no_answer("wait web", answer(200, compact({"StatusCode": "0"})))
 by("exec web exit 3", created(0), TAKEN, answer(200, compact({"ExitCode": None})), err="dockc: the exec has no exit code\n", status=123)
+KILLED = (event("create"), event("start"), event("pause"), event("kill", signal="9"), event("unpause"), event("die", exitCode="137"))
+by("watch 1700000000", FIRST + chunk("".join(KILLED)) + LAST, out=f"{WEB} web not-live not-paused 137\n")
+by("watch 1700000000", FIRST + "".join(map(chunk, KILLED[:3])) + LAST, out=f"{WEB} web live paused 0\n")
 by("watch 1700000000", LATER + LAST, err="dockc: the first events are no longer kept\n", status=123)
 by("start web", "nowhere", err=NO_CONNECTION, status=125, missed=1)
 by("start web", "read fails", err=NO_MORE, status=125)
