@@ -11,10 +11,10 @@ ghost use Rattle.client_exchange.specs.Telling.{Stands, unread_answer, FaultSays
 
 use crate::following::follow;
 use crate::got::Got;
-use crate::made::fresh_taker;
-use client_model::{Fault, Showing};
 use crate::limit::cut_fault;
+use crate::made::fresh_taker;
 use crate::taker::Taker;
+use client_model::{Fault, Showing};
 use client_parts::{Unread, message_in};
 use engine_ports::{Sink, Source};
 use response_reader::{Answered, ResponseReader};

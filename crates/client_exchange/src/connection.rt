@@ -8,8 +8,8 @@ ghost use Rattle.client_exchange.specs.Exchanges.{ConverseSays, ExchangeSays, re
 
 use crate::answer::read_answer;
 use crate::got::Got;
-use client_model::Fault;
 use crate::taker::Taker;
+use client_model::Fault;
 use engine_ports::{Link, NoMemory, Sink, Source};
 use response_reader::ResponseReader;
 use std::alloc::Global;

@@ -7,8 +7,8 @@ ghost use Rattle.client_exchange.specs.Outputs.{outputs};
 ghost use Rattle.client_exchange.specs.Taking.{taken};
 ghost use Rattle.client_exchange.specs.Telling.{Stands, FollowSays};
 
-use client_model::Fault;
 use crate::taker::Taker;
+use client_model::Fault;
 use engine_ports::{Sink, Source};
 use response_reader::{BodyGot, ResponseReader};
 use std::sync::Wait;

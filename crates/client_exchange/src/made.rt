@@ -2,8 +2,8 @@
 ghost use Rattle.std.specs.Prelude.{◌≡◌, []};
 ghost use Rattle.client_exchange.specs.Taking.{taken};
 
-use client_model::Showing;
 use crate::taker::Taker;
+use client_model::Showing;
 use std::alloc::Global;
 
 /// A taker before the first byte of a body.

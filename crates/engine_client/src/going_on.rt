@@ -11,9 +11,8 @@ use crate::places::{
 };
 use crate::printing::{prints, prints_body};
 use crate::step::Step;
-use client_exchange::Body;
+use client_exchange::{Body, cut_fault};
 use client_model::Fault;
-use client_exchange::cut_fault;
 use std::alloc::Global;
 
 /// What `watch` fails by, where not all of a body came.

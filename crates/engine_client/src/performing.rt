@@ -11,13 +11,13 @@ ghost use Rattle.engine_client.specs.Places.{IsStep, IsTimed, feeds_at, plan_at}
 ghost use Rattle.engine_client.specs.Performing.{AskedSays, Follows, IsFirst, IsInTime, PerformSays, performed_of};
 ghost use Rattle.engine_client.specs.Running.{Ran, outside_of};
 
-use crate::performed::Performed;
-use crate::writing::write_all;
-use crate::replaying::replay_journal;
 use crate::beginning::begin;
 use crate::going_on::next;
 use crate::onward::Then;
+use crate::performed::Performed;
+use crate::replaying::replay_journal;
 use crate::step::Step;
+use crate::writing::write_all;
 use client_exchange::{Ask, Body, Outside, ask};
 use client_model::{Command, Fault};
 use engine_ports::{Link, Sink, Source};
