@@ -4,21 +4,23 @@ ghost use Rattle.serde_json.specs.Data as json;
 ghost use Rattle.serde_json.specs.View.{view};
 ghost use Rattle.json_laws.specs.Pairs.{words_data};
 
+use super::words::words_value;
 use engine_text::Text;
 use serde_json::{Map, Value, put};
 use std::alloc::{AllocError, Global};
 
-/// A JSON object that is being built.
+/// A JSON object that is being built: a member takes the place of an earlier one of its key, and
+/// the keys stand in byte order. A refused call lets the object go.
 #[derive(Drop)]
-pub(crate) struct Object {
+pub struct Object {
     map: Map<String, Value>,
 }
 
 impl Object {
-    ghost use Rattle.client_parts.specs.Object.{members_in};
+    ghost use Rattle.json_objects.specs.Object.{members_in};
 
     /// Without members.
-    pub(crate) fn new(alloc: Global) -> Object
+    pub fn new(alloc: Global) -> Object
         ensures { members_in result ≡ json.no_members }
     {
         Object {
@@ -27,7 +29,7 @@ impl Object {
     }
 
     /// With this member.
-    pub(crate) fn with(self, alloc: Global, key: &str, value: Value) -> Result<Object, AllocError>
+    pub fn with(self, alloc: Global, key: &str, value: Value) -> Result<Object, AllocError>
         ensures { IfOk result
             (λ o. members_in o ≡ json.put key.now (view value) (members_in self)) }
     {
@@ -37,7 +39,7 @@ impl Object {
     }
 
     /// With this text.
-    pub(crate) fn text(self, alloc: Global, key: &str, text: &str) -> Result<Object, AllocError>
+    pub fn text(self, alloc: Global, key: &str, text: &str) -> Result<Object, AllocError>
         ensures { IfOk result
             (λ o. members_in o ≡ json.put key.now (json.string text.now) (members_in self)) }
     {
@@ -46,7 +48,7 @@ impl Object {
     }
 
     /// With this truth value.
-    pub(crate) fn flag(self, alloc: Global, key: &str, on: bool) -> Result<Object, AllocError>
+    pub fn flag(self, alloc: Global, key: &str, on: bool) -> Result<Object, AllocError>
         ensures { IfOk result
             (λ o. members_in o ≡ json.put key.now (json.boolean on) (members_in self)) }
     {
@@ -54,21 +56,16 @@ impl Object {
     }
 
     /// With this number.
-    pub(crate) fn number(self, alloc: Global, key: &str, number: u64) -> Result<Object, AllocError>
+    pub fn number(self, alloc: Global, key: &str, number: u64) -> Result<Object, AllocError>
         ensures { IfOk result
-            (λ o. members_in o ≡ json.put key.now (json.number (json.unsigned number))
-            (members_in self)) }
+            (λ o. members_in o
+            ≡ json.put key.now (json.number (json.unsigned number)) (members_in self)) }
     {
         self.with(alloc, key, Value::from(number))
     }
 
     /// With the list of these words.
-    pub(crate) fn words(
-        self,
-        alloc: Global,
-        key: &str,
-        words: &[Text],
-    ) -> Result<Object, AllocError>
+    pub fn words(self, alloc: Global, key: &str, words: &[Text]) -> Result<Object, AllocError>
         ensures { IfOk result
             (λ o. members_in o ≡ json.put key.now (words_data words.now) (members_in self)) }
     {
@@ -77,20 +74,9 @@ impl Object {
     }
 
     /// The object.
-    pub(crate) fn value(self) -> Value
+    pub fn value(self) -> Value
         ensures { view result ≡ json.object (members_in self) }
     {
         Value::Object(self.map)
     }
-}
-
-/// The list of these words.
-fn words_value(alloc: Global, words: &[Text]) -> Result<Value, AllocError>
-    ensures { IfOk result (λ v. view v ≡ words_data words.now) }
-{
-    let mut items = Vec::new(alloc);
-    'words: for word in words {
-        items.push(Value::try_from_str(alloc, word.as_str())?)?;
-    }
-    Ok(Value::Array(items))
 }
