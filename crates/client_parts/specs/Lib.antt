@@ -1,4 +1,3 @@
 pub mod Reading
 pub mod Options
 pub mod Heads
-pub mod Object

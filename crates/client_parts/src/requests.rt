@@ -4,7 +4,6 @@ mod containers;
 mod escaped;
 mod execs;
 mod keys;
-mod object;
 mod pieces;
 mod views;
 mod volumes;

@@ -5,9 +5,9 @@ ghost use Rattle.client_model.specs.Commands.Container as container;
 ghost use Rattle.client_model.specs.Commands.Exec as exec;
 ghost use Rattle.client_model.specs.Commands.VolumeCreate as volume;
 
-use super::object::Object;
 use client_model::{NewContainer, Restart};
 use engine_text::Text;
+use json_objects::Object;
 use serde_json::Value;
 use std::alloc::{AllocError, Global};
 
