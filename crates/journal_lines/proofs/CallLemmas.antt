@@ -1,15 +1,16 @@
--- The call that a call's value says is that call.
-use Rattle.std.proofs.Common.{◌≡◌, ◌<◌, ◌^◌, ℕ, ℤ, List, Bool, true, ◌&&◌, ◌||◌, nat_le, Option, Some, None, option_map, refl, arith}
+-- What holds of each call: its soundness by its fields, its keys, and that its value says it.
+use Rattle.std.proofs.Common.{◌≡◌, ◌<◌, ◌^◌, ℕ, ℤ, List, Bool, true, ◌&&◌, ◌||◌, nat_le, Option, Some, None, option_map, refl, sym, ◌∙◌, length, arith}
 use Rattle.std.specs.Option.{option_map_or}
 use Rattle.std.proofs.lemmas.Bool.{and_parts}
 use Rattle.hex.proofs.HexLemmas.{decode_of-encode_lower}
 use Rattle.serde_json.specs.Data.{null}
 use Rattle.serde_json.specs.Find.{as_str}
 use Rattle.api_json.specs.Values.{text, natural, integer}
-use Rattle.engine_text.specs.Soundness.{IsSound, if_given, is_seconds, is_signal, is_full, is_count, is_limit, is_time, is_create, is_log_ask, are_labels, is_list_key, is_event_key, is_volume_key, is_filter}
-use Rattle.engine_text.specs.Name.{is_volume_name}
-use Rattle.journal_lines.specs.CallFields.{create_fields, condition_word, kind_of_owner}
-use Rattle.journal_lines.specs.Fields.{filter_value, fields_value}
+use Rattle.engine_text.specs.Soundness.{IsSound, is_sound, if_given, is_seconds, is_signal, is_full, is_count, is_limit, is_time, is_create, is_log_ask, are_labels, are_mounts, is_list_key, is_event_key, is_volume_key, is_filter}
+use Rattle.engine_text.specs.Name.{is_name, is_volume_name}
+use Rattle.api_json.specs.Container.{most_retries}
+use Rattle.journal_lines.specs.CallFields.{create_fields, condition_word, kind_of_owner, fields_of, asks_for_streams}
+use Rattle.journal_lines.specs.Fields.{filter_value, fields_value, are_fields_sound}
 use Rattle.journal_lines.specs.JournalLines.{call_value}
 use Rattle.machine_model.specs.State.{owner_number}
 use Rattle.engine_text.specs.declared.call.Call.{Call}
@@ -21,12 +22,15 @@ use Rattle.engine_text.specs.declared.filter.FilterKey.{FilterKey}
 use Rattle.engine_text.specs.declared.filter.FilterRow.{FilterRow}
 use Rattle.engine_text.specs.declared.owner.Owner.{Owner}
 use Rattle.engine_text.specs.declared.owner.Owner.TheVariants.{Container, Exec}
+use Rattle.engine_text.specs.declared.policy.Policy.{Policy}
 use Rattle.engine_text.specs.declared.signal.Signal.{Signal}
 use Rattle.journal_lines.specs.FitsTypes.{FitsTypes}
 use Rattle.journal_lines.specs.Reading.Parts.{or_null, natural_of, count_of, seconds_of, signal_of}
 use Rattle.journal_lines.specs.Reading.Lists.{filter_in}
 use Rattle.journal_lines.specs.Reading.Calls.{call_in, named_call, looking_call, other_call, own_call, owner_of, until_of}
 use Rattle.journal_lines.proofs.TestLemmas.{lt_of}
+use Rattle.journal_lines.proofs.FieldLemmas.{is_fine}
+use Rattle.journal_lines.proofs.SoundLemmas.{one, two, two_so, stop_order, last_first, feed_order, logs_order, create_order, signal_test, policy_test}
 use Rattle.journal_lines.proofs.WordLemmas.{words_back, mounts_back}
 use Rattle.journal_lines.proofs.PartLemmas.{count_back, signal_back, seconds_back, seconds_here, given_back, labels_back, filter_back, most_back, policy_back}
 
@@ -104,41 +108,121 @@ logs_back ask e =
     let q = and_parts ((ask.out || ask.err) && given) (is_time ask.least) p.0 in
     tail_back ask.tail (and_parts (ask.out || ask.err) given q.0).1
 
-pub call_back : (c : Call) → IsSound c → FitsTypes c → call_in (call_value c) ≡ Some c
+-- ---- calls
+
+fine_create : (spec : CreateSpec) (p : Policy) → spec.policy ≡ p → is_fine (create_fields spec) ≡ true
+fine_create spec Policy.No e = rw e refl
+fine_create spec Policy.Always e = rw e refl
+fine_create spec Policy.UnlessStopped e = rw e refl
+fine_create spec (Policy.OnFailure most) e = rw e refl
+
+fine_wait : (target : List ℕ) (until : Until) → is_fine (fields_of (Call.Wait target until)) ≡ true
+fine_wait target NotRunning = refl
+fine_wait target NextExit = refl
+fine_wait target Removed = refl
+
+fine_feed : (owner : Owner) (run : ℕ) (bytes : List ℕ) → is_fine (fields_of (Call.Feed owner run bytes)) ≡ true
+fine_feed (Container n) run bytes = refl
+fine_feed (Exec n) run bytes = refl
+
+fine_end : (owner : Owner) (run : ℕ) → is_fine (fields_of (Call.FeedEnd owner run)) ≡ true
+fine_end (Container n) run = refl
+fine_end (Exec n) run = refl
+
+-- A request can make it where it can give each of its fields; its keys are fine; its value says it.
+abbrev pub IsTold : Call → Type 0
+IsTold c =
+    (is_sound c ≡ (are_fields_sound (fields_of c) && asks_for_streams c)) ×
+    (is_fine (fields_of c) ≡ true) ×
+    (IsSound c → FitsTypes c → call_in (call_value c) ≡ Some c)
+
+pub told : (c : Call) → IsTold c
 unfolding named_call looking_call other_call own_call
-call_back (Call.Create spec) h fits = create_back spec h
-call_back (Call.Start target) h fits = refl
-call_back (Call.Pause target) h fits = refl
-call_back (Call.Unpause target) h fits = refl
-call_back (Call.Inspect target) h fits = refl
-call_back (Call.Stop target wait signal) h fits =
-    let (waits, ends) = stop_back (is_full target) wait signal h in
-    rw (waits, ends) refl
-call_back (Call.Restart target wait signal) h fits =
-    let (waits, ends) = stop_back (is_full target) wait signal h in
-    rw (waits, ends) refl
-call_back (Call.Kill target signal) h fits = rw (signal_back signal (and_parts (is_full target) (is_signal signal) h).1) refl
-call_back (Call.Rename target name) h fits = refl
-call_back (Call.Remove target force) h fits = refl
-call_back (Call.Wait target until) h fits = rw (until_back until) refl
-call_back (Call.List all limit filter) h fits =
-    let p = and_parts (if_given is_limit limit) (is_filter is_list_key filter) h in
-    rw (limit_back limit p.0, rows_back is_list_key filter p.1) refl
-call_back (Call.Logs target ask) h fits =
-    rw (logs_back ask (and_parts (is_full target) (is_log_ask ask) h).1) refl
-call_back (Call.Attach target ask) h fits = refl
-call_back (Call.ExecCreate target words stdin out err) h fits = rw (words_back words) refl
-call_back (Call.ExecStart id detach) h fits = refl
-call_back (Call.ExecInspect id) h fits = refl
-call_back (Call.VolumeCreate name labels) h fits = rw (labels_back labels (and_parts (is_volume_name name) (are_labels labels) h).1) refl
-call_back (Call.VolumeInspect name) h fits = refl
-call_back (Call.VolumeRemove name) h fits = refl
-call_back (Call.VolumeList filter) h fits = rw (rows_back is_volume_key filter h) refl
-call_back (Call.Events since until filter) h fits =
-    let p = and_parts (if_given is_time since && if_given is_time until) (is_filter is_event_key filter) h in
-    rw (time_back since, time_back until, rows_back is_event_key filter p.1) refl
-call_back Call.JournalRead h fits = refl
-call_back (Call.Feed owner run bytes) h fits = rw (owner_back owner, decode_of-encode_lower bytes fits.0) refl
-call_back (Call.FeedEnd owner run) h fits = rw (owner_back owner) refl
-call_back (Call.Take ticket) h fits = refl
-call_back (Call.Drop ticket) h fits = refl
+told (Call.Create spec) = (
+  rw (policy_test spec.policy)
+      (create_order (if_given is_name spec.name) (nat_le (most_retries spec.policy) 2147483647) (is_signal spec.stop_signal) (is_seconds spec.stop_after) (are_labels spec.labels) (are_mounts spec.mounts)),
+  fine_create spec spec.policy refl,
+  λ h fits. create_back spec h,
+)
+told (Call.Start target) = (one (is_full target), refl, λ h fits. refl)
+told (Call.Pause target) = (one (is_full target), refl, λ h fits. refl)
+told (Call.Unpause target) = (one (is_full target), refl, λ h fits. refl)
+told (Call.Inspect target) = (one (is_full target), refl, λ h fits. refl)
+told (Call.Stop target wait signal) = (
+  rw (signal_test signal)
+      (stop_order (is_full target) (if_given is_seconds wait) (if_given (λ n. nat_le 1 n && nat_le n 31) (option_map (λ s. s.number) signal))),
+  refl,
+  λ h fits. let (waits, ends) = stop_back (is_full target) wait signal h in
+      rw (waits, ends) refl,
+)
+told (Call.Restart target wait signal) = (
+  rw (signal_test signal)
+      (stop_order (is_full target) (if_given is_seconds wait) (if_given (λ n. nat_le 1 n && nat_le n 31) (option_map (λ s. s.number) signal))),
+  refl,
+  λ h fits. let (waits, ends) = stop_back (is_full target) wait signal h in
+      rw (waits, ends) refl,
+)
+told (Call.Kill target signal) = (
+  two_so (is_full target) (is_signal signal),
+  refl,
+  λ h fits. rw (signal_back signal (and_parts (is_full target) (is_signal signal) h).1) refl,
+)
+told (Call.Rename target name) = (two (is_full target) (is_name name), refl, λ h fits. refl)
+told (Call.Remove target force) = (one (is_full target), refl, λ h fits. refl)
+told (Call.Wait target until) = (one (is_full target), fine_wait target until, λ h fits. rw (until_back until) refl)
+told (Call.List all limit filter) = (
+  two (if_given is_limit limit) (is_filter is_list_key filter),
+  refl,
+  λ h fits. let p = and_parts (if_given is_limit limit) (is_filter is_list_key filter) h in
+      rw (limit_back limit p.0, rows_back is_list_key filter p.1) refl,
+)
+told (Call.Logs target ask) = (
+  logs_order (is_full target) (ask.out || ask.err) (if_given is_count ask.tail) (is_time ask.least) (is_time ask.greatest),
+  refl,
+  λ h fits. rw (logs_back ask (and_parts (is_full target) (is_log_ask ask) h).1) refl,
+)
+told (Call.Attach target ask) = (one (is_full target), refl, λ h fits. refl)
+told (Call.ExecCreate target words stdin out err) = (
+  two_so (is_full target) (is_full words),
+  refl,
+  λ h fits. rw (words_back words) refl,
+)
+told (Call.ExecStart id detach) = (one (is_full id), refl, λ h fits. refl)
+told (Call.ExecInspect id) = (one (is_full id), refl, λ h fits. refl)
+told (Call.VolumeCreate name labels) = (
+  two (is_volume_name name) (are_labels labels),
+  refl,
+  λ h fits. rw (labels_back labels (and_parts (is_volume_name name) (are_labels labels) h).1) refl,
+)
+told (Call.VolumeInspect name) = (one (is_full name), refl, λ h fits. refl)
+told (Call.VolumeRemove name) = (one (is_full name), refl, λ h fits. refl)
+told (Call.VolumeList filter) = (
+  one (is_filter is_volume_key filter),
+  refl,
+  λ h fits. rw (rows_back is_volume_key filter h) refl,
+)
+told (Call.Events since until filter) = (
+  last_first (if_given is_time since) (if_given is_time until) (is_filter is_event_key filter),
+  refl,
+  λ h fits. let p = and_parts (if_given is_time since && if_given is_time until) (is_filter is_event_key filter) h in
+      rw (time_back since, time_back until, rows_back is_event_key filter p.1) refl,
+)
+told Call.JournalRead = (refl, refl, λ h fits. refl)
+told (Call.Feed owner run bytes) = (
+  feed_order (nat_le 1 run) (is_full bytes) (nat_le (length bytes) 32768),
+  fine_feed owner run bytes,
+  λ h fits. rw (owner_back owner, decode_of-encode_lower bytes fits.0) refl,
+)
+told (Call.FeedEnd owner run) = (one (nat_le 1 run), fine_end owner run, λ h fits. rw (owner_back owner) refl)
+told (Call.Take ticket) = (refl, refl, λ h fits. refl)
+told (Call.Drop ticket) = (refl, refl, λ h fits. refl)
+
+pub sound_by_field : (c : Call) → is_sound c ≡ (are_fields_sound (fields_of c) && asks_for_streams c)
+sound_by_field c = (told c).0
+
+-- so where a request can make it, it can give each field
+pub sound_fields : (c : Call) → IsSound c → are_fields_sound (fields_of c) ≡ true
+sound_fields c h = (and_parts (are_fields_sound (fields_of c)) (asks_for_streams c) (sym (sound_by_field c) ∙ h)).0
+
+pub call_back : (c : Call) → IsSound c → FitsTypes c → call_in (call_value c) ≡ Some c
+call_back c = (told c).2

@@ -7,7 +7,6 @@ use Rattle.std.proofs.lemmas.Str.{IsUtf8-from_ascii}
 use Rattle.std.proofs.lemmas.Str.Ascii.{IsAscii-nil, IsAscii-cons}
 use Rattle.hex.specs.Hex.{lower_digits, encode_lower}
 use Rattle.hex.proofs.HexLemmas.{IsAscii-encode_with}
-use Rattle.json.proofs.Printed.Utf8.{are_ascii}
 use Rattle.json_laws.specs.Sound as fit
 use Rattle.json_laws.proofs.Sound.{has_fine_keys, object-sound, string-sound, ascii-sound, unsigned-sound, boolean-sound, null-sound}
 use Rattle.api_json.specs.Values.{text}
@@ -17,14 +16,11 @@ use Rattle.journal_lines.specs.Fields.{Field, Word, TextOrNone, NumberOrNone, Se
 use Rattle.journal_lines.specs.FitsTypes.{FitsTypes, ReplyFitsTypes}
 use Rattle.journal_lines.specs.JournalLines.{call_value, from_value, one_number, answer_value, fed_value, reply_value, ended_ticket}
 use Rattle.engine_text.specs.declared.call.Call.{Call}
-use Rattle.engine_text.specs.declared.call.Until.TheVariants as Until
-use Rattle.engine_text.specs.declared.call.CreateSpec.{CreateSpec}
-use Rattle.engine_text.specs.declared.owner.Owner.TheVariants as Owner
-use Rattle.engine_text.specs.declared.policy.Policy.{Policy}
 use Rattle.engine_text.specs.declared.reply.Reply.{Reply}
 use Rattle.engine_text.specs.declared.reply.Reply.TheVariants.{Answer, Begun, LogStream, EventStream, JournalStream, Fed, Dropped}
 use Rattle.journal_lines.proofs.MemberLemmas.{members}
-use Rattle.journal_lines.proofs.SoundLemmas.{sound_fields}
+use Rattle.journal_lines.proofs.FieldLemmas.{is_plain_word, are_words_plain}
+use Rattle.journal_lines.proofs.CallLemmas.{told, sound_fields}
 use Rattle.journal_lines.proofs.WordLemmas.{words_sound, mounts_sound}
 use Rattle.journal_lines.proofs.PartLemmas.{seconds_sound, given_sound, labels_sound, filter_sound}
 
@@ -40,15 +36,6 @@ digits = ascii lower_digits
 
 bytes_sound : (bytes : List ℕ) → fit.IsSound 125 (text (encode_lower bytes))
 bytes_sound bytes = string-sound 125 (encode_lower bytes) (IsUtf8-from_ascii (encode_lower bytes) (IsAscii-encode_with lower_digits bytes digits))
-
--- a word of the format is ASCII
-abbrev is_plain_word : Field → Bool
-is_plain_word (Word w) = are_ascii w
-is_plain_word f = true
-
-abbrev are_words_plain : List KeyedField → Bool
-are_words_plain [] = true
-are_words_plain (f ∷ fs) = is_plain_word f.1 && are_words_plain fs
 
 field_sound : (f : Field) → is_field_sound f ≡ true → FieldFitsType f → is_plain_word f ≡ true → fit.IsSound 125 (field_value f)
 field_sound (Word w) e u a = ascii-sound 125 w a
@@ -75,53 +62,10 @@ fields_sound (f ∷ fs) e u a =
 
 -- ---- calls
 
--- the keys are ASCII and rise, and so are the words of the format
-abbrev is_fine : List KeyedField → Bool
-is_fine fs = has_fine_keys (field_members fs) && are_words_plain fs
-
-fine_create : (spec : CreateSpec) (p : Policy) → spec.policy ≡ p → is_fine (fields_of (Call.Create spec)) ≡ true
-fine_create spec Policy.No e = rw e refl
-fine_create spec Policy.Always e = rw e refl
-fine_create spec Policy.UnlessStopped e = rw e refl
-fine_create spec (Policy.OnFailure most) e = rw e refl
-
-fine : (c : Call) → is_fine (fields_of c) ≡ true
-fine (Call.Create spec) = fine_create spec spec.policy refl
-fine (Call.Start target) = refl
-fine (Call.Pause target) = refl
-fine (Call.Unpause target) = refl
-fine (Call.Inspect target) = refl
-fine (Call.Stop target wait signal) = refl
-fine (Call.Restart target wait signal) = refl
-fine (Call.Kill target signal) = refl
-fine (Call.Rename target name) = refl
-fine (Call.Remove target force) = refl
-fine (Call.Wait target Until.NotRunning) = refl
-fine (Call.Wait target Until.NextExit) = refl
-fine (Call.Wait target Until.Removed) = refl
-fine (Call.List all limit filter) = refl
-fine (Call.Logs target ask) = refl
-fine (Call.Attach target ask) = refl
-fine (Call.ExecCreate target words stdin out err) = refl
-fine (Call.ExecStart id detach) = refl
-fine (Call.ExecInspect id) = refl
-fine (Call.VolumeCreate name labels) = refl
-fine (Call.VolumeInspect name) = refl
-fine (Call.VolumeRemove name) = refl
-fine (Call.VolumeList filter) = refl
-fine (Call.Events since until filter) = refl
-fine Call.JournalRead = refl
-fine (Call.Feed (Owner.Container n) run bytes) = refl
-fine (Call.Feed (Owner.Exec n) run bytes) = refl
-fine (Call.FeedEnd (Owner.Container n) run) = refl
-fine (Call.FeedEnd (Owner.Exec n) run) = refl
-fine (Call.Take ticket) = refl
-fine (Call.Drop ticket) = refl
-
 pub call_sound : (c : Call) → IsSound c → FitsTypes c → fit.IsSound 126 (call_value c)
 call_sound c h u =
     let fs : List KeyedField = fields_of c in
-    let keys = and_parts (has_fine_keys (field_members fs)) (are_words_plain fs) (fine c) in
+    let keys = and_parts (has_fine_keys (field_members fs)) (are_words_plain fs) (told c).1 in
     object-sound 125 (field_members fs) keys.0 (fields_sound fs (sound_fields c h) u keys.1)
 
 -- ---- replies

@@ -3,7 +3,7 @@ pub mod RoomFacts
 pub mod VerdictFacts
 mod TestLemmas
 mod MemberLemmas
-mod ValueLemmas
+mod FieldLemmas
 mod FloatLemmas
 mod RisingLemmas
 mod WordLemmas

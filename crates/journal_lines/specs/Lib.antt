@@ -11,6 +11,6 @@ pub mod Entry
 pub mod Verdict
 pub mod KeptJournal
 pub mod JournalInside
-pub mod Object
+pub mod LentFields
 pub mod Rising
 pub mod Reading

@@ -2,6 +2,7 @@
 #![tactic(auto)]
 
 mod fault;
+mod fields;
 mod journal;
 mod places;
 mod reading;

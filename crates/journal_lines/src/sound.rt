@@ -1,10 +1,9 @@
-// Whether a request can make a call: one file for each kind of value.
+// Whether a request can make a call: by its fields, each by its kind.
 mod bounds;
-mod create;
 mod fields;
 mod filters;
+mod mounts;
 mod rising;
 mod sounds;
 
-pub use fields::law_sound_by_fields;
-pub use sounds::is_sound;
+pub use sounds::{is_sound, law_sound_by_fields};

@@ -1,12 +1,7 @@
-// A journal's lines, written: one file for each kind of value.
-mod calls;
-mod create;
-mod execs;
-mod feeds;
+// A journal's lines, written: a call by its fields, each by its kind.
+mod fields;
 mod filter;
 mod line;
-mod logs;
-mod object;
 mod options;
 mod replies;
 mod values;

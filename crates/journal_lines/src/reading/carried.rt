@@ -1,17 +1,17 @@
 // What the types of a call and a reply give: texts of UTF-8, numbers of 64 bits, bytes.
 ghost use Rattle.std.specs.Prelude.{◌≡◌, All, IfSome, IsUtf8};
 ghost use Rattle.hex.specs.Hex.{IsBytes};
-ghost use Rattle.machine_model.specs.State.{owner_number};
-ghost use Rattle.api_json.specs.Container.{most_retries};
 ghost use Rattle.journal_lines.specs.CallFields as table;
-ghost use Rattle.journal_lines.specs.Fields as fields;
+ghost use Rattle.journal_lines.specs.Fields as kind;
 ghost use Rattle.journal_lines.specs.FitsTypes as spec;
+ghost use Rattle.journal_lines.specs.LentFields.{told_field, told_list};
 
-use engine_text::{Bytes, Call, CreateSpec, Entry, LogAsk, Owner, Policy, Reply, Signal, Text};
+use crate::fields::{Field, FieldsUse, KeyedField, of_fields};
+use engine_text::{Bytes, Call, Entry, Reply, Signal, Text};
 
 // Does nothing: its clause says that a number has 64 bits.
 fn word(number: u64)
-    ensures { fields.IsWord number }
+    ensures { kind.IsWord number }
 {
     let _ = number;
 }
@@ -28,16 +28,6 @@ fn count(number: u32)
     ensures { spec.IsCount number }
 {
     let _ = number;
-}
-
-// Does nothing: its clause says that the number of an owner has 64 bits.
-fn owner_word(owner: Owner)
-    ensures { fields.IsWord (owner_number owner) }
-{
-    match owner {
-        Owner::Container(number) => word(number),
-        Owner::Exec(number) => word(number),
-    }
 }
 
 // Does nothing: its clause says that each is a byte.
@@ -66,7 +56,7 @@ fn text_if_given(text: &Option<Text>)
 
 // Does nothing: its clause says that a number, if it is given, has 64 bits.
 fn word_if_given(number: Option<u64>)
-    ensures { IfSome number fields.IsWord }
+    ensures { IfSome number kind.IsWord }
 {
     match number {
         None => {}
@@ -76,7 +66,7 @@ fn word_if_given(number: Option<u64>)
 
 // Does nothing: its clause says that a count, if it is given, has 64 bits.
 fn count_if_given(number: Option<u32>)
-    ensures { IfSome number fields.IsWord }
+    ensures { IfSome number kind.IsWord }
 {
     match number {
         None => {}
@@ -84,131 +74,72 @@ fn count_if_given(number: Option<u32>)
     }
 }
 
-// Does nothing: its clause says that a signal's number has 64 bits.
-fn signal_word(signal: Signal)
-    ensures { fields.IsWord signal.number }
-{
-    word(signal.number as u64);
-}
-
 // Does nothing: its clause says that a signal's number, if it is given, has 64 bits.
 fn signal_if_given(signal: Option<Signal>)
-    ensures { fields.FieldFitsType (table.signal_field signal) }
+    ensures { kind.FieldFitsType (table.signal_field signal) }
 {
     match signal {
         None => {}
-        Some(signal) => signal_word(signal),
+        Some(signal) => word(signal.number as u64),
     }
 }
 
-// Does nothing: its clause says that a greatest number of restarts has 64 bits.
-fn retries_word(policy: Policy)
-    ensures { fields.IsWord (most_retries policy) }
+// Does nothing: its clause says what the type of a field gives.
+fn field_texts(field: &Field<'_>)
+    ensures { kind.FieldFitsType (told_field field.now) }
 {
-    match policy {
-        Policy::OnFailure(most) => word(most as u64),
-        Policy::No => word(0),
-        Policy::Always => word(0),
-        Policy::UnlessStopped => word(0),
+    match *field {
+        Field::Word(_) => {}
+        Field::Text(_, text) => text.utf8(),
+        Field::TextOrNone(_, text) => text_if_given(text),
+        Field::NumberOrNone(_, number) => word_if_given(number),
+        Field::CountOrNone(_, count) => count_if_given(count),
+        Field::SignalOrNone(signal) => signal_if_given(signal),
+        Field::SecondsOrNone(_) => {}
+        Field::Flag(_) => {}
+        Field::TextList(_, words) => words.utf8(),
+        Field::LabelPairs(pairs) => pairs.utf8(),
+        Field::MountList(mounts) => mounts.utf8(),
+        Field::FilterRows(_, filter) => filter.utf8(),
+        Field::HexBytes(fed) => bytes(fed),
     }
 }
 
-// Does nothing: its clause says what the types of a create give.
-fn create_texts(create: &CreateSpec)
-    ensures { fields.FieldsFitTypes (table.create_fields create.now) }
+// Does nothing: its clause says what the types of fields that are lent give.
+fn each_fits(fields: &[KeyedField<'_>])
+    ensures { All (λ f. kind.FieldFitsType (told_field f.1)) fields.now }
 {
-    create.image.utf8();
-    create.labels.utf8();
-    retries_word(create.policy);
-    create.mounts.utf8();
-    text_if_given(&create.name);
-    signal_word(create.stop_signal);
-    create.words.utf8();
+    for keyed in fields {
+        field_texts(&keyed.1);
+    }
 }
 
-// Does nothing: its clause says what the types of logs give.
-fn logs_texts(target: &Text, ask: &LogAsk)
-    ensures { fields.FieldsFitTypes (table.logs_fields target.now ask.now) }
+// Does nothing: its clause says what the types of these fields give.
+fn fit_types(fields: &[KeyedField<'_>])
+    ensures { kind.FieldsFitTypes (told_list fields.now) }
 {
-    word(ask.greatest);
-    word(ask.least);
-    target.utf8();
-    count_if_given(ask.tail);
+    each_fits(fields);
+}
+
+/// Of fields it is known what their types give.
+#[derive(Drop)]
+struct Fitting;
+
+impl FieldsUse for Fitting {
+    type Answer = ();
+
+    ghost gives = { λ f fs r. kind.FieldsFitTypes fs };
+
+    fn of(&self, fields: &[KeyedField<'_>]) {
+        fit_types(fields);
+    }
 }
 
 // Does nothing: its clause says what the types of a call give.
 fn call_texts(call: &Call)
     ensures { spec.FitsTypes call.now }
 {
-    match call {
-        Call::Create(create) => create_texts(create),
-        Call::Start { target } => target.utf8(),
-        Call::Pause { target } => target.utf8(),
-        Call::Unpause { target } => target.utf8(),
-        Call::Inspect { target } => target.utf8(),
-        Call::Stop { target, signal, .. } => {
-            target.utf8();
-            signal_if_given(*signal);
-        }
-        Call::Restart { target, signal, .. } => {
-            target.utf8();
-            signal_if_given(*signal);
-        }
-        Call::Kill { target, signal } => {
-            target.utf8();
-            signal_word(*signal);
-        }
-        Call::Rename { target, name } => {
-            target.utf8();
-            name.utf8();
-        }
-        Call::Remove { target, .. } => target.utf8(),
-        Call::Wait { target, .. } => target.utf8(),
-        Call::List { limit, filter, .. } => {
-            filter.utf8();
-            count_if_given(*limit);
-        }
-        Call::Logs { target, ask } => logs_texts(target, ask),
-        Call::Attach { target, .. } => target.utf8(),
-        Call::ExecCreate { target, words, .. } => {
-            target.utf8();
-            words.utf8();
-        }
-        Call::ExecStart { id, .. } => id.utf8(),
-        Call::ExecInspect { id } => id.utf8(),
-        Call::VolumeCreate { name, labels } => {
-            name.utf8();
-            labels.utf8();
-        }
-        Call::VolumeInspect { name } => name.utf8(),
-        Call::VolumeRemove { name } => name.utf8(),
-        Call::VolumeList { filter } => filter.utf8(),
-        Call::Events {
-            since,
-            until,
-            filter,
-        } => {
-            filter.utf8();
-            word_if_given(*since);
-            word_if_given(*until);
-        }
-        Call::JournalRead => {}
-        Call::Feed {
-            owner,
-            run,
-            bytes: fed,
-        } => {
-            owner_word(*owner);
-            word(*run);
-            bytes(fed);
-        }
-        Call::FeedEnd { owner, run } => {
-            owner_word(*owner);
-            word(*run);
-        }
-        Call::Take { ticket } => word(*ticket),
-        Call::Drop { ticket } => word(*ticket),
-    }
+    of_fields(call, &Fitting);
 }
 
 // Does nothing: its clause says what the types of a reply give.

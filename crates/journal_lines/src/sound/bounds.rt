@@ -1,14 +1,27 @@
-// The bounds of numbers and texts.
-ghost use Rattle.std.specs.Prelude.{◌≡◌};
+// The bounds of texts, numbers, lists of texts and bytes, each by its test.
+ghost use Rattle.std.specs.Prelude.{◌≡◌, ◌&&◌, nat_le, length};
 ghost use Rattle.engine_text.specs.Soundness as spec;
+ghost use Rattle.journal_lines.specs.CallFields.{signal_field};
+ghost use Rattle.journal_lines.specs.Fields.{is_field_sound};
+ghost use Rattle.journal_lines.specs.LentFields as lent;
 
-use engine_text::{LogAsk, Policy, Signal, Text, Words};
+use crate::fields::{NumberTest, TextListTest, TextTest};
+use engine_text::{Bytes, Signal, Text, Words, is_name, is_volume_name};
 
 /// The greatest moment that a request can write, in milliseconds.
 const FAR: u64 = 9_999_999_999_999;
 
-/// Whether a reference has a byte.
-pub fn is_full(text: &Text) -> bool
+/// The greatest number of restarts.
+const MOST_RETRIES: u64 = 2_147_483_647;
+
+/// Counts are below this: they have at most nine digits.
+const TOO_MANY: u64 = 1_000_000_000;
+
+/// The most bytes that a feed has.
+const MOST_BYTES: usize = 32_768;
+
+// Whether a text has a byte.
+fn is_full(text: &Text) -> bool
     ensures { result ≡ spec.is_full text.now }
 {
     match text.as_str().as_bytes() {
@@ -17,53 +30,80 @@ pub fn is_full(text: &Text) -> bool
     }
 }
 
-/// Whether there is a word.
-pub fn has_words(words: &Words) -> bool
-    ensures { result ≡ spec.is_full words.now }
+/// Whether a request can give the text.
+pub fn is_text(test: TextTest, text: &Text) -> bool
+    ensures { result ≡ lent.text_test test text.now }
 {
-    match words.as_slice() {
-        [] => false,
-        [_, ..] => true,
+    match test {
+        TextTest::Any => true,
+        TextTest::Full => is_full(text),
+        TextTest::Name => is_name(text.as_str()),
+        TextTest::VolumeName => is_volume_name(text.as_str()),
     }
 }
 
-/// Whether it is a signal's number.
-pub fn is_signal(signal: Signal) -> bool
-    ensures { result ≡ spec.is_signal signal }
+/// Whether it can give the text, or none.
+pub fn is_text_if_given(test: TextTest, text: &Option<Text>) -> bool
+    ensures { result ≡ spec.if_given (lent.text_test test) text.now }
 {
-    1 <= signal.number && signal.number <= 31
+    match text {
+        None => true,
+        Some(text) => is_text(test, text),
+    }
 }
 
-/// Whether the signal, if it is given, is one.
+// Whether a request can give the number.
+fn is_number(test: NumberTest, number: u64) -> bool
+    ensures { result ≡ lent.number_test test number }
+{
+    match test {
+        NumberTest::Any => true,
+        NumberTest::Run => 1 <= number,
+        NumberTest::Retries => number <= MOST_RETRIES,
+        NumberTest::Moment => number <= FAR,
+        NumberTest::Count => number < TOO_MANY,
+        NumberTest::Limit => 1 <= number && number < TOO_MANY,
+    }
+}
+
+/// Whether it can give the number, or none.
+pub fn is_number_if_given(test: NumberTest, number: Option<u64>) -> bool
+    ensures { result ≡ spec.if_given (lent.number_test test) number }
+{
+    match number {
+        None => true,
+        Some(number) => is_number(test, number),
+    }
+}
+
+/// Whether it can give the count, or none.
+pub fn is_count_if_given(test: NumberTest, count: Option<u32>) -> bool
+    ensures { result ≡ spec.if_given (lent.number_test test) count }
+{
+    match count {
+        None => true,
+        Some(count) => is_number(test, count as u64),
+    }
+}
+
+/// Whether it is a signal's number, 1 to 31, or none.
 pub fn is_signal_if_given(signal: Option<Signal>) -> bool
-    ensures { result ≡ spec.if_given spec.is_signal signal }
+    ensures { result ≡ is_field_sound (signal_field signal) }
 {
     match signal {
         None => true,
-        Some(signal) => is_signal(signal),
+        Some(signal) => 1 <= signal.number && signal.number <= 31,
     }
 }
 
-/// Whether a policy's greatest number of restarts is in range.
-pub fn is_policy(policy: Policy) -> bool
-    ensures { result ≡ spec.is_policy policy }
-{
-    match policy {
-        Policy::No => true,
-        Policy::Always => true,
-        Policy::UnlessStopped => true,
-        Policy::OnFailure(most) => most <= 2_147_483_647,
-    }
-}
-
-/// Whether they are the seconds of a stop.
-pub fn is_seconds(seconds: i32) -> bool
+// Whether they are the seconds of a stop.
+fn is_seconds(seconds: i32) -> bool
     ensures { result ≡ spec.is_seconds seconds }
 {
     -1 <= seconds && seconds <= 2_147_483
 }
 
-/// Whether the seconds, if they are given, are in range.
+/// Whether they are, or none are given.
 pub fn is_seconds_if_given(seconds: Option<i32>) -> bool
     ensures { result ≡ spec.if_given spec.is_seconds seconds }
 {
@@ -73,63 +113,32 @@ pub fn is_seconds_if_given(seconds: Option<i32>) -> bool
     }
 }
 
-// Whether a request can write the moment.
-fn is_time(moment: u64) -> bool
-    ensures { result ≡ spec.is_time moment }
+/// Whether a request can give the texts.
+pub fn are_words(test: TextListTest, words: &Words) -> bool
+    ensures { result ≡ lent.text_list_test test words.now }
 {
-    moment <= FAR
-}
-
-/// Whether a request can write the moment, if it is given.
-pub fn is_time_if_given(moment: Option<u64>) -> bool
-    ensures { result ≡ spec.if_given spec.is_time moment }
-{
-    match moment {
-        None => true,
-        Some(moment) => is_time(moment),
+    match test {
+        TextListTest::Any => true,
+        TextListTest::Full => match words.as_slice() {
+            [] => false,
+            [_, ..] => true,
+        },
     }
 }
 
-// Whether a count has at most nine digits.
-fn is_count(count: u32) -> bool
-    ensures { result ≡ spec.is_count count }
+// Whether there is a byte.
+fn has_bytes(bytes: &Bytes) -> bool
+    ensures { result ≡ spec.is_full bytes.now }
 {
-    count < 1_000_000_000
-}
-
-// Whether the count, if it is given, is in range.
-fn is_count_if_given(count: Option<u32>) -> bool
-    ensures { result ≡ spec.if_given spec.is_count count }
-{
-    match count {
-        None => true,
-        Some(count) => is_count(count),
+    match bytes.as_slice() {
+        [] => false,
+        [_, ..] => true,
     }
 }
 
-// Whether a limit is in range.
-fn is_limit(limit: u32) -> bool
-    ensures { result ≡ spec.is_limit limit }
+/// Whether there is a byte, and at most so many.
+pub fn are_fed(bytes: &Bytes) -> bool
+    ensures { result ≡ (spec.is_full bytes.now && nat_le (length bytes.now) 32768) }
 {
-    1 <= limit && is_count(limit)
-}
-
-/// Whether the limit, if it is given, is in range.
-pub fn is_limit_if_given(limit: Option<u32>) -> bool
-    ensures { result ≡ spec.if_given spec.is_limit limit }
-{
-    match limit {
-        None => true,
-        Some(limit) => is_limit(limit),
-    }
-}
-
-/// Whether logs ask for a stream, and their numbers are in range.
-pub fn is_log_ask(ask: &LogAsk) -> bool
-    ensures { result ≡ spec.is_log_ask ask.now }
-{
-    (ask.out || ask.err)
-        && is_count_if_given(ask.tail)
-        && is_time(ask.least)
-        && is_time(ask.greatest)
+    has_bytes(bytes) && bytes.len() <= MOST_BYTES
 }

@@ -2,8 +2,10 @@
 ghost use Rattle.std.specs.Prelude.{◌≡◌};
 ghost use Rattle.std.specs.List.{list_all};
 ghost use Rattle.engine_text.specs.Soundness as spec;
+ghost use Rattle.journal_lines.specs.LentFields.{key_test};
 
 use super::rising::do_rows_rise;
+use crate::fields::FilterTest;
 use engine_text::{FilterKey, FilterRow};
 
 // Whether it is a key of a list of containers.
@@ -67,23 +69,13 @@ fn are_volume_keys(rows: &[FilterRow]) -> bool
     rows.iter().all(|row| is_volume_key(row.key))
 }
 
-/// Whether it is a filter of a list of containers.
-pub fn is_list_filter(rows: &[FilterRow]) -> bool
-    ensures { result ≡ spec.is_filter spec.is_list_key rows.now }
+/// Whether it is a filter with keys of this kind.
+pub fn is_filter(test: FilterTest, rows: &[FilterRow]) -> bool
+    ensures { result ≡ spec.is_filter (key_test test) rows.now }
 {
-    do_rows_rise(rows) && are_list_keys(rows)
-}
-
-/// Whether it is a filter of events.
-pub fn is_event_filter(rows: &[FilterRow]) -> bool
-    ensures { result ≡ spec.is_filter spec.is_event_key rows.now }
-{
-    do_rows_rise(rows) && are_event_keys(rows)
-}
-
-/// Whether it is a filter of a list of volumes.
-pub fn is_volume_filter(rows: &[FilterRow]) -> bool
-    ensures { result ≡ spec.is_filter spec.is_volume_key rows.now }
-{
-    do_rows_rise(rows) && are_volume_keys(rows)
+    match test {
+        FilterTest::Containers => do_rows_rise(rows) && are_list_keys(rows),
+        FilterTest::Events => do_rows_rise(rows) && are_event_keys(rows),
+        FilterTest::Volumes => do_rows_rise(rows) && are_volume_keys(rows),
+    }
 }

@@ -3,10 +3,10 @@ ghost use Rattle.std.specs.Prelude.{◌≡◌, IfOk};
 ghost use Rattle.serde_json.specs.View.{view};
 ghost use Rattle.journal_lines.specs.Fields as spec;
 
-use super::object::Object;
 use super::values::words_value;
 use api_json::filter_word;
 use engine_text::FilterRow;
+use json_objects::Object;
 use serde_json::Value;
 use std::alloc::{AllocError, Global};
 

@@ -3,11 +3,11 @@ ghost use Rattle.std.specs.Prelude.{◌≡◌, IfOk};
 ghost use Rattle.serde_json.specs.View.{view};
 ghost use Rattle.journal_lines.specs.JournalLines as spec;
 
-use super::calls::call_value;
-use super::object::Object;
+use super::fields::call_value;
 use super::replies::reply_value;
 use engine_text::{Bytes, Entry, NoMemory};
 use json_laws::line_of_value;
+use json_objects::Object;
 use serde_json::Value;
 use std::alloc::{AllocError, Global};
 

@@ -4,8 +4,8 @@ ghost use Rattle.serde_json.specs.View.{view};
 ghost use Rattle.serde_json.specs.Written.{has_float, compact_text};
 ghost use Rattle.journal_lines.specs.JournalLines as spec;
 
-use super::object::Object;
 use engine_text::{Call, NoMemory, Reply, Text};
+use json_objects::Object;
 use serde_json::Value;
 use std::alloc::{AllocError, Global};
 

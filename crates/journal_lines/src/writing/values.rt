@@ -4,8 +4,8 @@ ghost use Rattle.serde_json.specs.View.{view};
 ghost use Rattle.api_json.specs.Values.{text, list_of, pairs_object};
 ghost use Rattle.journal_lines.specs.Fields as spec;
 
-use super::object::Object;
 use engine_text::{Mount, Pair, Text};
+use json_objects::Object;
 use serde_json::Value;
 use std::alloc::{AllocError, Global};
 
@@ -13,11 +13,8 @@ use std::alloc::{AllocError, Global};
 pub fn words_value(alloc: Global, words: &[Text]) -> Result<Value, AllocError>
     ensures { IfOk result (λ v. view v ≡ list_of text words.now) }
 {
-    let mut items = Vec::new(alloc);
-    'words: for word in words {
-        items.push(Value::try_from_str(alloc, word.as_str())?)?;
-    }
-    Ok(Value::Array(items))
+    let list = json_objects::words_value(alloc, words)?;
+    Ok(list)
 }
 
 /// The object of these pairs, each key with its last value.

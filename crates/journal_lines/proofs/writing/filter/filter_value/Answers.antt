@@ -5,7 +5,7 @@ use Rattle.api_json.specs.Values.{text, list_of}
 use Rattle.engine_text.specs.Filter.{filter_word}
 use Rattle.journal_lines.specs.Fields.{put_rows}
 use Rattle.engine_text.specs.declared.filter.FilterRow.{FilterRow}
-use Rattle.journal_lines.specs.Object.{members_in}
+use Rattle.json_objects.specs.Object.{members_in}
 use Rattle.journal_lines.proofs.writing.filter.filter_value.Goals as goal
 
 pub rows-preserved : goal.rows-preserved

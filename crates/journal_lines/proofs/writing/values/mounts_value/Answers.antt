@@ -1,7 +1,7 @@
 use Rattle.std.proofs.Common.{map, ap, ◌∙◌}
 use Rattle.serde_json.specs.View.{view}
 use Rattle.journal_lines.specs.Fields.{mount_entry}
-use Rattle.journal_lines.proofs.ValueLemmas.{shown_more, all_shown}
+use Rattle.json_objects.proofs.ValueLemmas.{shown_more, all_shown}
 use Rattle.journal_lines.proofs.writing.values.mounts_value.Goals as goal
 
 pub mounts-preserved : goal.mounts-preserved

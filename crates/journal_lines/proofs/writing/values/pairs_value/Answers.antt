@@ -4,7 +4,7 @@ use Rattle.serde_json.specs.Data.{string, put, object}
 use Rattle.json_laws.specs.Pairs.{put_pairs}
 use Rattle.api_json.specs.Values.{pairs_of}
 use Rattle.engine_text.specs.declared.pairs.Pair.{Pair}
-use Rattle.journal_lines.specs.Object.{members_in}
+use Rattle.json_objects.specs.Object.{members_in}
 use Rattle.journal_lines.proofs.writing.values.pairs_value.Goals as goal
 
 pub pairs-preserved : goal.pairs-preserved

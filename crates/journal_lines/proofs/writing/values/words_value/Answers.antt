@@ -1,14 +1,6 @@
-use Rattle.std.proofs.Common.{map, ap, ◌∙◌}
-use Rattle.serde_json.specs.Data.{string}
-use Rattle.serde_json.specs.View.{view}
-use Rattle.journal_lines.proofs.ValueLemmas.{shown_more, all_shown}
+use Rattle.std.proofs.Common.{sym, ◌∙◌}
+use Rattle.json_objects.proofs.ValueLemmas.{words_same}
 use Rattle.journal_lines.proofs.writing.values.words_value.Goals as goal
 
-pub words-preserved : goal.words-preserved
-words-preserved c =
-    let shows = c.in_ok-try_from_str.ensures ∙ ap string c.as_str.ensures in
-    ap (map view) c.in_ok-push.ensures.items ∙ shown_more string c.words.items.items c.in_ok-try_from_str.field-0 c.args.words.now c.words.word-index c.word-item.result
-    c.words-test.true c.word-item.is shows c.words.invariant
-
 pub returns : goal.returns
-returns c = all_shown string c.words.items c.args.words.now c.words.word-index c.words-test.false c.words.invariant
+returns c = c.in_ok-list.ensures ∙ sym (words_same c.args.words.now)

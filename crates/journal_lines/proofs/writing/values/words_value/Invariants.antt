@@ -1,7 +1,0 @@
-use Rattle.std.proofs.Common.{◌≡◌, map, take}
-use Rattle.serde_json.specs.Data.{string}
-use Rattle.serde_json.specs.View.{view}
-use Rattle.journal_lines.proofs.writing.values.words_value.Given as goal
-
-abbrev pub invariant-words : goal.invariant-words
-invariant-words l = map view l.items.items ≡ map string (take l.word-index l.words)

@@ -1,8 +1,0 @@
--- An object that is being built (RFC 8259, section 4).
-use Rattle.serde_json.specs.Data.{Members}
-use Rattle.serde_json.specs.View.{members_view}
-use Rattle.journal_lines.specs.declared.writing.object.Object.{Object}
-
--- Its members.
-abbrev pub members_in : Object → Members
-members_in o = members_view o.map.entries
