@@ -1,0 +1,9 @@
+pub mod ComingLemmas
+pub mod StepLemmas
+pub mod ProbeLemmas
+pub mod WatchLemmas
+pub mod FindLemmas
+pub mod RowFacts
+pub mod BoundLemmas
+pub mod ProgramBounds
+pub mod NextLemmas

@@ -1,0 +1,10 @@
+pub mod Runs
+pub mod Probes
+pub mod ProbeSteps
+pub mod Results
+pub mod Health
+pub mod Reaching
+pub mod Watching
+pub mod Advancing
+pub mod WatchInside
+pub mod Sound
