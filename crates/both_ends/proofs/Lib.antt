@@ -1,0 +1,12 @@
+pub mod HeadLemmas
+pub mod ReadLemmas
+pub mod KindLemmas
+pub mod CodeLemmas
+pub mod EffectLemmas
+pub mod CallLemmas
+pub mod WaitLemmas
+pub mod FrameLemmas
+pub mod ReplyLemmas
+pub mod AnswerLemmas
+pub mod StepLemmas
+pub mod SessionLemmas
