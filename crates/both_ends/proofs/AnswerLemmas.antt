@@ -1,5 +1,5 @@
 -- What the client reads of the answer to each request of a run.
-use Rattle.std.proofs.Common.{arith, ◌≡◌, ◌<◌, ◌≤◌, ◌+◌, ◌^◌, ◌⊎◌, inl, inr, ℕ, List, [], ◌∷◌, ◌++◌, length, map, Bool, true, false, Option, Some, None, IsTrue, if◌then◌else◌, refl, sym, ap, subst, ◌∙◌, codes, decimal, append-nil, length-append, All, Result, Ok, Err}
+use Rattle.std.proofs.Common.{arith, ◌≡◌, ◌<◌, ◌≤◌, ◌^◌, ◌⊎◌, inl, inr, ℕ, List, [], ◌∷◌, ◌++◌, length, map, Bool, true, false, Some, if◌then◌else◌, refl, sym, ap, subst, ◌∙◌, codes, decimal, length-append, All, Result, Ok, Err}
 use Rattle.std.specs.Prelude.{IsFalse, unwrap_or}
 use Rattle.std.proofs.lemmas.Bool.{false≢true}
 use Rattle.std.proofs.lemmas.Fmt.{length-decimal-le_succ}
@@ -17,9 +17,7 @@ use Rattle.machine_model.specs.Frames.{framed}
 use Rattle.machine_model.specs.History.{Charter, IsLegal, state_after}
 use Rattle.machine_model.specs.LogStream.{log_records, part_of}
 use Rattle.machine_model.specs.Statuses.{is_status_of, gives_ticket}
-use Rattle.machine_model.specs.Effects.Destroy.{waited}
 use Rattle.http_edge.specs.Message.{Request}
-use Rattle.http_edge.specs.Asks.{asks_early}
 use Rattle.http_edge.specs.Response.{head_by, framed_head}
 use Rattle.http_edge.specs.declared.head.Head.{Head}
 use Rattle.http_edge.specs.declared.head.Form.{Form}
@@ -38,7 +36,7 @@ use Rattle.api_routes.specs.declared.class.Takeover.{Takeover}
 use Rattle.api_routes.specs.declared.fault.Fault.{Fault}
 use Rattle.api_routes.specs.declared.fault.Fault.TheVariants as fault
 use Rattle.session_model.specs.declared.terms.Terms.{Terms}
-use Rattle.session_model.specs.Exchange.{Flow, is_early, IsMade, IsMadeAt, IsWaited, IsAnswered}
+use Rattle.session_model.specs.Exchange.{Flow, is_early, IsMade, IsAnswered}
 use Rattle.session_model.specs.Responses.{terms_of, whole_bytes, answer_bytes, takeover_head}
 use Rattle.session_model.specs.Session.{ending_of}
 use Rattle.client_model.specs.Bodies.{id_in, status_code_in}
@@ -52,7 +50,7 @@ use Rattle.client_laws.specs.Classes as class
 use Rattle.client_laws.specs.Classes.{Meaning, both_streams, by_name}
 use Rattle.client_laws.proofs.ClassLemmas.{start-class, wait-class, remove-class}
 use Rattle.client_laws.proofs.StreamClassLemmas.{attach-class}
-use Rattle.both_ends.specs.BothEnds.{Visit, Creates, Follows, Takes}
+use Rattle.both_ends.specs.BothEnds.{Visit, Creates, Does, Follows, Takes}
 use Rattle.both_ends.proofs.HeadLemmas.{Opens}
 use Rattle.both_ends.proofs.ReadLemmas.{status_read, json_read, empty_read, upgraded_read}
 use Rattle.both_ends.proofs.KindLemmas.{Refuses, whole_opens, IsRefusal, IsAskOf, IsUpgradeFor, Closes, AnsweredBy, IsFollowed, refused, asked, upgraded}
@@ -194,13 +192,13 @@ module _ (ch : Charter) (v : Visit) (r : Request) (a : Answers ch v r) (h : Head
   -- an answer without a body
   done_read : (c : Call) → gives_ticket c ≡ false → Means r (Ask c) → IsFalse (is_early r c) → (terms_of r).bare ≡ false
       → ((status : ℕ) → is_status_of c status ≡ true → status < 2 ^ 64)
-      → ((status : ℕ) → is_status_of c status ≡ true → status < 400 → (is_bare status ≡ true) × (102 ≤ status)) → whole ≡ true
+      → ((status : ℕ) → is_status_of c status ≡ true → status < 400 → (is_bare status ≡ true) × (102 ≤ status)) → (whole ≡ true) × Does ch v c
   done_read c none means late sends small bare =
       let m = made c none means late in
       let has = has_status ch v.number c v.span.from v.span.to m.0 m.1 m.3 in
       let same = status_is (terms_of r) m.0 m.1 v.span.written h given whole m.2 (small m.0 has) x in
       let range = bare m.0 has (omega (arith, same, low)) in
-      (bare_read (terms_of r) m.0 m.1 v.span.written h given whole sends (small m.0 has) range.1 range.0 m.2 x).0
+      ((bare_read (terms_of r) m.0 m.1 v.span.written h given whole sends (small m.0 has) range.1 range.0 m.2 x).0, (m.0, m.1, m.3, omega (arith, same, low)))
 
   -- a create
   created_fits : (seed : List ℕ) (n : ℕ) → length (created_text (id_of seed n)) < 2 ^ 64
@@ -317,12 +315,12 @@ module _ (ch : Charter) (v : Visit) (r : Request) (a : Answers ch v r) (h : Head
 -- ---- the requests of a run
 
 module _ (ch : Charter) (v : Visit) (h : Head) (given : List ℕ) (whole : Bool) (x : IsRead v.span.written h given whole) (low : h.status < 400) where
-  pub start_read : (id : List ℕ) → All IsByte id → Answers ch v (start_request id) → whole ≡ true
+  pub start_read : (id : List ℕ) → All IsByte id → Answers ch v (start_request id) → (whole ≡ true) × Does ch v (Call.Start id)
   start_read id bytes a =
       done_read ch v (start_request id) a h given whole x low (Call.Start id) refl
       (means_by (start_request id) (class.start id) (Ask (Call.Start id)) (start-class id bytes) (named id (Ask (Call.Start id)))) refl refl (start_small id) (start_bare id)
 
-  pub remove_read : (id : List ℕ) → All IsByte id → Answers ch v (remove_request id false) → whole ≡ true
+  pub remove_read : (id : List ℕ) → All IsByte id → Answers ch v (remove_request id false) → (whole ≡ true) × Does ch v (Call.Remove id false)
   remove_read id bytes a =
       done_read ch v (remove_request id false) a h given whole x low (Call.Remove id false) refl
       (means_by (remove_request id false) (class.remove id false) (Ask (Call.Remove id false)) (remove-class id false bytes) (named id (Ask (Call.Remove id false)))) refl refl

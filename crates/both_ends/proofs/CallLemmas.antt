@@ -1,5 +1,5 @@
 -- What each call leaves of a wait's ticket.
-use Rattle.std.proofs.Common.{◌≡◌, ℕ, ◌+◌, ◌<◌, ◌≤◌, ◌==◌, ◌&&◌, Bool, true, false, not, List, [], ◌∷◌, ◌++◌, Option, Some, None, find, refl, sym, subst, arith, ℤ}
+use Rattle.std.proofs.Common.{◌≡◌, ℕ, ◌+◌, ◌<◌, ◌==◌, ◌&&◌, Bool, true, false, not, List, [], ◌∷◌, Option, Some, None, find, refl, sym, subst, arith, ℤ}
 use Rattle.std.specs.Prelude.{unwrap_or}
 use Rattle.std.specs.Option.{option_map_or}
 use Rattle.std.specs.List.{AllByRecursion}
@@ -10,7 +10,6 @@ use Rattle.engine_text.specs.declared.call.Call.{Call}
 use Rattle.engine_text.specs.declared.call.CreateSpec.{CreateSpec}
 use Rattle.engine_text.specs.declared.container.Container.{Container}
 use Rattle.engine_text.specs.declared.container.Found.{Found}
-use Rattle.engine_text.specs.declared.container.Life.{Life}
 use Rattle.engine_text.specs.declared.event.Action.TheVariants as action
 use Rattle.engine_text.specs.declared.exec.Exec.{Exec}
 use Rattle.engine_text.specs.declared.mounts.Mount.{Mount}
@@ -25,17 +24,16 @@ use Rattle.container_table.specs.Reference.{container_by}
 use Rattle.proc_kernel.specs.Catalogue.{program_of}
 use Rattle.proc_kernel.specs.Processes.{freeze, feed, feed_end}
 use Rattle.machine_model.specs.State.{State, container_numbered, running_execs, is_live, change_container, change_exec, set_timer}
-use Rattle.machine_model.specs.Chain.{Effect, still, change, and_then, each, tell, tell_of}
+use Rattle.machine_model.specs.Chain.{Effect, still, change, each, tell}
 use Rattle.machine_model.specs.Call.{outcome_of}
-use Rattle.machine_model.specs.EventTexts.{plain_event, kill_event, exec_event, rename_event, volume_event}
+use Rattle.machine_model.specs.EventTexts.{plain_event, kill_event, exec_event, rename_event}
 use Rattle.machine_model.specs.Filters.{is_image}
 use Rattle.machine_model.specs.Names.{holder, chosen_name}
 use Rattle.machine_model.specs.Outcome.{Outcome, by_found, at_reference, refused, replies, done}
 use Rattle.machine_model.specs.Refusals.{no_such_container, no_such_exec}
 use Rattle.machine_model.specs.Streams.{RunState, Coming, Live, Over, run_state}
 use Rattle.machine_model.specs.Tickets.{begins}
-use Rattle.machine_model.specs.Effects.Launch.{launch_by_call, spawn}
-use Rattle.machine_model.specs.Effects.Halt.{halt}
+use Rattle.machine_model.specs.Effects.Launch.{launch_by_call}
 use Rattle.machine_model.specs.Calls.Create as create
 use Rattle.machine_model.specs.Calls.Create.{volume_named, unless_it_stands, make_missing, make_volume, add, with_new, new_container}
 use Rattle.machine_model.specs.Calls.Start as start
@@ -60,7 +58,7 @@ use Rattle.machine_model.proofs.Fold.RowLemmas.{found_number}
 use Rattle.machine_model.proofs.Fold.TellLemmas.{LifeInRange}
 use Rattle.machine_model.proofs.Processes.CodeLemmas.{all_changed, coded_freeze, coded_feed, coded_feed_end}
 use Rattle.machine_model.proofs.Processes.ProgramCodeLemmas.{OfProgram, program_coded}
-use Rattle.both_ends.proofs.EffectLemmas.{IsWait, IsLow, Holds, AreLow, Keeps, keeps_then, keeps_still, keeps_change, keeps_at, keeps_found, keeps_with, keeps_each, keeps_tell, keeps_mounts, keeps_renew, keeps_spawns, keeps_launch_by_call, keeps_destroy, keeps_cancel, keeps_thaw, keeps_send, keeps_meet, keeps_halt, keeps_begun}
+use Rattle.both_ends.proofs.EffectLemmas.{IsWait, IsLow, Holds, AreLow, Keeps, keeps_then, keeps_still, keeps_change, keeps_at, keeps_each, keeps_tell, keeps_renew, keeps_spawns, keeps_launch_by_call, keeps_destroy, keeps_cancel, keeps_thaw, keeps_send, keeps_meet, keeps_halt, keeps_begun}
 
 low_new : (name : List ℕ) (spec : CreateSpec) (s : State) → IsLow (new_container name spec s)
 low_new name spec s = omega arith

@@ -1,5 +1,5 @@
 -- The id and the exit code are read back from the texts that tell them.
-use Rattle.std.proofs.Common.{arith, ◌≡◌, ◌<◌, ◌*◌, ◌/◌, ◌%◌, ◌^◌, ◌&&◌, ℕ, zero, suc, List, [], ◌∷◌, ◌++◌, length, Bool, true, Option, Some, None, if◌then◌else◌, refl, sym, ap, ◌∙◌, codes, append_assoc, slice_index}
+use Rattle.std.proofs.Common.{arith, ◌≡◌, ◌<◌, ◌/◌, ◌%◌, ◌^◌, ◌&&◌, ℕ, zero, suc, List, [], ◌∷◌, ◌++◌, length, true, Option, Some, None, if◌then◌else◌, refl, sym, ap, ◌∙◌, codes, append_assoc, slice_index}
 use Rattle.std.specs.Prelude.{decimal, nat_lt, nat_le, IsUtf8}
 use Rattle.std.specs.List.{AllByRecursion}
 use Rattle.std.specs.Str.{IsAscii}

@@ -1,5 +1,5 @@
 -- What each effect leaves of a wait's ticket: its reply, once it is there, tells a code of one byte.
-use Rattle.std.proofs.Common.{◌≡◌, ℕ, ◌+◌, ◌<◌, ◌==◌, Bool, true, false, List, [], ◌∷◌, ◌++◌, Option, Some, None, find, map, refl, sym, subst, arith, if◌then◌else◌, ℤ, pos, negsuc}
+use Rattle.std.proofs.Common.{◌≡◌, ℕ, ◌+◌, ◌<◌, ◌==◌, Bool, true, false, List, [], ◌∷◌, Option, Some, None, find, refl, subst, arith, if◌then◌else◌, ℤ, pos, negsuc}
 use Rattle.std.specs.Prelude.{unwrap_or}
 use Rattle.std.specs.List.{AllByRecursion}
 use Rattle.engine_text.specs.Scripts.{Program}
@@ -26,7 +26,7 @@ use Rattle.proc_kernel.specs.Catalogue.{program_of}
 use Rattle.proc_kernel.specs.Processes.{Process, ProcessStep, run_due, signal, thaw, spawn as spawned}
 use Rattle.proc_kernel.specs.Tables.{Entry, process_of, effect_of}
 use Rattle.machine_model.specs.State.{State, container_numbered, exec_numbered, running_execs, owner_number, clear_timer, set_timer, drop_process, change_exec}
-use Rattle.machine_model.specs.Chain.{Effect, Died, still, after, change, and_then, in_order, each, with_found, with_container, renew, tell, tell_of, tell_mounts}
+use Rattle.machine_model.specs.Chain.{Effect, Died, still, change, and_then, in_order, each, with_found, with_container, renew, tell_of, tell_mounts}
 use Rattle.machine_model.specs.Due.{due_effect, op_effect, stop_deadline, removal_deadline, restart_timer, restarted, died, timed_out, time_out}
 use Rattle.machine_model.specs.EventTexts.{plain_event, die_event, exec_die_event, kill_event}
 use Rattle.machine_model.specs.Ranges.{AreCoded, HaveCodes}
@@ -41,7 +41,6 @@ use Rattle.machine_model.proofs.ListLemmas.{all_append}
 use Rattle.machine_model.proofs.ChangeLemmas.{all_updated, all_removed}
 use Rattle.machine_model.proofs.ReplyLemmas.{all_through}
 use Rattle.machine_model.proofs.ObeyLemmas.{found_all}
-use Rattle.machine_model.proofs.Fold.RowLemmas.{found_number}
 use Rattle.machine_model.proofs.Effects.MeetLemmas.{KeepsCodes}
 use Rattle.machine_model.proofs.Processes.CodeLemmas.{EndsCoded, all_changed, all_without, all_begun, ends_coded, coded_spawn, coded_due, coded_thaw, coded_signal}
 use Rattle.machine_model.proofs.Processes.ProgramCodeLemmas.{OfProgram, program_coded}

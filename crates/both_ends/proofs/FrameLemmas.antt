@@ -1,5 +1,5 @@
 -- Frames that a daemon writes of records are shown by the client as what the records carry.
-use Rattle.std.proofs.Common.{arith, ◌≡◌, ◌+◌, ◌-◌, ◌*◌, ◌/◌, ◌<◌, ◌≤◌, ◌^◌, inr, ℕ, zero, suc, List, [], ◌∷◌, ◌++◌, length, map, take, drop, true, refl, sym, ap, ◌∙◌, append-nil, append_assoc, length-append, take-append-drop, if◌then◌else◌}
+use Rattle.std.proofs.Common.{arith, ◌≡◌, ◌+◌, ◌-◌, ◌*◌, ◌/◌, ◌<◌, ◌≤◌, ◌^◌, inr, ℕ, zero, suc, List, [], ◌∷◌, ◌++◌, length, map, take, drop, true, refl, sym, ap, ◌∙◌, append_assoc, take-append-drop, if◌then◌else◌}
 use Rattle.std.specs.Prelude.{nat_le, filter, Ok}
 use Rattle.std.specs.List.{flat_map}
 use Rattle.std.proofs.lemmas.Bool.Decides.{nat_tests}

@@ -1,17 +1,17 @@
 -- The bytes of a head begin no other head.
 use Rattle.std.specs.Fmt.{digits}
-use Rattle.std.proofs.Common.{arith, ◌≡◌, ◌<◌, ◌≤◌, ◌^◌, ◌+◌, ℕ, List, [], ◌∷◌, ◌++◌, length, take, drop, get_or, Bool, true, false, Option, Some, None, refl, sym, ap, subst, ◌∙◌, codes, append_assoc, length-append}
+use Rattle.std.proofs.Common.{arith, ◌≡◌, ◌<◌, ◌≤◌, ◌^◌, ℕ, List, [], ◌∷◌, ◌++◌, length, take, drop, get_or, Bool, true, false, refl, sym, ap, subst, ◌∙◌, codes, append_assoc, length-append}
 use Rattle.std.specs.Prelude.{decimal}
 use Rattle.std.specs.Char.{is_ascii_digit}
 use Rattle.std.proofs.lemmas.Bool.Decides.{nat_tests}
 use Rattle.std.proofs.lemmas.List.{get_or_append_left, take_at}
 use Rattle.std.proofs.lemmas.Fmt.{decimal_is_IsNumeral, decimal_injective}
 use Rattle.std.proofs.lemmas.Str.Parse.{digit_at}
-use Rattle.http_edge.specs.Response.{phrase_of, connection_line, form_lines, json_type, framed_head, head_by, head_text, takeover_head}
+use Rattle.http_edge.specs.Response.{phrase_of, connection_line, form_lines, framed_head, head_by, head_text, takeover_head}
 use Rattle.http_edge.specs.declared.head.Head.{Head}
 use Rattle.http_edge.specs.declared.head.Form.{Form}
 use Rattle.http_edge.specs.declared.head.Form.TheVariants.{Json, Plain, Empty, ChunkedFrames, ChunkedJson, ChunkedPlain, Takeover}
-use Rattle.response_reader.specs.Heads.{IsFinal, is_bare, Fits}
+use Rattle.response_reader.specs.Heads.{is_bare, Fits}
 use Rattle.response_reader.specs.Matching.{is_framed}
 use Rattle.response_reader.specs.Numbers.{HasNoDigit, IsDigitsEnd}
 use Rattle.response_reader.proofs.NumberLemmas.{digits_taken}

@@ -1,15 +1,15 @@
 -- Bytes that a daemon writes are read by the client as that answer and no other.
-use Rattle.std.proofs.Common.{arith, ◌≡◌, ◌<◌, ◌≤◌, ◌+◌, ◌^◌, inl, inr, ℕ, List, [], ◌∷◌, ◌++◌, length, Bool, true, false, refl, sym, ap, subst, ◌∙◌, append-nil, append_assoc, length-append}
+use Rattle.std.proofs.Common.{arith, ◌≡◌, ◌<◌, ◌≤◌, ◌^◌, inl, inr, ℕ, List, [], ◌∷◌, ◌++◌, length, Bool, true, false, refl, sym, ap, subst, ◌∙◌, append-nil, append_assoc, length-append}
 use Rattle.http_edge.specs.Chunked.{Chunk}
 use Rattle.http_edge.specs.Response.{framed_head, head_text, takeover_head}
 use Rattle.http_edge.specs.declared.head.Head.{Head}
 use Rattle.http_edge.specs.declared.head.Form.{Form}
 use Rattle.http_edge.specs.declared.head.Form.TheVariants.{Json, Empty}
-use Rattle.response_reader.specs.Answers.{Answered, IsAnswer, Tells, EndsSo}
+use Rattle.response_reader.specs.Answers.{Answered, IsAnswer, EndsSo}
 use Rattle.response_reader.specs.Bodies.{Sized, UntilEnd, framing_of, Carries}
 use Rattle.response_reader.specs.declared.framing.Left.{Left}
 use Rattle.response_reader.specs.declared.framing.Left.TheVariants as left
-use Rattle.both_ends.proofs.HeadLemmas.{cancelled, Opens, IsTold, json_told, empty_told, sized_head, same_status, same_head, upgraded, same_upgraded}
+use Rattle.both_ends.proofs.HeadLemmas.{Opens, IsTold, json_told, empty_told, same_status, same_head, same_upgraded}
 
 -- ---- bodies
 

@@ -1,6 +1,5 @@
 -- With what a call is replied whose answer has a status below 400.
-use Rattle.std.proofs.Common.{arith, ◌≡◌, ◌<◌, ◌≤◌, ◌^◌, ◌==◌, ◌||◌, ◌++◌, ℕ, List, [], ◌∷◌, Bool, true, false, Option, Some, None, IsTrue, refl, sym, ap, ◌∙◌, subst}
-use Rattle.std.proofs.lemmas.Bool.{false≢true}
+use Rattle.std.proofs.Common.{arith, ◌≡◌, ◌<◌, ◌≤◌, ◌^◌, ◌++◌, ℕ, List, [], Bool, true, false, Option, Some, None, IsTrue, sym, ap, subst}
 use Rattle.std.proofs.lemmas.Bool.Decides.{nat_tests}
 use Rattle.engine_text.specs.Id.{id_of}
 use Rattle.engine_text.specs.declared.call.AttachAsk.{AttachAsk}
@@ -12,7 +11,7 @@ use Rattle.engine_text.specs.declared.reply.Reply.{Reply}
 use Rattle.engine_text.specs.declared.step.Step.{Step}
 use Rattle.machine_model.specs.State.{State}
 use Rattle.machine_model.specs.Filters.{is_image}
-use Rattle.machine_model.specs.History.{Charter, state_after, reply_of}
+use Rattle.machine_model.specs.History.{Charter, state_after}
 use Rattle.machine_model.specs.Names.{holder, chosen_name}
 use Rattle.machine_model.specs.Statuses.{is_status_of, is_reply_of, gives_ticket}
 use Rattle.machine_model.specs.Step.{at_moment}

@@ -10,9 +10,6 @@ use Rattle.engine_text.specs.declared.call.Call.{Call}
 use Rattle.engine_text.specs.declared.call.Until.TheVariants.{NotRunning}
 use Rattle.engine_text.specs.declared.log.LogRecord.{LogRecord}
 use Rattle.engine_text.specs.declared.reply.LogSpec.{LogSpec}
-use Rattle.engine_text.specs.declared.script.Stream.TheVariants.{Stdout, Stderr}
-use Rattle.stream_frame.specs.Frames.{payload_of}
-use Rattle.machine_model.specs.Frames.{framed}
 use Rattle.machine_model.specs.History.{Charter}
 use Rattle.machine_model.specs.LogStream.{part_of}
 use Rattle.machine_model.proofs.Fold.RowLemmas.{same_some}
@@ -21,23 +18,20 @@ use Rattle.http_edge.specs.declared.head.Head.{Head}
 use Rattle.response_reader.specs.Answers.{Answer, NoHead, Answered}
 use Rattle.api_routes.specs.Class.{class_of, or_refusal}
 use Rattle.api_routes.specs.declared.class.Class.{Class}
-use Rattle.api_routes.specs.declared.class.Class.TheVariants as of
 use Rattle.session_model.specs.declared.ending.Ending.TheVariants.{Closed}
 use Rattle.session_model.specs.Exchange.{Flow, IsAnswered}
 use Rattle.session_model.specs.Session.{IsWritten, ending_of}
 use Rattle.engine_ports.specs.Sink.{SinkView}
 use Rattle.client_model.specs.Bodies.{id_in, status_code_in}
-use Rattle.client_model.specs.Client.{Result, said_by, result_at, client_result, plan_for, plan_of}
+use Rattle.client_model.specs.Client.{said_by, result_at, plan_for, plan_of}
 use Rattle.client_model.specs.Plans.{Plan, Asks, Written, Done, nothing, joined, writes, ends, fails, goes_on, reads, refuses, kept, by_answer, asks}
 use Rattle.client_model.specs.Streams.{payloads_of, ends_frames, follows}
-use Rattle.client_model.specs.Lines.{line_of}
 use Rattle.client_model.specs.Commands.Attach.{attach_request}
 use Rattle.client_model.specs.Commands.Container.{create_request}
 use Rattle.client_model.specs.Commands.Remove.{remove_request}
 use Rattle.client_model.specs.Commands.Run.{removes, run_plan}
 use Rattle.client_model.specs.Commands.Start.{start_request}
 use Rattle.client_model.specs.Commands.Wait.{wait_request}
-use Rattle.client_model.specs.declared.command.Command.TheVariants as command
 use Rattle.client_model.specs.declared.command.NewContainer.{NewContainer}
 use Rattle.client_model.specs.declared.fault.Fault.TheVariants as F
 use Rattle.client_laws.specs.Asked.{entries_of}
@@ -46,10 +40,10 @@ use Rattle.client_laws.specs.Classes.{both_streams}
 use Rattle.client_laws.specs.Table.{Entry, calls_of}
 use Rattle.client_laws.proofs.IdLemmas.{id-bytes}
 use Rattle.client_laws.proofs.LineLemmas.{asks-calls}
-use Rattle.both_ends.specs.BothEnds.{Visit, Served, Reads, AreServed, IsRun, Creates, Follows, Takes, Shows, BothEnds}
+use Rattle.both_ends.specs.BothEnds.{Visit, Served, Reads, IsRun, Creates, Does, Removes, Follows, Takes, BothEnds}
 use Rattle.both_ends.proofs.FrameLemmas.{carried, framed_shown, framed_end}
 use Rattle.both_ends.proofs.KindLemmas.{Closes}
-use Rattle.both_ends.proofs.AnswerLemmas.{IsRead, Answers, create_read, start_read, attach_read, wait_read, remove_read}
+use Rattle.both_ends.proofs.AnswerLemmas.{Answers, create_read, start_read, attach_read, wait_read, remove_read}
 
 -- ---- a visit's session, by its one answer
 
@@ -105,35 +99,41 @@ module _ (ch : Charter) where
   ended : (code : ℕ) (vs : List Visit) (got : List Answer) → Goes ch (ends code) vs got → Says (ends code) got nothing code
   ended code vs got goes = record { out = refl; err = refl; end = refl }
 
+  none_left : (code : ℕ) (vs : List Visit) (got : List Answer) → Goes ch (ends code) vs got → vs ≡ []
+  none_left code [] got goes = refl
+  none_left code (v ∷ vs) got goes = absurd goes.0
+
   abbrev removed_by : ℕ → Answer → Plan
   removed_by code = by_answer (λ h body whole. reads Some (λ body. ends code) body whole)
 
   removed : (id : List ℕ) (code : ℕ) → All IsByte id → (vs : List Visit) (got : List Answer) → Goes ch (asks (remove_request id false) Some (λ body. ends code)) vs got
-      → Says (asks (remove_request id false) Some (λ body. ends code)) got nothing code
+      → Says (asks (remove_request id false) Some (λ body. ends code)) got nothing code × Removes ch true id vs
   removed id code bytes [] [] goes = absurd goes.0
   removed id code bytes [] (a ∷ got) goes = absurd goes.0
   removed id code bytes (v ∷ vs) [] goes = absurd goes.1
   removed id code bytes (v ∷ vs) (NoHead ∷ got) goes = absurd goes.1.0
   removed id code bytes (v ∷ vs) (Answered h body whole ∷ got) goes =
       let a : Answers ch v (remove_request id false) = answers_of ch v (remove_request id false) goes.0.0 in
-      let all : whole ≡ true = remove_read ch v h body whole goes.1.0.0 goes.1.0.1 id bytes a in
-      let on : removed_by code (Answered h body whole) ≡ ends code = read_goes Some (λ body. ends code) h body whole body goes.1.0.1 all refl in
+      let r = remove_read ch v h body whole goes.1.0.0 goes.1.0.1 id bytes a in
+      let on : removed_by code (Answered h body whole) ≡ ends code = read_goes Some (λ body. ends code) h body whole body goes.1.0.1 r.0 refl in
+      let none : vs ≡ [] = none_left code vs got (subst (λ p. Goes ch p vs got) on (goes.0.1, goes.1.1)) in
       let says : Says (removed_by code (Answered h body whole)) got nothing code = subst (λ p. Says p got nothing code) (sym on) (record { out = refl; err = refl; end = refl }) in
-      record { out = says.out; err = says.err; end = says.end }
+      (record { out = says.out; err = says.err; end = says.end }, subst (λ l. Removes ch true id (v ∷ l)) (sym none) r.1)
 
   last : (remove : Bool) (id : List ℕ) (code : ℕ) → All IsByte id → (vs : List Visit) (got : List Answer) → Goes ch (removes remove id (ends code)) vs got
-      → Says (removes remove id (ends code)) got nothing code
+      → Says (removes remove id (ends code)) got nothing code × Removes ch remove id vs
   last true id code bytes vs got goes = removed id code bytes vs got goes
-  last false id code bytes vs got goes = ended code vs got goes
+  last false id code bytes vs got goes = (ended code vs got goes, subst (Removes ch false id) (sym (none_left code vs got goes)) tt)
 
   -- ---- the wait
 
-  record Waits (plan : Plan) (w : Written) (id : List ℕ) (vs : List Visit) (got : List Answer) : Type 0 where
+  record Waits (plan : Plan) (w : Written) (remove : Bool) (id : List ℕ) (vs : List Visit) (got : List Answer) : Type 0 where
     pub wait : Visit
     pub more : List Visit
     pub visits_are : vs ≡ wait ∷ more
     pub code : ℕ
     pub takes : Takes ch wait (Call.Wait id NotRunning) code
+    pub removes : Removes ch remove id more
     pub says : Says plan got w code
 
   -- the plan from the wait on, behind what was written
@@ -144,7 +144,7 @@ module _ (ch : Charter) where
   wait_plan w remove id = Asks w (kept (wait_request id)) (waited_by remove id)
 
   waits : (w : Written) (remove : Bool) (id : List ℕ) → All IsByte id → (vs : List Visit) (got : List Answer) → Goes ch (wait_plan w remove id) vs got
-      → Waits (wait_plan w remove id) w id vs got
+      → Waits (wait_plan w remove id) w remove id vs got
   waits w remove id bytes [] [] goes = absurd goes.0
   waits w remove id bytes [] (a ∷ got) goes = absurd goes.0
   waits w remove id bytes (v ∷ vs) [] goes = absurd goes.1
@@ -155,13 +155,15 @@ module _ (ch : Charter) where
       let on : waited_by remove id (Answered h body whole) ≡ removes remove id (ends r.1) =
       read_goes status_code_in (λ code. removes remove id (ends code)) h body whole r.1 goes.1.0.1 r.0 r.2 in
       let rest : Goes ch (removes remove id (ends r.1)) vs got = subst (λ p. Goes ch p vs got) on (goes.0.1, goes.1.1) in
-      let says : Says (waited_by remove id (Answered h body whole)) got nothing r.1 = subst (λ p. Says p got nothing r.1) (sym on) (last remove id r.1 bytes vs got rest) in
+      let end = last remove id r.1 bytes vs got rest in
+      let says : Says (waited_by remove id (Answered h body whole)) got nothing r.1 = subst (λ p. Says p got nothing r.1) (sym on) end.0 in
       record {
         wait = v;
         more = vs;
         visits_are = refl;
         code = r.1;
         takes = r.3;
+        removes = end.1;
         says = record {
           out = ap (λ l. w.out ++ l) says.out ∙ append-nil w.out;
           err = ap (λ l. w.err ++ l) says.err ∙ append-nil w.err;
@@ -171,7 +173,7 @@ module _ (ch : Charter) where
 
   -- ---- the attach
 
-  record Attaches (plan : Plan) (id : List ℕ) (input : Bool) (vs : List Visit) (got : List Answer) : Type 0 where
+  record Attaches (plan : Plan) (remove : Bool) (id : List ℕ) (input : Bool) (vs : List Visit) (got : List Answer) : Type 0 where
     pub attach : Visit
     pub wait : Visit
     pub more : List Visit
@@ -181,6 +183,7 @@ module _ (ch : Charter) where
     pub code : ℕ
     pub follows : Follows ch attach (Call.Attach id (both_streams input)) spec records
     pub takes : Takes ch wait (Call.Wait id NotRunning) code
+    pub removes : Removes ch remove id more
     pub says : Says plan got (carried (map (part_of spec) records)) code
 
   abbrev wait_asked : Bool → List ℕ → Plan
@@ -194,7 +197,7 @@ module _ (ch : Charter) where
   attach_asked remove id input = follows (attach_request id input) input (wait_asked remove id)
 
   attaches : (remove : Bool) (id : List ℕ) (input : Bool) → All IsByte id → (vs : List Visit) (got : List Answer) → Goes ch (attach_asked remove id input) vs got
-      → Attaches (attach_asked remove id input) id input vs got
+      → Attaches (attach_asked remove id input) remove id input vs got
   attaches remove id input bytes [] [] goes = absurd goes.0
   attaches remove id input bytes [] (a ∷ got) goes = absurd goes.0
   attaches remove id input bytes (v ∷ vs) [] goes = absurd goes.1
@@ -220,6 +223,7 @@ module _ (ch : Charter) where
         code = w.code;
         follows = r.4;
         takes = w.takes;
+        removes = w.removes;
         says = record {
           out = says.out ∙ (append-nil (payloads_of body).out ∙ ap (λ (w : Written). w.out) shown);
           err = says.err ∙ (append-nil (payloads_of body).err ∙ ap (λ (w : Written). w.err) shown);
@@ -229,13 +233,14 @@ module _ (ch : Charter) where
 
   -- ---- the start
 
-  record Starts (plan : Plan) (id : List ℕ) (input : Bool) (vs : List Visit) (got : List Answer) : Type 0 where
+  record Starts (plan : Plan) (remove : Bool) (id : List ℕ) (input : Bool) (vs : List Visit) (got : List Answer) : Type 0 where
     pub start : Visit
     pub behind : List Visit
     pub visits_are : vs ≡ start ∷ behind
+    pub does : Does ch start (Call.Start id)
     pub left : List Answer
     pub next : Plan
-    pub attaches : Attaches next id input behind left
+    pub attaches : Attaches next remove id input behind left
     pub says : Says plan got (carried (map (part_of attaches.spec) attaches.records)) attaches.code
 
   abbrev start_asked : Bool → List ℕ → Bool → Plan
@@ -245,16 +250,16 @@ module _ (ch : Charter) where
   started_by remove id input = by_answer (λ h body whole. reads Some (λ body. attach_asked remove id input) body whole)
 
   starts : (remove : Bool) (id : List ℕ) (input : Bool) → All IsByte id → (vs : List Visit) (got : List Answer) → Goes ch (start_asked remove id input) vs got
-      → Starts (start_asked remove id input) id input vs got
+      → Starts (start_asked remove id input) remove id input vs got
   starts remove id input bytes [] [] goes = absurd goes.0
   starts remove id input bytes [] (a ∷ got) goes = absurd goes.0
   starts remove id input bytes (v ∷ vs) [] goes = absurd goes.1
   starts remove id input bytes (v ∷ vs) (NoHead ∷ got) goes = absurd goes.1.0
   starts remove id input bytes (v ∷ vs) (Answered h body whole ∷ got) goes =
       let a : Answers ch v (start_request id) = answers_of ch v (start_request id) goes.0.0 in
-      let all : whole ≡ true = start_read ch v h body whole goes.1.0.0 goes.1.0.1 id bytes a in
+      let r = start_read ch v h body whole goes.1.0.0 goes.1.0.1 id bytes a in
       let on : started_by remove id input (Answered h body whole) ≡ attach_asked remove id input =
-      read_goes Some (λ body. attach_asked remove id input) h body whole body goes.1.0.1 all refl in
+      read_goes Some (λ body. attach_asked remove id input) h body whole body goes.1.0.1 r.0 refl in
       let rest : Goes ch (attach_asked remove id input) vs got = subst (λ p. Goes ch p vs got) on (goes.0.1, goes.1.1) in
       let t = attaches remove id input bytes vs got rest in
       let says : Says (started_by remove id input (Answered h body whole)) got (carried (map (part_of t.spec) t.records)) t.code =
@@ -263,6 +268,7 @@ module _ (ch : Charter) where
         start = v;
         behind = vs;
         visits_are = refl;
+        does = r.1;
         left = got;
         next = attach_asked remove id input;
         attaches = t;
@@ -271,7 +277,7 @@ module _ (ch : Charter) where
 
   -- ---- the create
 
-  record Runs (plan : Plan) (input : Bool) (vs : List Visit) (got : List Answer) : Type 0 where
+  record Runs (plan : Plan) (remove : Bool) (input : Bool) (vs : List Visit) (got : List Answer) : Type 0 where
     pub create : Visit
     pub behind : List Visit
     pub visits_are : vs ≡ create ∷ behind
@@ -279,14 +285,14 @@ module _ (ch : Charter) where
     pub creates : Creates ch create id
     pub left : List Answer
     pub next : Plan
-    pub starts : Starts next id input behind left
+    pub starts : Starts next remove id input behind left
     pub says : Says plan got (carried (map (part_of starts.attaches.spec) starts.attaches.records)) starts.attaches.code
 
   abbrev created_by : NewContainer → Bool → Answer → Plan
   created_by c remove = by_answer (λ h body whole. reads id_in (λ id. start_asked remove id c.input) body whole)
 
   runs : (c : NewContainer) (remove : Bool) → class_of (create_request c) ≡ or_refusal (class.create c) → (vs : List Visit) (got : List Answer) → Goes ch (run_plan c remove) vs got
-      → Runs (run_plan c remove) c.input vs got
+      → Runs (run_plan c remove) remove c.input vs got
   runs c remove same [] [] goes = absurd goes.0
   runs c remove same [] (a ∷ got) goes = absurd goes.0
   runs c remove same (v ∷ vs) [] goes = absurd goes.1
@@ -357,7 +363,9 @@ both_ends ch words c remove visits answers utf8 is served =
       records = r.starts.attaches.records;
       code = r.starts.attaches.code;
       creates = r.creates;
+      starts = r.starts.does;
       follows = r.starts.attaches.follows;
       takes = r.starts.attaches.takes;
+      removes = r.starts.attaches.removes;
       result = result_of words (plan_for words) answers (carried (map (part_of r.starts.attaches.spec) r.starts.attaches.records)) r.starts.attaches.code says;
     }

@@ -1,5 +1,5 @@
 -- The take of a wait's ticket tells a code of one byte, in every legal history.
-use Rattle.std.proofs.Common.{◌≡◌, ℕ, ◌+◌, ◌<◌, ◌==◌, Bool, true, false, List, [], ◌∷◌, ◌++◌, Option, Some, None, find, map, refl, sym, ap, ◌∙◌, subst, arith}
+use Rattle.std.proofs.Common.{◌≡◌, ℕ, ◌<◌, ◌==◌, Bool, true, false, List, [], ◌∷◌, ◌++◌, Option, Some, None, find, refl, sym, ap, ◌∙◌, subst, arith}
 use Rattle.std.specs.Prelude.{unwrap_or, option_and_then}
 use Rattle.std.specs.Option.{option_map_or}
 use Rattle.std.specs.List.{AllByRecursion}
@@ -36,7 +36,7 @@ use Rattle.machine_model.proofs.Histories.{run_append, lawful_back, legal_front}
 use Rattle.machine_model.proofs.Fold.HistoryLemmas.{AreConsistent, all_consistent}
 use Rattle.machine_model.proofs.Fold.TellLemmas.{LifeInRange}
 use Rattle.machine_model.proofs.Laws.{consistency_law}
-use Rattle.session_model.specs.Exchange.{IsMade, IsMadeAt, IsWaited}
+use Rattle.session_model.specs.Exchange.{IsMade}
 use Rattle.both_ends.proofs.EffectLemmas.{TellsCode, IsOfWait, IsWait, IsLow, Holds, AreLow, Keeps, keeps_due}
 use Rattle.both_ends.proofs.CallLemmas.{call_leaves}
 

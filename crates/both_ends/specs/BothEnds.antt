@@ -1,5 +1,5 @@
 -- What a `run` of the client shows of the sessions that answered it (own: the client and the daemon, end to end).
-use Rattle.std.specs.Prelude.{ℕ, ◌≡◌, ◌<◌, List, [], ◌∷◌, ◌++◌, Bool, true, Option, Some, None, IsTrue, map, ◌⊎◌}
+use Rattle.std.specs.Prelude.{ℕ, ◌≡◌, ◌<◌, List, [], ◌∷◌, ◌++◌, Bool, true, false, Some, None, IsTrue, map, ◌⊎◌, ⊤}
 use Rattle.std.specs.List.{AllZip}
 use Rattle.engine_text.specs.Words.{AreUtf8}
 use Rattle.engine_text.specs.declared.call.Call.{Call}
@@ -68,6 +68,18 @@ Creates ch v id =
     (spec : CreateSpec) × (body : List ℕ)
     × IsMade ch v.number v.number (Call.Create spec) v.span.from v.span.to (Replied 201 body) × (id_in body ≡ Some id)
 
+-- in it this call was made, and answered with a status below 400
+abbrev pub Does : Charter → Visit → Call → Type 0
+Does ch v call =
+    (status : ℕ) × (body : List ℕ)
+    × IsMade ch v.number v.number call v.span.from v.span.to (Replied status body) × (status < 400)
+
+-- in them the container was removed, where that was asked for
+abbrev pub Removes : Charter → Bool → List ℕ → List Visit → Type 0
+Removes ch false id [] = ⊤
+Removes ch true id (v ∷ []) = Does ch v (Call.Remove id false)
+Removes ch remove id visits = ⊥
+
 -- in it an attach gave this stream, which was followed to its end: at some history that it saw, these are the stream's
 -- records, all of them, and their frames are what was written behind the head
 pub record Follows (ch : Charter) (v : Visit) (call : Call) (spec : LogSpec) (records : List LogRecord) : Type 0 where
@@ -93,7 +105,7 @@ Takes ch v call code =
 -- Four visits, and with `--rm` one more: a container is created, started, attached to and waited for, by the id that the first
 -- one tells. What the client writes to its outputs is what the container wrote, each stream to its own, and its status is the
 -- code that the wait told.
-pub record Shows (ch : Charter) (words : List (List ℕ)) (c : NewContainer) (visits : List Visit) (answers : List Answer) : Type 0 where
+pub record Shows (ch : Charter) (words : List (List ℕ)) (c : NewContainer) (remove : Bool) (visits : List Visit) (answers : List Answer) : Type 0 where
   pub create : Visit
   pub start : Visit
   pub attach : Visit
@@ -105,8 +117,10 @@ pub record Shows (ch : Charter) (words : List (List ℕ)) (c : NewContainer) (vi
   pub records : List LogRecord
   pub code : ℕ
   pub creates : Creates ch create id
+  pub starts : Does ch start (Call.Start id)
   pub follows : Follows ch attach (Call.Attach id (both_streams c.input)) spec records
   pub takes : Takes ch wait (Call.Wait id NotRunning) code
+  pub removes : Removes ch remove id more
   pub result : client_result words None answers ≡ Some (record {
     out = payload_of Stdout (map (part_of spec) records);
     err = payload_of Stderr (map (part_of spec) records);
@@ -117,7 +131,7 @@ pub record Shows (ch : Charter) (words : List (List ℕ)) (c : NewContainer) (vi
 abbrev pub BothEnds : Type 0
 BothEnds =
     (ch : Charter) (words : List (List ℕ)) (c : NewContainer) (remove : Bool) (visits : List Visit) (answers : List Answer)
-    → AreUtf8 words → IsRun words c remove → AreServed ch words visits answers → Shows ch words c visits answers
+    → AreUtf8 words → IsRun words c remove → AreServed ch words visits answers → Shows ch words c remove visits answers
 
 -- such is each closed session that answered but one request: of the requests that it read it answered one alone, or none and wrote
 -- nothing
