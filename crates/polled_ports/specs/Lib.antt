@@ -1,0 +1,5 @@
+pub mod PollSource
+pub mod PollSink
+pub mod PollDoor
+pub mod Memory
+pub mod Adapters
