@@ -1,0 +1,148 @@
+-- What one poll of a session says. own: sessions of this project that hold no thread.
+use Rattle.std.specs.Prelude.{ℕ, suc, ◌≡◌, ◌≤◌, ◌+◌, ◌⊎◌, Bool, true, false, if◌then◌else◌, List, [], ◌∷◌, ◌++◌, length, All, None, IsTrue}
+use Rattle.engine_ports.specs.Rose.{Rose, greatest_count}
+use Rattle.engine_ports.specs.Source.{SourceGave}
+use Rattle.engine_ports.specs.Sink.{SinkTook}
+use Rattle.engine_ports.specs.Door.{Outside, outside}
+use Rattle.engine_text.specs.declared.call.Call.TheVariants.{Take, Drop}
+use Rattle.engine_text.specs.declared.reply.Reply.{Reply}
+use Rattle.engine_text.specs.declared.step.Step.{Step}
+use Rattle.machine_model.specs.History.{Charter, IsLegal, own_calls, is_own, state_after, moment_used}
+use Rattle.http_edge.specs.Message.{Request}
+use Rattle.polled_ports.specs.PollSource.{PollSourceView}
+use Rattle.polled_ports.specs.PollSink.{PollSinkView}
+use Rattle.session_model.specs.declared.ending.Ending.{Ending}
+use Rattle.session_model.specs.declared.ending.Ending.TheVariants as E
+use Rattle.session_model.specs.declared.followed.Followed.TheVariants as F
+use Rattle.session_model.specs.Exchange.{AtSome, EndsSo}
+use Rattle.session_model.specs.Moments.{ComesTo, StaysWithin}
+use Rattle.session_model.specs.Pass.{PassView, Every, Stays}
+use Rattle.session_model.specs.Progress.{AddsOwn}
+use Rattle.session_model.specs.Session.{Span}
+use Rattle.session_model.specs.Turning.{HasBegun, IsNotReady}
+use Rattle.polled_model.specs.declared.polled.Cause.{Cause}
+use Rattle.polled_model.specs.declared.polled.Polled.{Polled}
+use Rattle.polled_model.specs.declared.polled.Polled.TheVariants.{Done, Pending}
+use Rattle.polled_model.specs.Progress.{IsProgress, IsIdle, HasEnded}
+use Rattle.polled_model.specs.Stages.{Streams}
+
+-- ---- what a poll is told and what it sees
+
+-- the moment that the poll stands at, and whether the daemon stops
+pub record Told : Type 0 where
+  pub handed : ℕ
+  pub stop : Bool
+
+-- what the source and the sink tell
+pub record Ports : Type 0 where
+  pub source : PollSourceView
+  pub sink : PollSinkView
+
+-- a poll in which the daemon stops counts as a stop of a clock that tells no moments
+abbrev pub stops_after : Bool → ℕ → ℕ
+stops_after stop n = if stop then suc n else n
+
+abbrev pub outside_of : Ports → ℕ → Outside
+outside_of v stops = outside v.source.source v.sink.sink (record { moments = None; stops = stops })
+
+-- the span of a session behind a poll
+abbrev pub grown : Span → List ℕ → List ℕ → List ℕ → List Step → Bool → Ports → Span
+grown s read written moments to stop v = record {
+  read = s.read ++ read;
+  written = s.written ++ written;
+  handed = s.handed ++ moments;
+  from = s.from;
+  to = to;
+  old = s.old;
+  new = outside_of v (stops_after stop s.new.clock.stops);
+}
+
+-- ---- where its calls stand
+
+-- a call of connection k or its input, but a drop, stands at this moment, as it counts at some place since a history
+abbrev pub StandsAt : Charter → ℕ → ℕ → List Step → List Step → Step → Type 0
+StandsAt ch k m from at Step.Due = Unit {0}
+StandsAt ch k m from at (Step.Call j t (Drop n)) = Unit {0}
+StandsAt ch k m from at (Step.Call j t c) =
+    IsTrue (is_own k (Step.Call j t c)) → AtSome from at (λ place. t ≡ moment_used (state_after ch place) m)
+
+-- so do all of these steps, the first of which stands behind a history
+abbrev pub AllStandAt : Charter → ℕ → ℕ → List Step → List Step → List Step → Type 0
+AllStandAt ch k m from at [] = Unit {0}
+AllStandAt ch k m from at (x ∷ xs) = StandsAt ch k m from at x × AllStandAt ch k m from (at ++ x ∷ []) xs
+
+-- ---- what it waits for
+
+-- a ticket that the connection has begun isn't ready behind all that was due by the moment that counted at some place of the poll
+abbrev pub IsLate : Charter → ℕ → ℕ → List Step → List Step → Type 0
+IsLate ch k m a b =
+    (n : ℕ) × HasBegun ch k n b × AtSome a b (λ at. IsNotReady (state_after ch b) (moment_used (state_after ch at) m) (Take n))
+
+-- all of a stream is told and written that its connection has seen, and it isn't the stream's end
+abbrev pub IsUpToDate : Charter → ℕ → Span → Type 0
+IsUpToDate ch k s =
+    (r : Request) × (behind : List ℕ) × (reply : Reply) × (body : List ℕ) × (x : Streams ch k r behind reply body [] s)
+    × EndsSo ch reply F.Stopped body x.at s.to × ComesTo reply F.Stopped x.late
+
+-- the count rose by so many, or stands at its last value
+abbrev pub RoseBy : ℕ → ℕ → ℕ → Type 0
+RoseBy n before now = (before + n ≤ now) ⊎ (greatest_count ≤ now)
+
+-- it did as much as one poll may: 16 calls, 64 reads that gave bytes, or 64 writes that took some
+abbrev pub IsTired : ℕ → List Step → Ports → Ports → Type 0
+IsTired k own v v' =
+    (16 ≤ length (own_calls k own)) ⊎ (RoseBy 64 v.source.gave v'.source.gave ⊎ RoseBy 64 v.sink.took v'.sink.took)
+
+-- the source or the sink registered in this poll, or the task was woken
+abbrev pub PausesFor : Cause → Charter → ℕ → Told → Type 0 → List Step → List Step → Ports → Ports → Span → Type 0
+PausesFor Cause.Source ch k told woken from own v v' s =
+    Rose v.source.registered v'.source.registered × IsIdle ch k s
+PausesFor Cause.Sink ch k told woken from own v v' s = Rose v.sink.registered v'.sink.registered
+PausesFor Cause.NotYet ch k told woken from own v v' s =
+    woken × (IsLate ch k told.handed from s.to ⊎ IsUpToDate ch k s)
+PausesFor Cause.Yield ch k told woken from own v v' s = woken × IsTired k own v v'
+
+-- ---- how it ends
+
+-- a fault rose in this very poll. A stop was told in this one or in an earlier one, since the bytes of its answer may have waited
+-- for the sink: the session's own cause tells that
+abbrev pub EndsNow : Ending → Ports → Ports → Type 0
+EndsNow E.ReadFault v v' = Rose v.source.source.faults v'.source.source.faults
+EndsNow E.WriteFault v v' = Rose v.sink.sink.faults v'.sink.sink.faults
+EndsNow e v v' = Unit {0}
+
+-- ---- a poll
+
+-- what comes of a session that stood so
+abbrev pub Comes : Polled → Charter → ℕ → Told → Type 0 → (Span → Type 0) → List Step → List Step → Ports → Ports → Span → Type 0
+Comes (Done e) ch k told woken after from own v v' s =
+    ((pumps : Bool) × HasEnded ch k e pumps s) × EndsNow e v v'
+Comes (Pending cause) ch k told woken after from own v v' s =
+    after s × IsProgress ch k s × PausesFor cause ch k told woken from own v v' s
+
+-- a session of connection k was polled: it made calls of its own at the moment that it was told, read and wrote; and of
+-- whatever it had done before, this is what it has done now. Before and after say how the session itself stands
+pub record Polls (k : ℕ) (told : Told) (result : Polled) (before after : Span → Type 0) (woken : Type 0) (p q : PassView) (v v' : Ports) : Type 0 where
+  pub read : List ℕ
+  pub written : List ℕ
+  pub moments : List ℕ
+  pub own : List Step
+  pub source : SourceGave v.source.source read v'.source.source
+  pub sink : SinkTook v.sink.sink written v'.sink.sink
+  pub seen : q.seen ≡ p.seen ++ own
+  pub legal : IsLegal q.charter q.seen
+  pub stays : Stays p q
+  pub adds : p.number ≡ Every → AddsOwn k p q
+  pub at_moment : All (λ m. m ≡ told.handed) moments
+  pub stand : AllStandAt p.charter k told.handed p.seen p.seen own
+  pub within : IsTrue p.alone → StaysWithin p.charter p.seen q.seen (told.handed ∷ [])
+  pub comes : (s : Span) → s.to ≡ p.seen → before s
+      → Comes result p.charter k told woken after p.seen own v v' (grown s read written moments q.seen told.stop v')
+
+-- a poll that isn't done leaves a session on its way, of whatever it did before that is told of it
+abbrev pub law_pauses : Type 0
+law_pauses =
+    (k : ℕ) (told : Told) (cause : Cause) (p q : PassView) (v v' : Ports)
+    (x : Polls k told (Pending cause) (IsProgress p.charter k) (IsProgress p.charter k) (Unit {0}) p q v v') (s : Span)
+    → s.to ≡ p.seen → IsProgress p.charter k s
+    → IsProgress p.charter k (grown s x.read x.written x.moments q.seen told.stop v')
