@@ -88,10 +88,11 @@ IsUpToDate ch k s =
 abbrev pub RoseBy : ℕ → ℕ → ℕ → Type 0
 RoseBy n before now = (before + n ≤ now) ⊎ (greatest_count ≤ now)
 
--- it did as much as one poll may: 16 calls, 64 reads that gave bytes, or 64 writes that took some
-abbrev pub IsTired : ℕ → List Step → Ports → Ports → Type 0
-IsTired k own v v' =
-    (16 ≤ length (own_calls k own)) ⊎ (RoseBy 64 v.source.gave v'.source.gave ⊎ RoseBy 64 v.sink.took v'.sink.took)
+-- it did as much as one poll may: 16 calls, and one more is wanted; 64 reads that gave bytes; or 64 writes that took some
+abbrev pub IsTired : Charter → ℕ → List Step → Ports → Ports → Span → Type 0
+IsTired ch k own v v' s =
+    ((16 ≤ length (own_calls k own)) × (IsIdle ch k s → ⊥))
+    ⊎ (RoseBy 64 v.source.gave v'.source.gave ⊎ RoseBy 64 v.sink.took v'.sink.took)
 
 -- the source or the sink registered in this poll, or the task was woken
 abbrev pub PausesFor : Cause → Charter → ℕ → Told → Type 0 → List Step → List Step → Ports → Ports → Span → Type 0
@@ -100,7 +101,7 @@ PausesFor Cause.Source ch k told woken from own v v' s =
 PausesFor Cause.Sink ch k told woken from own v v' s = Rose v.sink.registered v'.sink.registered
 PausesFor Cause.NotYet ch k told woken from own v v' s =
     woken × (IsLate ch k told.handed from s.to ⊎ IsUpToDate ch k s)
-PausesFor Cause.Yield ch k told woken from own v v' s = woken × IsTired k own v v'
+PausesFor Cause.Yield ch k told woken from own v v' s = woken × IsTired ch k own v v' s
 
 -- ---- how it ends
 
