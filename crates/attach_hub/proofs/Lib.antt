@@ -14,4 +14,5 @@ pub mod OpenLemmas
 pub mod AttachLemmas
 pub mod HearLemmas
 pub mod PumpLemmas
+pub mod OverLemmas
 pub mod SideLemmas

@@ -1,6 +1,7 @@
 -- Both sides of a takeover, one after the other and side by side.
-use Rattle.std.proofs.Common.{◌≡◌, ◌+◌, ℕ, Bool, List, [], ◌∷◌, ◌++◌, inl, refl, sym, ◌∙◌, ap, subst, append-nil, arith, false, if◌then◌else◌, Some, max}
+use Rattle.std.proofs.Common.{◌≡◌, ◌+◌, ℕ, Bool, List, [], ◌∷◌, ◌++◌, inl, refl, sym, ◌∙◌, ap, subst, append-nil, arith, false, if◌then◌else◌, Some, None, max}
 use Rattle.std.specs.Prelude.{IsTrue}
+use Rattle.std.proofs.lemmas.Bool.{false≢true}
 use Rattle.engine_ports.specs.Rose.{Rose}
 use Rattle.engine_ports.specs.Source.{SourceView}
 use Rattle.engine_ports.specs.Sink.{SinkTook, SinkView}
@@ -10,21 +11,22 @@ use Rattle.engine_ports.proofs.PortLemmas.{rose_since, rose_until, sink_on}
 use Rattle.engine_text.specs.declared.reply.LogSpec.{LogSpec}
 use Rattle.engine_text.specs.declared.reply.Reply.TheVariants.{LogStream}
 use Rattle.engine_text.specs.declared.step.Step.{Step}
-use Rattle.machine_model.specs.History.{Charter, Extends, IsLegal, calls_of, input_of, state_after}
+use Rattle.machine_model.specs.History.{Charter, Extends, calls_of, input_of, state_after}
 use Rattle.session_model.specs.declared.followed.Followed.{Followed}
 use Rattle.session_model.specs.declared.followed.Followed.TheVariants as F
 use Rattle.session_model.specs.declared.followed.PumpEnd.{PumpEnd}
 use Rattle.session_model.specs.declared.followed.PumpEnd.TheVariants as P
 use Rattle.session_model.specs.Pass.{Every, HasItsCalls, Only, PassView, Stays}
-use Rattle.session_model.specs.Exchange.{AtSome, EndsSo, Feeds, IsBody, IsQuiet, Pumps, PumpsOut}
+use Rattle.session_model.specs.Exchange.{AtSome, EndsSo, Feeds, IsBody, IsQuiet, Leaves, Pumps, PumpsOut}
 use Rattle.session_model.specs.Moments.{ComesTo}
-use Rattle.session_model.specs.Session.{PumpCause}
+use Rattle.session_model.specs.Session.{Cause, PumpCause}
 use Rattle.session_model.proofs.AddsLemmas.{input_owns, owns, owns_on}
 use Rattle.session_model.proofs.HistoryLemmas.{extends_on, extends_same, made_before, made_behind, quiet_on, quiet_same}
 use Rattle.daemon_core.specs.Pairing.{IsOther, IsUndivided, Parted, Rejoined}
 use Rattle.attach_hub.specs.Following.{CanFollow, FollowsFrom, FollowsSince, HasCause, IsStill, IsTaken, MayFollow}
 use Rattle.attach_hub.specs.Pumping.{PumpsInput}
-use Rattle.attach_hub.specs.Sides.{Paired}
+use Rattle.attach_hub.specs.Sides.{RunsOver}
+use Rattle.attach_hub.proofs.OverLemmas.{cause_of, told_so}
 use Rattle.attach_hub.proofs.StillLemmas.{quiet_both, still_alone, still_between}
 
 -- ---- what was said between two histories stands between longer ones
@@ -91,7 +93,19 @@ follow_cause (F.Lagged next first) u u' v mine twin cause = tt
 follow_cause F.WriteFault u u' v mine twin cause = cause
 follow_cause F.NoMemory u u' v mine twin cause = tt
 
+-- what rose in both, by the clock that the twin was taken in by
+causes : (end : PumpEnd) (f : Followed) (s s' : SourceView) (u u' : SinkView) (v t mine twin w : ClockView) → t ≡ twin_of v → w ≡ rejoined mine twin
+    → PumpCause (Some end) (outside s u t) (outside s' u' twin) → HasCause f u u' v mine → Cause (Leaves f (Some end)) (outside s u v) (outside s' u' w)
+causes end f s s' u u' v t mine twin w at is pump follow = (
+  cause_of f s s' u u' v w (subst (HasCause f u u' v) (sym is) (follow_cause f u u' v mine twin follow)),
+  subst (λ x. PumpCause (Some end) (outside s u v) (outside s' u' x)) (sym is)
+      (pump_cause end s s' u u' v mine twin (subst (λ x. PumpCause (Some end) (outside s u x) (outside s' u' twin)) at pump)),
+)
+
 -- ---- of who takes all turns, the pump and then the follower
+
+some_pumped : (end : PumpEnd) → Some end ≡ None → ⊥
+some_pumped end h = cc
 
 only_some : (k : ℕ) → Only k ≡ Every → ⊥
 only_some k h = cc
@@ -101,10 +115,10 @@ not_input k is = omega (arith, is)
 
 pub one_by_one : (k : ℕ) (spec : LogSpec) (end : PumpEnd) (f : Followed) (p0 p q r : PassView) (ahead : List ℕ) (s s' : SourceView) (u u' : SinkView)
     (v t mine twin w : ClockView) → IsTrue p0.pair → MayFollow (state_after p0.charter p0.seen) spec → IsUndivided p0 p → HasItsCalls p → HasItsCalls q
-    → IsLegal r.charter r.seen → t ≡ twin_of v → w ≡ rejoined mine twin
-    → PumpsInput k spec end p q ahead s s' t twin → FollowsSince k (LogStream spec) false f q r u u' v mine → Paired k spec end f p0 r ahead s s' u u' v w
-one_by_one k spec end f p0 p q r ahead s s' u u' v t mine twin w pair may alone its its' legal at is pumped since =
-    subst (λ x. Paired k spec end f x r ahead s s' u u' v w) alone.same (
+    → t ≡ twin_of v → w ≡ rejoined mine twin
+    → PumpsInput k spec end p q ahead s s' t twin → FollowsSince k (LogStream spec) false f q r u u' v mine → RunsOver k spec f (Some end) p0 r ahead (outside s u v) (outside s' u' w)
+one_by_one k spec end f p0 p q r ahead s s' u u' v t mine twin w pair may alone its its' at is pumped since =
+    subst (λ x. RunsOver k spec f (Some end) x r ahead (outside s u v) (outside s' u' w)) alone.same (
     let pair' : IsTrue p.pair = subst (λ (x : PassView). IsTrue x.pair) (sym alone.same) pair in
     let every : p.number ≡ Every = ap (λ (x : PassView). x.number) alone.same ∙ alone.every in
     let stays = pumped.moves.stays in
@@ -114,15 +128,16 @@ one_by_one k spec end f p0 p q r ahead s s' u u' v t mine twin w pair may alone 
     let quiet = followed.quiet (stays.pair ∙ pair') in
     let behind = followed.moves.extends in
     record {
-      read = pumped.read;
-      source = pumped.source;
-      pumps = pumps_between p.charter k spec end (ahead ++ pumped.read) p.seen p.seen q.seen r.seen (quiet_same k p.seen) quiet (extends_same p.seen) behind (pumped.says still);
-      still = followed.still ∙ still;
-      whole = followed.whole;
-      by_end = followed.by_end;
       body = followed.body;
       part = followed.part;
-      tells = subst (λ ch. IsBody ch (LogStream spec) followed.whole p.seen r.seen followed.body) stays.charter followed.tells;
+      pumps = record {
+        read = pumped.read;
+        gave = pumped.source;
+        holds = pumps_between p.charter k spec end (ahead ++ pumped.read) p.seen p.seen q.seen r.seen (quiet_same k p.seen) quiet (extends_same p.seen) behind (pumped.says still);
+      };
+      unread = λ e. absurd (some_pumped end e);
+      tells = told_so f followed.whole p.charter spec p.seen r.seen followed.body followed.by_end
+          (subst (λ ch. IsBody ch (LogStream spec) followed.whole p.seen r.seen followed.body) stays.charter followed.tells);
       ends = (
         r.seen,
         extends_on p.seen q.seen r.seen pumped.moves.extends behind,
@@ -131,23 +146,24 @@ one_by_one k spec end f p0 p q r ahead s s' u u' v t mine twin w pair may alone 
       );
       taken = subst (IsTaken f followed.part) followed.pieces followed.taken;
       sink = followed.sink;
-      handed = followed.moves.handed;
-      clock = subst (ClockHanded v followed.moves.handed) (sym is) (handed_both v mine twin followed.moves.handed followed.moves.clock);
-      pump_cause = subst (λ x. PumpCause (Some end) (outside s u v) (outside s' u' x)) (sym is)
-          (pump_cause end s s' u u' v mine twin (subst (λ x. PumpCause (Some end) (outside s u x) (outside s' u' twin)) at (pumped.cause u u')));
-      follow_cause = subst (HasCause f u u' v) (sym is) (follow_cause f u u' v mine twin followed.cause);
-      extends = extends_on p.seen q.seen r.seen pumped.moves.extends behind;
-      legal = legal;
-      same = record {
-        joined_calls = refl;
-        number = followed.moves.stays.number ∙ stays.number;
-        pair = refl;
-        charter = followed.moves.stays.charter ∙ stays.charter;
-        alone = followed.moves.stays.alone ∙ stays.alone;
-        home = followed.moves.stays.home ∙ stays.home;
+      cause = causes end f s s' u u' v t mine twin w at is (pumped.cause u u') followed.cause;
+      goes = record {
+        handed = followed.moves.handed;
+        clock = subst (ClockHanded v followed.moves.handed) (sym is) (handed_both v mine twin followed.moves.handed followed.moves.clock);
+        extends = extends_on p.seen q.seen r.seen pumped.moves.extends behind;
+        same = record {
+          joined_calls = refl;
+          number = followed.moves.stays.number ∙ stays.number;
+          pair = refl;
+          charter = followed.moves.stays.charter ∙ stays.charter;
+          alone = followed.moves.stays.alone ∙ stays.alone;
+          home = followed.moves.stays.home ∙ stays.home;
+        };
+        adds = λ h. owns_on k p q r (input_owns k p q pumped.moves.adds) (owns k q r followed.moves.adds);
+        stays = λ b. absurd (false≢true (sym b));
+        input = λ others. inl (followed.moves.stays.pair ∙ stays.pair ∙ pair');
+        within = λ h b. absurd (false≢true (sym b));
       };
-      adds = λ h. owns_on k p q r (input_owns k p q pumped.moves.adds) (owns k q r followed.moves.adds);
-      input = λ others. inl (followed.moves.stays.pair ∙ stays.pair ∙ pair');
     }
     )
 
@@ -172,7 +188,7 @@ is_other k spec end f p q q2 o o2 ahead s s' u u' v t mine twin may parted pumpe
 
 pub side_by_side : (k : ℕ) (spec : LogSpec) (end : PumpEnd) (f : Followed) (p q o q2 o2 r : PassView) (ahead : List ℕ) (s s' : SourceView) (u u' : SinkView)
     (v t mine twin w : ClockView) → MayFollow (state_after p.charter p.seen) spec → Parted k p q o → Rejoined k q2 o2 r → t ≡ twin_of v → w ≡ rejoined mine twin
-    → PumpsInput k spec end o o2 ahead s s' t twin → FollowsSince k (LogStream spec) false f q q2 u u' v mine → Paired k spec end f p r ahead s s' u u' v w
+    → PumpsInput k spec end o o2 ahead s s' t twin → FollowsSince k (LogStream spec) false f q q2 u u' v mine → RunsOver k spec f (Some end) p r ahead (outside s u v) (outside s' u' w)
 side_by_side k spec end f p q o q2 o2 r ahead s s' u u' v t mine twin w may parted joined at is pumped since =
     let charter : q.charter ≡ p.charter = parted.same.charter in
     let followed = since.since p.seen parted.behind (subst (λ ch. CanFollow ch p.seen (LogStream spec)) (sym charter) may) in
@@ -187,18 +203,19 @@ side_by_side k spec end f p q o q2 o2 r ahead s s' u u' v t mine twin w may part
     let middle = still_between k p.seen o.seen o2.seen begun o_on last.0 in
     let fresh : IsStill (input_of k) p.seen o.seen = parted.fresh ∙ sym parted.before in
     record {
-      read = pumped.read;
-      source = pumped.source;
-      pumps = pumps_between p.charter k spec end (ahead ++ pumped.read) p.seen o.seen o2.seen r.seen
-          (quiet_both k p.seen o.seen begun still_begun fresh) (quiet_both k o2.seen r.seen joined.theirs last.1 joined.input_calls) begun joined.theirs
-          (subst (λ ch. Pumps ch k spec (ahead ++ pumped.read) (Some end) o.seen o2.seen) charter' (pumped.says middle.1));
-      still = still;
-      whole = followed.whole;
-      by_end = followed.by_end;
       body = followed.body;
       part = followed.part;
-      tells = body_before p.charter spec followed.whole p.seen q2.seen r.seen followed.body joined.mine
-          (subst (λ ch. IsBody ch (LogStream spec) followed.whole p.seen q2.seen followed.body) charter followed.tells);
+      pumps = record {
+        read = pumped.read;
+        gave = pumped.source;
+        holds = pumps_between p.charter k spec end (ahead ++ pumped.read) p.seen o.seen o2.seen r.seen
+            (quiet_both k p.seen o.seen begun still_begun fresh) (quiet_both k o2.seen r.seen joined.theirs last.1 joined.input_calls) begun joined.theirs
+            (subst (λ ch. Pumps ch k spec (ahead ++ pumped.read) (Some end) o.seen o2.seen) charter' (pumped.says middle.1));
+      };
+      unread = λ e. absurd (some_pumped end e);
+      tells = told_so f followed.whole p.charter spec p.seen r.seen followed.body followed.by_end
+          (body_before p.charter spec followed.whole p.seen q2.seen r.seen followed.body joined.mine
+          (subst (λ ch. IsBody ch (LogStream spec) followed.whole p.seen q2.seen followed.body) charter followed.tells));
       ends = (
         q2.seen,
         extends_on p.seen q.seen q2.seen parted.behind q_on,
@@ -207,23 +224,24 @@ side_by_side k spec end f p q o q2 o2 r ahead s s' u u' v t mine twin w may part
       );
       taken = subst (IsTaken f followed.part) followed.pieces followed.taken;
       sink = followed.sink;
-      handed = followed.moves.handed;
-      clock = subst (ClockHanded v followed.moves.handed) (sym is) (handed_both v mine twin followed.moves.handed followed.moves.clock);
-      pump_cause = subst (λ x. PumpCause (Some end) (outside s u v) (outside s' u' x)) (sym is)
-          (pump_cause end s s' u u' v mine twin (subst (λ x. PumpCause (Some end) (outside s u x) (outside s' u' twin)) at (pumped.cause u u')));
-      follow_cause = subst (HasCause f u u' v) (sym is) (follow_cause f u u' v mine twin followed.cause);
-      extends = extends_on p.seen q.seen r.seen parted.behind (extends_on q.seen q2.seen r.seen q_on joined.mine);
-      legal = joined.legal;
-      same = record {
-        joined_calls = refl;
-        number = joined.same.number ∙ followed.moves.stays.number ∙ parted.same.number;
-        pair = refl;
-        charter = joined.same.charter ∙ followed.moves.stays.charter ∙ charter;
-        alone = joined.same.alone ∙ followed.moves.stays.alone ∙ parted.same.alone;
-        home = joined.same.home ∙ followed.moves.stays.home ∙ parted.same.home;
+      cause = causes end f s s' u u' v t mine twin w at is (pumped.cause u u') followed.cause;
+      goes = record {
+        handed = followed.moves.handed;
+        clock = subst (ClockHanded v followed.moves.handed) (sym is) (handed_both v mine twin followed.moves.handed followed.moves.clock);
+        extends = extends_on p.seen q.seen r.seen parted.behind (extends_on q.seen q2.seen r.seen q_on joined.mine);
+        same = record {
+          joined_calls = refl;
+          number = joined.same.number ∙ followed.moves.stays.number ∙ parted.same.number;
+          pair = refl;
+          charter = joined.same.charter ∙ followed.moves.stays.charter ∙ charter;
+          alone = joined.same.alone ∙ followed.moves.stays.alone ∙ parted.same.alone;
+          home = joined.same.home ∙ followed.moves.stays.home ∙ parted.same.home;
+        };
+        adds = λ every. absurd (only_some k (sym parted.number ∙ every));
+        stays = λ b. absurd (false≢true (sym b));
+        input = λ others. joined.keeps;
+        within = λ h b. absurd (false≢true (sym b));
       };
-      adds = λ every. absurd (only_some k (sym parted.number ∙ every));
-      input = λ others. joined.keeps;
     }
 
 -- ---- the end of writing

@@ -8,6 +8,5 @@ mod sides;
 mod tickets;
 
 pub use following::{follow_events, follow_journal, follow_log};
-pub use pumping::pump_stdin;
-pub use sides::{both, follow_whole};
+pub use sides::take_over;
 pub use tickets::{await_ticket, drop_ticket};

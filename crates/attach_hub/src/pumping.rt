@@ -212,10 +212,10 @@ fn new_place(alloc: Global) -> Result<Vec<u8>, NoMemory>
     Ok(place)
 }
 
-/// Pumps the connection's standard input to the run that the stream's `feed` names, by turns of the number of the input: each piece
-/// that is read, of at most 32,768 bytes, is one feed, and the end of the input is told. Where a piece isn't taken the run has
-/// ended or its owner is gone. It may wait.
-pub fn pump_stdin<W: Wait, T: Turns, S: Source, C: Clock>(
+// Pumps the connection's standard input to the run that the stream's `feed` names, by turns of the number of the input: each piece
+// that is read, of at most 32,768 bytes, is one feed, and the end of the input is told. Where a piece isn't taken the run has
+// ended or its owner is gone.
+pub(crate) fn pump_stdin<W: Wait, T: Turns, S: Source, C: Clock>(
     rt: &W,
     turns: &mut T,
     alloc: Global,

@@ -1,10 +1,11 @@
-// Both sides of a takeover: its input is pumped while its stream is followed.
-ghost use Rattle.std.specs.Prelude.{◌≡◌, ◌≤◌, IsSome, IsSomeAnd, IsTrue, false};
+// A takeover behind its head: its stream is followed, while its input is pumped, if it is fed.
+ghost use Rattle.std.specs.Prelude.{◌≡◌, ◌≤◌, IsSome, IsSomeAnd, IsTrue, Some, false};
+ghost use Rattle.engine_ports.specs.Door.{outside};
 ghost use Rattle.engine_text.specs.declared.reply.Reply.TheVariants.{LogStream};
 ghost use Rattle.machine_model.specs.History.{input_of, state_after};
 ghost use Rattle.session_model.specs.Pass.{IsConnection, IsNumber};
-ghost use Rattle.attach_hub.specs.Sides.{Paired};
-ghost use Rattle.attach_hub.specs.Following.{Follows, FollowsSince, MayFollow};
+ghost use Rattle.attach_hub.specs.Sides.{RunsOver};
+ghost use Rattle.attach_hub.specs.Following.{FollowsSince, MayFollow};
 ghost use Rattle.attach_hub.specs.Pumping.{PumpsInput};
 
 use crate::following::{Stream, follow};
@@ -45,27 +46,7 @@ fn follow_since<W: Wait, T: Turns, K: Sink, C: Clock>(
     }
 }
 
-/// Writes the stream of a log as it is, until it is whole, and tells the peer its end then. It may wait.
-pub fn follow_whole<W: Wait, T: Turns, K: Sink, C: Clock>(
-    rt: &W,
-    turns: &mut T,
-    alloc: Global,
-    conn: u32,
-    spec: &LogSpec,
-    sink: &mut K,
-    clock: &mut C,
-) -> Followed
-    requires number { IsNumber (T.pass turns.old).number conn }
-    requires may { MayFollow (state_after (T.pass turns.old).charter (T.pass turns.old).seen)
-        spec.now }
-    ensures { Follows conn (LogStream spec.now) false result
-        (T.pass turns.old) (T.pass turns.new) (K.takes sink.old) (K.takes sink.new)
-        (C.times clock.old) (C.times clock.new) }
-{
-    follow_since(rt, turns, alloc, conn, spec, sink, clock)
-}
-
-/// Both sides in two threads, each with turns of its own.
+// Both sides in two threads, each with turns of its own.
 fn side_by_side<R: Threads + Wait + Sync, T: Turns + Send, U: Turns, S: Source, K: Sink, C: Clock>(
     rt: &R,
     theirs: &mut T,
@@ -101,9 +82,9 @@ fn side_by_side<R: Threads + Wait + Sync, T: Turns + Send, U: Turns, S: Source, 
     join_mut(rt, &mut one, &mut two)
 }
 
-/// Pumps the connection's standard input while its stream is followed, in two threads; who takes all turns does one after the
-/// other. The pump has a twin of the clock. It may wait.
-pub fn both<R: Threads + Wait + Sync, T: Pairs, S: Source, K: Sink, C: Clock>(
+// Pumps the connection's standard input while its stream is followed, in two threads; who takes all turns does one after the
+// other. The pump has a twin of the clock.
+fn both<R: Threads + Wait + Sync, T: Pairs, S: Source, K: Sink, C: Clock>(
     rt: &R,
     turns: &mut T,
     alloc: Global,
@@ -120,10 +101,10 @@ pub fn both<R: Threads + Wait + Sync, T: Pairs, S: Source, K: Sink, C: Clock>(
     requires input { IsSome spec.now.feed }
     requires may { MayFollow (state_after (T.pass turns.old).charter (T.pass turns.old).seen)
         spec.now }
-    ensures { Paired conn spec.now result.0 result.1 (T.pass turns.old) (T.pass turns.new)
-        reader.old.ahead (S.gives source.old) (S.gives source.new)
-        (K.takes sink.old) (K.takes sink.new)
-        (C.times clock.old) (C.times clock.new) }
+    ensures { RunsOver conn spec.now result.1 (Some result.0)
+        (T.pass turns.old) (T.pass turns.new) reader.old.ahead
+        (outside (S.gives source.old) (K.takes sink.old) (C.times clock.old))
+        (outside (S.gives source.new) (K.takes sink.new) (C.times clock.new)) }
 {
     let mut twin = clock.twin();
     match turns.part(alloc, conn) {
@@ -140,6 +121,42 @@ pub fn both<R: Threads + Wait + Sync, T: Pairs, S: Source, K: Sink, C: Clock>(
             let followed = follow_since(rt, turns, alloc, conn, spec, sink, clock);
             clock.rejoin(twin);
             (end, followed)
+        }
+    }
+}
+
+/// Follows the stream of a log as it is, and tells the peer its end as soon as it is whole. Where the
+/// stream's run takes input, the connection's standard input is pumped to it meanwhile: what was read
+/// ahead, and what the source gives. It may wait.
+pub fn take_over<R: Threads + Wait + Sync, T: Pairs, S: Source, K: Sink, C: Clock>(
+    rt: &R,
+    turns: &mut T,
+    alloc: Global,
+    conn: u32,
+    spec: &LogSpec,
+    reader: &mut RequestReader,
+    source: &mut S,
+    sink: &mut K,
+    clock: &mut C,
+) -> (Followed, Option<PumpEnd>)
+    requires connection { IsConnection conn }
+    requires number { IsNumber (T.pass turns.old).number conn }
+    requires pair { IsTrue (T.pass turns.old).pair }
+    requires may { MayFollow (state_after (T.pass turns.old).charter (T.pass turns.old).seen)
+        spec.now }
+    ensures { RunsOver conn spec.now result.0 result.1 (T.pass turns.old) (T.pass turns.new)
+        reader.old.ahead
+        (outside (S.gives source.old) (K.takes sink.old) (C.times clock.old))
+        (outside (S.gives source.new) (K.takes sink.new) (C.times clock.new)) }
+{
+    match spec.feed {
+        None => {
+            let followed = follow_since(rt, turns, alloc, conn, spec, sink, clock);
+            (followed, None)
+        }
+        Some(_) => {
+            let (end, followed) = both(rt, turns, alloc, conn, spec, reader, source, sink, clock);
+            (followed, Some(end))
         }
     }
 }

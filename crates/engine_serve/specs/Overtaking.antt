@@ -1,7 +1,7 @@
 -- A connection that is taken over by a log's stream (Docker Engine API v1.43, ContainerAttach and ExecStart; own: what is written, and
 -- how the session ends).
-use Rattle.std.specs.Prelude.{ℕ, ◌≡◌, ◌⊎◌, Bool, false, List, [], ◌∷◌, ◌++◌, Option, Some, None, IsTrue, IsFalse}
-use Rattle.engine_ports.specs.Clock.{ClockView, ClockHanded}
+use Rattle.std.specs.Prelude.{ℕ, ◌≡◌, ◌⊎◌, Bool, false, List, [], ◌∷◌, ◌++◌, Option, Some, None}
+use Rattle.engine_ports.specs.Clock.{ClockView}
 use Rattle.engine_ports.specs.Door.{Outside}
 use Rattle.engine_ports.specs.Sink.{SinkView, SinkTook}
 use Rattle.engine_text.specs.declared.call.Call.{Call}
@@ -10,7 +10,7 @@ use Rattle.engine_text.specs.declared.reply.LogSpec.{LogSpec}
 use Rattle.engine_text.specs.declared.reply.Reply.{Reply}
 use Rattle.engine_text.specs.declared.reply.Reply.TheVariants.{LogStream}
 use Rattle.engine_text.specs.declared.step.Step.{Step}
-use Rattle.machine_model.specs.History.{Charter, Extends, state_after}
+use Rattle.machine_model.specs.History.{Charter, state_after}
 use Rattle.http_edge.specs.Message.{Request}
 use Rattle.http_edge.specs.Reading.{Reached}
 use Rattle.api_routes.specs.Class.{class_of}
@@ -21,12 +21,12 @@ use Rattle.session_model.specs.declared.followed.Followed.{Followed}
 use Rattle.session_model.specs.declared.followed.Followed.TheVariants as F
 use Rattle.session_model.specs.declared.followed.PumpEnd.{PumpEnd}
 use Rattle.session_model.specs.Exchange.{Flow, Leaves, AtLast, IsBody, IsMadeAt, EndsSo, Pumps, is_whole}
-use Rattle.session_model.specs.Moments.{StaysWithin}
-use Rattle.session_model.specs.Pass.{PassView, Every, Stays, KeepsInput}
-use Rattle.session_model.specs.Progress.{AddsOwn, Moves}
+use Rattle.session_model.specs.Pass.{PassView}
+use Rattle.session_model.specs.Progress.{Moves}
 use Rattle.session_model.specs.Responses.{takeover_head}
 use Rattle.session_model.specs.Session.{Cause, IsWritten, is_pumped}
-use Rattle.attach_hub.specs.Following.{IsTaken, MayFollow}
+use Rattle.attach_hub.specs.Following.{MayFollow}
+use Rattle.attach_hub.specs.Sides.{GoesOver}
 use Rattle.engine_serve.specs.declared.went.Tried.{Tried}
 use Rattle.engine_serve.specs.Serving.{Tries}
 
@@ -59,31 +59,6 @@ TriesSo k r (Tried.Answered went) p q u u' v v' = Tries k r went p q u u' v v'
 TriesSo k r (Tried.Over upgrade spec) p q u u' v v' = OpensOver k r upgrade spec p q v v' × (u' ≡ u)
 
 -- ---- a connection is taken over
-
--- the pass went on, and the clock handed these moments meanwhile. The number of its input may be given away only
--- where input is pumped, and then the calls of that are joined in
-pub record GoesOver (k : ℕ) (pumped : Bool) (p q : PassView) (v v' : ClockView) : Type 0 where
-  pub handed : List ℕ
-  pub clock : ClockHanded v handed v'
-  pub extends : Extends p.seen q.seen
-  pub same : Stays (record p { joined_calls = q.joined_calls; pair = q.pair }) q
-  pub adds : p.number ≡ Every → AddsOwn k p q
-  pub stays : IsFalse pumped → Stays p q
-  pub input : IsFalse q.alone → KeepsInput k q
-  pub within : IsTrue p.alone → IsFalse pumped → StaysWithin p.charter p.seen q.seen handed
-
--- behind the head the stream was followed, and what came behind the request was pumped, if input is fed: a body, of which a
--- write failed or not, beside what else the pass and the outside tell
-pub record RunsOver (k : ℕ) (spec : LogSpec) (f : Followed) (end : Option PumpEnd) (p q : PassView) (ahead : List ℕ) (o o' : Outside) : Type 0 where
-  pub body : List ℕ
-  pub part : List ℕ
-  pub pumps : Reached ahead o.source o'.source (λ behind. Pumps p.charter k spec behind end p.seen q.seen)
-  pub tells : IsBody p.charter (LogStream spec) (is_whole f) p.seen q.seen body
-  pub ends : AtLast end p.seen q.seen (EndsSo p.charter (LogStream spec) f body p.seen)
-  pub taken : IsTaken f part body
-  pub sink : SinkTook o.sink part o'.sink
-  pub cause : Cause (Leaves f end) o o'
-  pub goes : GoesOver k (is_pumped (Leaves f end)) p q o.clock o'.clock
 
 -- of the bytes behind the request: the head, of which a write failed; or the head and a body that was followed, while the
 -- bytes were pumped, where input is fed

@@ -16,7 +16,7 @@ ghost use Rattle.engine_serve.specs.Overtaking.{IsAttaching, Overtakes, TriesSo,
 use crate::answer::{send_journal_full, send_out_of_memory, send_reply};
 use crate::streaming::ending_of;
 use crate::went::Tried;
-use attach_hub::{both, follow_whole};
+use attach_hub::take_over;
 use daemon_core::{Pairs, Turns};
 use engine_ports::{Clock, Failed, Sink, Source};
 use engine_text::{Call, LogSpec, Reply};
@@ -112,17 +112,11 @@ pub(crate) fn overtake<R: Threads + Wait + Sync, T: Pairs, S: Source, K: Sink, C
 {
     match write_takeover(sink, upgrade) {
         Err(Failed) => Ending::WriteFault,
-        Ok(()) => match spec.feed {
-            None => {
-                let followed = follow_whole(rt, turns, alloc, conn, spec, sink, clock);
-                ending_of(followed, None)
-            }
-            Some(_) => {
-                let (end, followed) = both(
-                    rt, turns, alloc, conn, spec, reader, source, sink, clock,
-                );
-                ending_of(followed, Some(end))
-            }
-        },
+        Ok(()) => {
+            let (followed, pumped) = take_over(
+                rt, turns, alloc, conn, spec, reader, source, sink, clock,
+            );
+            ending_of(followed, pumped)
+        }
     }
 }

@@ -5,7 +5,7 @@ pub returns-in-None : goal.returns-in-None
 returns-in-None g c =
     let its = g.met.T.Turns.counted in
     one_by_one c.args.conn c.args.spec.now c.pump_stdin-end.result c.follow_since-followed.result _ _ _ _ _ _ _ _ _ _ _ _ _ _
-    c.requires.pair c.requires.may c.in-None.ensures.none (its c.part.new.self) (its c.pump_stdin-end.new.turns) (g.met.T.Turns.sound c.follow_since-followed.new.turns)
+    c.requires.pair c.requires.may c.in-None.ensures.none (its c.part.new.self) (its c.pump_stdin-end.new.turns)
     c.twin-twin.ensures c.rejoin-in-None.ensures c.pump_stdin-end.ensures c.follow_since-followed.ensures
 
 pub returns-in-Some : goal.returns-in-Some

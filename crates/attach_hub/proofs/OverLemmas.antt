@@ -1,7 +1,6 @@
--- A log's stream that takes its connection over, alone or beside the pump of its input.
-use Rattle.std.proofs.Common.{◌≡◌, inl, ℕ, List, [], append-nil, sym, ◌∙◌, ap, subst, Bool, true, false, length, Some, None}
+-- A log's stream that takes its connection over: its body, what rose outside, and where nothing is pumped.
+use Rattle.std.proofs.Common.{◌≡◌, inl, refl, ℕ, List, [], append-nil, sym, ◌∙◌, ap, subst, Bool, true, false, length, None}
 use Rattle.std.specs.Prelude.{IsTrue, unwrap_or}
-use Rattle.std.proofs.lemmas.Bool.{false≢true}
 use Rattle.engine_ports.specs.Clock.{ClockView}
 use Rattle.engine_ports.specs.Door.{outside}
 use Rattle.engine_ports.specs.Sink.{SinkView}
@@ -15,16 +14,15 @@ use Rattle.machine_model.specs.LogStream.{IsLogStream, log_bytes, log_of, log_re
 use Rattle.machine_model.specs.State.{State}
 use Rattle.session_model.specs.declared.followed.Followed.{Followed}
 use Rattle.session_model.specs.declared.followed.Followed.TheVariants as F
-use Rattle.session_model.specs.declared.followed.PumpEnd.{PumpEnd}
 use Rattle.session_model.specs.Exchange.{IsBody, is_whole}
 use Rattle.session_model.specs.Pass.{PassView}
 use Rattle.session_model.specs.Progress.{Moves}
 use Rattle.session_model.specs.Session.{FollowCause}
 use Rattle.session_model.proofs.AddsLemmas.{owns}
+use Rattle.session_model.proofs.HistoryLemmas.{extends_same}
 use Rattle.session_model.proofs.TurnLemmas.{same_pass}
-use Rattle.attach_hub.specs.Following.{Follows, HasCause, IsTaken, IsWholeBy}
-use Rattle.attach_hub.specs.Sides.{Paired}
-use Rattle.engine_serve.specs.Overtaking.{GoesOver, RunsOver}
+use Rattle.attach_hub.specs.Following.{FollowsSince, HasCause, IsTaken, IsWholeBy, MayFollow}
+use Rattle.attach_hub.specs.Sides.{GoesOver, RunsOver}
 
 -- ---- its body
 
@@ -40,7 +38,7 @@ begins_so true ch spec a b body (at, first, last, is) = (at, first, last, unfini
 begins_so false ch spec a b body tells = tells
 
 -- it is whole where the stream was
-told_so : (f : Followed) (whole : Bool) (ch : Charter) (spec : LogSpec) (a b : List Step) (body : List ℕ) → IsWholeBy f whole
+pub told_so : (f : Followed) (whole : Bool) (ch : Charter) (spec : LogSpec) (a b : List Step) (body : List ℕ) → IsWholeBy f whole
     → IsBody ch (LogStream spec) whole a b body → IsBody ch (LogStream spec) (is_whole f) a b body
 told_so F.Whole whole ch spec a b body is tells = subst (λ x. IsBody ch (LogStream spec) x a b body) is tells
 told_so F.Stopped whole ch spec a b body is tells = subst (λ x. IsBody ch (LogStream spec) x a b body) is tells
@@ -49,13 +47,13 @@ told_so F.NoMemory whole ch spec a b body is tells = subst (λ x. IsBody ch (Log
 told_so F.WriteFault whole ch spec a b body is tells = begins_so whole ch spec a b body tells
 
 -- what rose outside
-follow_cause : (f : Followed) (s s' : SourceView) (u u' : SinkView) (v v' : ClockView) → HasCause f u u' v v'
+pub cause_of : (f : Followed) (s s' : SourceView) (u u' : SinkView) (v v' : ClockView) → HasCause f u u' v v'
     → FollowCause f (outside s u v) (outside s' u' v')
-follow_cause F.Whole s s' u u' v v' cause = tt
-follow_cause F.Stopped s s' u u' v v' cause = cause
-follow_cause (F.Lagged next first) s s' u u' v v' cause = tt
-follow_cause F.WriteFault s s' u u' v v' cause = cause
-follow_cause F.NoMemory s s' u u' v v' cause = tt
+cause_of F.Whole s s' u u' v v' cause = tt
+cause_of F.Stopped s s' u u' v v' cause = cause
+cause_of (F.Lagged next first) s s' u u' v v' cause = tt
+cause_of F.WriteFault s s' u u' v v' cause = cause
+cause_of F.NoMemory s s' u u' v v' cause = tt
 
 -- ---- where nothing is pumped
 
@@ -73,42 +71,19 @@ goes_alone k pumped p q v v' pair moves = record {
 
 -- its run takes no input
 pub runs_unfed : (k : ℕ) (spec : LogSpec) (f : Followed) (p q : PassView) (ahead : List ℕ) (s : SourceView) (u u' : SinkView)
-    (v v' : ClockView) → IsTrue p.pair → spec.feed ≡ None
-    → Follows k (LogStream spec) false f p q u u' v v' → RunsOver k spec f None p q ahead (outside s u v) (outside s u' v')
-runs_unfed k spec f p q ahead s u u' v v' pair none sent = record {
-  body = sent.body;
-  part = sent.part;
-  pumps = record { read = []; gave = source_none s; holds = (none, sent.quiet pair) };
-  tells = told_so f sent.whole p.charter spec p.seen q.seen sent.body sent.by_end sent.tells;
-  ends = sent.ends;
-  taken = subst (IsTaken f sent.part) sent.pieces sent.taken;
-  sink = sent.sink;
-  cause = (follow_cause f s s u u' v v' sent.cause, tt);
-  goes = goes_alone k _ p q v v' pair sent.moves;
-}
-
--- ---- where its input is pumped
-
-pub runs_both : (k : ℕ) (spec : LogSpec) (end : PumpEnd) (f : Followed) (p q : PassView) (ahead : List ℕ) (s s' : SourceView)
-    (u u' : SinkView) (v v' : ClockView) → Paired k spec end f p q ahead s s' u u' v v'
-    → RunsOver k spec f (Some end) p q ahead (outside s u v) (outside s' u' v')
-runs_both k spec end f p q ahead s s' u u' v v' both = record {
-  body = both.body;
-  part = both.part;
-  pumps = record { read = both.read; gave = both.source; holds = both.pumps };
-  tells = told_so f both.whole p.charter spec p.seen q.seen both.body both.by_end both.tells;
-  ends = both.ends;
-  taken = both.taken;
-  sink = both.sink;
-  cause = (follow_cause f s s' u u' v v' both.follow_cause, both.pump_cause);
-  goes = record {
-    handed = both.handed;
-    clock = both.clock;
-    extends = both.extends;
-    same = both.same;
-    adds = both.adds;
-    stays = λ b. absurd (false≢true (sym b));
-    input = both.input;
-    within = λ h b. absurd (false≢true (sym b));
-  };
-}
+    (v v' : ClockView) → IsTrue p.pair → MayFollow (state_after p.charter p.seen) spec → spec.feed ≡ None
+    → FollowsSince k (LogStream spec) false f p q u u' v v' → RunsOver k spec f None p q ahead (outside s u v) (outside s u' v')
+runs_unfed k spec f p q ahead s u u' v v' pair may none since =
+    let sent = since.since p.seen (extends_same p.seen) may in
+    record {
+      body = sent.body;
+      part = sent.part;
+      pumps = record { read = []; gave = source_none s; holds = (none, sent.quiet pair) };
+      unread = λ e. refl;
+      tells = told_so f sent.whole p.charter spec p.seen q.seen sent.body sent.by_end sent.tells;
+      ends = sent.ends;
+      taken = subst (IsTaken f sent.part) sent.pieces sent.taken;
+      sink = sent.sink;
+      cause = (cause_of f s s u u' v v' sent.cause, tt);
+      goes = goes_alone k _ p q v v' pair sent.moves;
+    }
