@@ -313,7 +313,7 @@ def main():
     with open(f"{HERE}/stdin", "w", newline="", encoding="utf-8") as file:
         file.write("".join(lines))
     with open(f"{HERE}/stdout", "w", newline="", encoding="utf-8") as file:
-        file.write("".join(wanted) + "daemon Closed\nvectors: 26 passed, 0 failed\n")
+        file.write("".join(wanted) + "daemon Closed\n")
 
 
 main()

@@ -8,7 +8,6 @@ mod line;
 mod outside;
 mod run;
 
-use engine_conformance::run_vectors;
 use engine_ports::{Door, NoMemory, TcpDoor, TcpLink};
 use line::read_lines;
 use session_model::Worst;
@@ -41,12 +40,5 @@ fn main(rt: HostRuntime) -> io::Result<()> {
     if ran.is_err() {
         return println!(rt; "out of memory");
     }
-    println!(rt; "daemon {worst:?}")?;
-    match run_vectors(&rt, alloc) {
-        Ok(report) => println!(rt;
-            "vectors: {} passed, {} failed",
-            report.passed, report.failed
-        ),
-        Err(_) => println!(rt; "out of memory"),
-    }
+    println!(rt; "daemon {worst:?}")
 }

@@ -2,7 +2,7 @@
 ghost use Rattle.std.specs.Prelude.{◌<◌};
 ghost use Rattle.response_reader.specs.Reader.{IsInBody};
 
-use crate::answers::{last_answer, tells};
+use crate::answers::tells;
 use crate::asking::requests;
 use crate::running::{STDIO, run, run_client_over};
 use crate::short::Short;
@@ -102,19 +102,22 @@ fn is_noise<R: Threads + Wait + Sync>(
     let create = format!(in alloc;
         "POST /containers/create?name=web {{\"Image\":\"engine/tools\",\"Cmd\":[\"noise\",\"{bytes}\"]}}"
     )?;
-    let behind = "POST /containers/web/start\nPOST /containers/web/wait\n\
-GET /containers/web/logs?stdout=1&stderr=1";
-    let asked = format!(in alloc; "{create}\n{behind}")?;
-    let input = requests(alloc, &asked)?;
-    let ran = run(rt, alloc, STDIO, &input)?;
-    let told = format!(in alloc; "201\n204\n200 {{\"StatusCode\":{code}}}\n200")?;
-    let Some(answer) = last_answer(alloc, ran.out.bytes())? else {
+    let run_of = format!(in alloc;
+        "{create}\nPOST /containers/web/start\nPOST /containers/web/wait"
+    )?;
+    let asked = format!(in alloc; "{run_of}\nGET /containers/web/logs?stdout=1&stderr=1")?;
+    let before = run(rt, alloc, STDIO, &requests(alloc, &run_of)?)?;
+    let ran = run(rt, alloc, STDIO, &requests(alloc, &asked)?)?;
+    let told = format!(in alloc; "201\n204\n200 {{\"StatusCode\":{code}}}")?;
+    let count = before.out.bytes().len();
+    let written = ran.out.bytes();
+    if written.len() < count {
         return Ok(false);
-    };
-    let body = body_of(alloc, answer.as_bytes())?;
+    }
+    let body = body_of(alloc, &written[count..])?;
     let (end, payload) = end_of(&body);
     Ok(
-        tells(alloc, ran.out.bytes(), &told)?
+        tells(alloc, before.out.bytes(), &told)?
             && end == Ended::Whole
             && payload == 4_194_304
             && body.len() == 4_195_328,
