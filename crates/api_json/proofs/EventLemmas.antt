@@ -16,7 +16,7 @@ use Rattle.engine_text.specs.declared.event.Event.{Event}
 use Rattle.engine_text.specs.declared.event.EventKind.{EventKind}
 use Rattle.engine_text.specs.declared.event.EventKind.TheVariants as Kind
 use Rattle.engine_text.specs.declared.event.Action.{Action}
-use Rattle.engine_text.specs.declared.event.Action.TheVariants.{Create, Start, Kill, Die, Stop, Restart, Pause, Unpause, Rename, Destroy, Attach, ExecCreate, ExecStart, ExecDie, Mount, Unmount}
+use Rattle.engine_text.specs.declared.event.Action.TheVariants.{Create, Start, Kill, Die, Stop, Restart, Pause, Unpause, Rename, Destroy, Attach, ExecCreate, ExecStart, ExecDie, Mount, Unmount, Update}
 use Rattle.api_json.specs.Values.{pairs_of}
 use Rattle.api_json.specs.Lists.{pairs_from, pairs_of_members}
 use Rattle.api_json.specs.EventRules.{kind_word, kind_of, action_word, action_of, attribute_keys, has_keys, keys_fit}
@@ -44,6 +44,7 @@ action_back ExecStart = (refl, refl)
 action_back ExecDie = (refl, refl)
 action_back Mount = (refl, refl)
 action_back Unmount = (refl, refl)
+action_back Update = (refl, refl)
 
 -- the keys are those that the rule names
 keys_are : (ks : List (List ℕ)) (ps : List Pair) → has_keys ks ps ≡ true → map (λ p. p.0) (pairs_of ps) ≡ ks
@@ -81,6 +82,7 @@ table_rises Kind.Container ExecStart = refl
 table_rises Kind.Container ExecDie = refl
 table_rises Kind.Container Mount = refl
 table_rises Kind.Container Unmount = refl
+table_rises Kind.Container Update = refl
 table_rises Kind.Volume Create = refl
 table_rises Kind.Volume Start = refl
 table_rises Kind.Volume Kill = refl
@@ -97,6 +99,7 @@ table_rises Kind.Volume ExecStart = refl
 table_rises Kind.Volume ExecDie = refl
 table_rises Kind.Volume Mount = refl
 table_rises Kind.Volume Unmount = refl
+table_rises Kind.Volume Update = refl
 
 -- the keys of an event's attributes rise
 attributes_rise : (e : Event) → IsLine e → DoKeysRise (pairs_of e.attributes)

@@ -1,11 +1,14 @@
 -- Sentences about the definitions, so that a slip in one does not check (Docker Engine API v1.43; own where marked there).
 use Rattle.std.proofs.Common.{◌≡◌, ℕ, pos, negsuc, List, [], ◌∷◌, true, false, Some, None, Ok, Err, codes, refl}
-use Rattle.std.specs.Prelude.{replicate}
+use Rattle.std.specs.Prelude.{ℕ, replicate, map}
 use Rattle.std.specs.Fmt.{digits}
-use Rattle.serde_json.specs.Data.{null, boolean, object, array, no_items, no_members, member}
+use Rattle.serde_json.specs.Data.{Data, null, boolean, object, array, no_items, no_members, member}
 use Rattle.engine_text.specs.declared.mounts.Mount.{Mount}
 use Rattle.engine_text.specs.declared.policy.Policy.{Policy}
 use Rattle.api_json.specs.Values.{text, natural}
+use Rattle.json_laws.specs.Pairs.{words_data}
+use Rattle.api_json.specs.Health.{health_in, span_in}
+use Rattle.api_json.specs.Update.{given_in, given_policy}
 use Rattle.api_json.specs.MountForms.{bind_of, added_mount}
 use Rattle.api_json.specs.ExecCreate.{exec_start_in}
 use Rattle.api_json.specs.Create.{create_in, seconds_in}
@@ -18,7 +21,7 @@ use Rattle.engine_text.specs.declared.event.Action.{Action}
 use Rattle.engine_text.specs.declared.event.EventKind.TheVariants as Kind
 use Rattle.engine_text.specs.declared.filter.FilterKey.TheVariants as Filter
 use Rattle.api_json.specs.declared.fault.BodyKey.TheVariants as Key
-use Rattle.api_json.specs.declared.fault.BodyFault.TheVariants.{BadField, BadMount, TtyLeftOut}
+use Rattle.api_json.specs.declared.fault.BodyFault.TheVariants.{BadField, BadMount, TtyLeftOut, BadRestartPolicy}
 
 -- "VOLUME:PATH", "VOLUME:PATH:ro" and "VOLUME:PATH:rw" are binds
 plain_bind : bind_of (codes "v1:/d") ≡ Ok (record { volume = codes "v1"; target = codes "/d"; read_only = false })
@@ -58,6 +61,8 @@ bare_create : create_in None (object (member (codes "Image") (text (codes "i")) 
   stdin_once = false;
   labels = [];
   mounts = [];
+  auto_remove = false;
+  health = None;
 })
 bare_create = refl
 
@@ -134,3 +139,57 @@ no_start = refl
 -- a dead container is dead, and not exited
 dead_word : status_word Status.Dead ≡ codes "dead"
 dead_word = refl
+
+-- ---- a health check
+
+abbrev with_test : List (List ℕ) → Data
+with_test words = object (member (codes "Test") (words_data words) no_members)
+
+-- no texts, or `NONE` alone, mean none
+no_test : health_in (with_test []) ≡ Ok None
+no_test = refl
+
+test_none : health_in (with_test (codes "NONE" ∷ [])) ≡ Ok None
+test_none = refl
+
+-- `CMD` and its words; the times are 30 seconds, and the retries 3
+test_words : health_in (with_test (codes "CMD" ∷ codes "flaky" ∷ codes "2" ∷ []))
+    ≡ Ok (Some (record { words = codes "flaky" ∷ codes "2" ∷ []; interval = 30000; timeout = 30000; retries = 3; start_period = 0 }))
+test_words = refl
+
+-- the words of a shell's text
+test_shell : health_in (with_test (codes "CMD-SHELL" ∷ codes "  flaky  2 " ∷ []))
+    ≡ Ok (Some (record { words = codes "flaky" ∷ codes "2" ∷ []; interval = 30000; timeout = 30000; retries = 3; start_period = 0 }))
+test_shell = refl
+
+-- no words, blanks alone, a second text, another first text
+test_empty : health_in (with_test (codes "CMD" ∷ [])) ≡ Err (BadField Key.Test)
+test_empty = refl
+
+test_blank : health_in (with_test (codes "CMD-SHELL" ∷ codes " " ∷ [])) ≡ Err (BadField Key.Test)
+test_blank = refl
+
+test_two : health_in (with_test (codes "CMD-SHELL" ∷ codes "a" ∷ codes "b" ∷ [])) ≡ Err (BadField Key.Test)
+test_two = refl
+
+test_other : health_in (with_test (codes "flaky" ∷ [])) ≡ Err (BadField Key.Test)
+test_other = refl
+
+-- a nanosecond too few for a millisecond, the greatest, and one too many
+spans : map (λ n. span_in 30000 (pos n)) (0 ∷ 999999 ∷ 1000000 ∷ 1999999 ∷ 3600000000000 ∷ 3600000000001 ∷ [])
+    ≡ Some 30000 ∷ None ∷ Some 1 ∷ Some 1 ∷ Some 3600000 ∷ None ∷ []
+spans = refl
+
+-- an update gives a policy, or none
+update_none : given_in (object no_members) ≡ Ok None
+unfolding given_policy
+update_none = refl
+
+update_some : given_in (object (member (codes "MaximumRetryCount") (natural 3) (member (codes "Name") (text (codes "on-failure")) no_members))) ≡ Ok (Some (Policy.OnFailure 3))
+unfolding given_policy
+update_some = refl
+
+-- an empty name with a maximum is refused
+update_bad : given_in (object (member (codes "MaximumRetryCount") (natural 3) no_members)) ≡ Err BadRestartPolicy
+unfolding given_policy
+update_bad = refl

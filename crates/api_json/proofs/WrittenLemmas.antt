@@ -1,5 +1,5 @@
 -- Bodies written token by token.
-use Rattle.std.proofs.Common.{◌≡◌, ◌<◌, ◌≤◌, ◌+◌, ℕ, List, [], ◌∷◌, ◌++◌, length, get_or, drop, map, Result, Ok, Err, nat_cmp, Ordering, Less, Equal, Greater, refl, sym, ap, subst, ◌∙◌, append_assoc}
+use Rattle.std.proofs.Common.{◌≡◌, ◌<◌, ◌≤◌, ◌+◌, ℕ, List, [], ◌∷◌, ◌++◌, length, get_or, drop, map, Option, Some, None, Result, Ok, Err, nat_cmp, Ordering, Less, Equal, Greater, refl, sym, ap, subst, ◌∙◌, append_assoc}
 use Rattle.std.proofs.lemmas.List.{at_drop_more, at_drop_all}
 use Rattle.std.specs.Borrow.{Bor}
 use Rattle.std.specs.BTreeMap.{insert_entry}
@@ -7,15 +7,16 @@ use Rattle.std.specs.Cmp.Lexicographic.{slice_cmp}
 use Rattle.std.specs.Ordering.{match_ordering}
 use Rattle.json.specs.Print.{print}
 use Rattle.json.specs.Token.{Token}
-use Rattle.json.specs.Tree.{items_tokens}
+use Rattle.engine_text.specs.declared.health.HealthSpec.{HealthSpec}
+use Rattle.json.specs.Tree.{items_tokens, members_tokens}
 use Rattle.json.specs.Written.{Written, Writes}
-use Rattle.serde_json.specs.Data.{Data, Members, string, array, item, put}
+use Rattle.serde_json.specs.Data.{Data, Members, string, item, put}
 use Rattle.serde_json.specs.View.{items_of}
-use Rattle.serde_json.specs.Written.{items_outline, compact_text}
+use Rattle.serde_json.specs.Written.{items_outline, members_outline, compact_text}
 use Rattle.serde_json.proofs.Texts.{print-outline}
-use Rattle.json_laws.specs.Pairs.{pairs_members, words_items, words_data}
-use Rattle.api_json.specs.Values.{list_of}
-use Rattle.api_json.specs.Written.{Appends, tokens_of, member_tokens, lent_texts}
+use Rattle.json_laws.specs.Pairs.{pairs_members, words_items}
+use Rattle.api_json.specs.Container.{health_member, health_tokens}
+use Rattle.api_json.specs.Written.{Appends, tokens_of, last_words_tokens, lent_texts}
 
 abbrev Entry : Type 0
 Entry = Bor (List ℕ) × Bor (List ℕ)
@@ -96,16 +97,24 @@ words_shown : (words : List (List ℕ)) → items_of (map string words) ≡ word
 words_shown [] = refl
 words_shown (word ∷ words) = ap (item (string word)) (words_shown words)
 
--- words are the list of their texts
-list_of-words : (words : List (List ℕ)) → list_of string words ≡ words_data words
-list_of-words words = ap array (words_shown words)
-
 -- every text is written
-pub lacks_words_none : {E : Type 0} {old now new : Written} {r : Result (Unit {0}) E} (k : List ℕ) (words : List (List ℕ)) (i : ℕ)
-    → length words ≤ i → Writes r now new Token.end_array → Lacks old now (items_left string (drop i words)) (member_tokens k (list_of string words))
-    → Appends r old new (member_tokens k (words_data words))
-lacks_words_none {old} {new} {r} k words i passed w h =
-    subst (λ d. Appends r old new (member_tokens k d)) (list_of-words words) (lacks_items_none string words i passed w h)
+pub lacks_words_none : {E : Type 0} {old now new : Written} {r : Result (Unit {0}) E} (words : List (List ℕ)) (i : ℕ)
+    → length words ≤ i → Writes r now new Token.end_array → Lacks old now (items_left string (drop i words)) (items_left string words)
+    → Appends r old new (last_words_tokens words)
+lacks_words_none {old} {new} {r} words i passed w h =
+    subst (λ items. Appends r old new (items_tokens (items_outline items))) (words_shown words) (lacks_items_none string words i passed w h)
+
+-- the last tokens
+pub lacks_rest : {E : Type 0} {r : Result (Unit {0}) E} {old now new : Written} {ts all : List Token}
+    → Appends r now new ts → Lacks old now ts all → Appends r old new all
+lacks_rest {r = Ok u} e h = record { before = e.before ∙ h.before; tokens = e.tokens ∙ h.tokens }
+lacks_rest {r = Err e} a h = record { before = tt; tokens = tt }
+
+-- a health check, if there is one, stands before these members
+pub health_behind : (health : Option HealthSpec) (rest : Members)
+    → members_tokens (members_outline (health_member health rest)) ≡ health_tokens health ++ members_tokens (members_outline rest)
+health_behind None rest = refl
+health_behind (Some check) rest = refl
 
 -- what is written behind nothing has the value's compact text
 pub compact : {E : Type 0} {old new : Written} {u : Unit {0}} {shown : List ℕ} (d : Data)

@@ -1,9 +1,11 @@
 -- The text of a container (Docker Engine API v1.43, ContainerInspect).
-use Rattle.std.specs.Prelude.{ℕ, ◌==◌, ℤ, List, [], ◌++◌, Bool, false, not, ◌||◌, Option, Some, codes, drop}
-use Rattle.serde_json.specs.Data.{Data, boolean, object, no_members, member}
+use Rattle.std.specs.Prelude.{ℕ, ◌==◌, ◌*◌, ℤ, List, [], ◌∷◌, ◌++◌, Bool, false, not, ◌||◌, Option, Some, None, codes, drop}
+use Rattle.serde_json.specs.Data.{Data, boolean, object, Members, no_members, member}
 use Rattle.serde_json.specs.Written.{compact_text}
+use Rattle.json.specs.Token.{Token}
 use Rattle.json_laws.specs.Pairs.{words_data}
 use Rattle.engine_text.specs.Signal.{signal_name}
+use Rattle.engine_text.specs.declared.health.HealthSpec.{HealthSpec}
 use Rattle.engine_text.specs.declared.mounts.Mount.{Mount}
 use Rattle.engine_text.specs.declared.pairs.Pair.{Pair}
 use Rattle.engine_text.specs.declared.policy.Policy.{Policy}
@@ -11,6 +13,7 @@ use Rattle.engine_text.specs.declared.signal.Signal.{Signal}
 use Rattle.engine_text.specs.declared.status.Status.{Status}
 use Rattle.api_json.specs.Values.{text, natural, integer, moment, list_of, pairs_object, first_word, image_name}
 use Rattle.api_json.specs.Mount.{mount_data}
+use Rattle.api_json.specs.Written.{member_tokens}
 use Rattle.api_json.specs.Status.{status_word, is_paused, is_restarting, is_dead}
 
 -- What the text of a container tells; `pid` is 0 where no process lives.
@@ -32,6 +35,8 @@ pub record ContainerParts : Type 0 where
   pub status : Status
   pub pid : ℕ
   pub code : ℕ
+  pub auto_remove : Bool
+  pub health : Option HealthSpec
 
 -- the name of a policy, as `RestartPolicy` has it
 abbrev pub policy_word : Policy → List ℕ
@@ -51,17 +56,39 @@ most_retries (Policy.OnFailure most) = most
 abbrev pub is_running : ℕ → Status → Bool
 is_running pid status = not (pid == 0) || is_restarting status
 
--- `Config`: what the create asked for; there is no terminal
-abbrev pub config_data : ContainerParts → Data
-config_data c = object (
-    member (codes "Cmd") (words_data c.words) (
+-- `Healthcheck`: its times in nanoseconds, and its words behind `CMD`
+abbrev pub health_data : HealthSpec → Data
+health_data h = object (
+    member (codes "Interval") (natural (h.interval * 1000000)) (
+    member (codes "Retries") (natural h.retries) (
+    member (codes "StartPeriod") (natural (h.start_period * 1000000)) (
+    member (codes "Test") (words_data (codes "CMD" ∷ h.words)) (
+    member (codes "Timeout") (natural (h.timeout * 1000000)) no_members)))))
+
+-- it stands where there is a check
+abbrev pub health_member : Option HealthSpec → Members → Members
+health_member None ms = ms
+health_member (Some h) ms = member (codes "Healthcheck") (health_data h) ms
+
+-- what the writer puts down for it
+abbrev pub health_tokens : Option HealthSpec → List Token
+health_tokens None = []
+health_tokens (Some h) = member_tokens (codes "Healthcheck") (health_data h)
+
+-- what of `Config` stands behind the health check; there is no terminal
+abbrev pub config_rest : ContainerParts → Members
+config_rest c =
     member (codes "Image") (text image_name) (
     member (codes "Labels") (pairs_object c.labels) (
     member (codes "OpenStdin") (boolean c.open_stdin) (
     member (codes "StdinOnce") (boolean c.stdin_once) (
     member (codes "StopSignal") (text (signal_name c.stop_signal.number)) (
     member (codes "StopTimeout") (integer c.stop_after) (
-    member (codes "Tty") (boolean false) no_members))))))))
+    member (codes "Tty") (boolean false) no_members))))))
+
+-- `Config`: what the create asked for
+abbrev pub config_data : ContainerParts → Data
+config_data c = object (member (codes "Cmd") (words_data c.words) (health_member c.health (config_rest c)))
 
 -- `RestartPolicy`: the name of the policy and its count
 abbrev pub policy_data : Policy → Data
@@ -69,10 +96,10 @@ policy_data p = object (
     member (codes "MaximumRetryCount") (natural (most_retries p)) (
     member (codes "Name") (text (policy_word p)) no_members))
 
--- `HostConfig`: the restart policy; no container is removed by itself
-abbrev pub host_config_data : Policy → Data
-host_config_data p = object (
-    member (codes "AutoRemove") (boolean false) (
+-- `HostConfig`: whether it is removed by itself, and the restart policy
+abbrev pub host_config_data : Bool → Policy → Data
+host_config_data auto p = object (
+    member (codes "AutoRemove") (boolean auto) (
     member (codes "RestartPolicy") (policy_data p) no_members))
 
 -- `State`: the status and its flags, the living process, and the last run; nothing is killed for want of memory
@@ -108,7 +135,7 @@ container_object c config host state = object (
 
 -- a container as ContainerInspect tells it
 abbrev pub container_data : ContainerParts → Data
-container_data c = container_object c (config_data c) (host_config_data c.policy) (state_data c)
+container_data c = container_object c (config_data c) (host_config_data c.auto_remove c.policy) (state_data c)
 
 -- the body of ContainerInspect: compact JSON, as all bodies
 abbrev pub container_text : ContainerParts → List ℕ

@@ -9,6 +9,7 @@ use Rattle.api_json.specs.Fault.{and_then, or_fault}
 use Rattle.api_json.specs.Fields.{body_of, field, needed_text, text_field, flag, whole_field, unset_flag}
 use Rattle.api_json.specs.Lists.{words_field, labels_of}
 use Rattle.api_json.specs.HostConfig.{host_of}
+use Rattle.api_json.specs.Health.{health_of}
 use Rattle.api_json.specs.declared.create.Console.{Console}
 use Rattle.api_json.specs.declared.create.Stop.{Stop}
 use Rattle.api_json.specs.declared.fault.BodyKey.TheVariants as Key
@@ -77,6 +78,7 @@ create_in name d =
     and_then (labels_of d) (λ labels.
     and_then (no_volumes d) (λ none.
     and_then (host_of d) (λ host.
+    and_then (health_of d) (λ health.
     Ok (record {
       name = name;
       image = image;
@@ -88,7 +90,9 @@ create_in name d =
       stdin_once = console.stdin_once;
       labels = labels;
       mounts = host.mounts;
-    }))))))))
+      auto_remove = host.auto_remove;
+      health = health;
+    })))))))))
 
 -- what the body of a create asks for, or why it is refused
 unfoldable pub create_of : Option (List ℕ) → List ℕ → Result CreateSpec BodyFault

@@ -6,7 +6,7 @@ use Rattle.engine_text.specs.declared.pairs.Pair.{Pair}
 use Rattle.engine_text.specs.declared.event.EventKind.{EventKind}
 use Rattle.engine_text.specs.declared.event.EventKind.TheVariants as Kind
 use Rattle.engine_text.specs.declared.event.Action.{Action}
-use Rattle.engine_text.specs.declared.event.Action.TheVariants.{Create, Start, Kill, Die, Stop, Restart, Pause, Unpause, Rename, Destroy, Attach, ExecCreate, ExecStart, ExecDie, Mount, Unmount}
+use Rattle.engine_text.specs.declared.event.Action.TheVariants.{Create, Start, Kill, Die, Stop, Restart, Pause, Unpause, Rename, Destroy, Attach, ExecCreate, ExecStart, ExecDie, Mount, Unmount, Update}
 
 -- the word for a kind, which is the field `Type`
 abbrev pub kind_word : EventKind → List ℕ
@@ -31,6 +31,7 @@ action_word ExecStart = codes "exec_start"
 action_word ExecDie = codes "exec_die"
 action_word Mount = codes "mount"
 action_word Unmount = codes "unmount"
+action_word Update = codes "update"
 
 -- the kind of a word
 abbrev pub kind_of : List ℕ → Option EventKind
@@ -40,7 +41,7 @@ kind_of word = find (λ kind. same_bytes word (kind_word kind)) (Kind.Container 
 abbrev pub actions : List Action
 actions =
     Create ∷ Start ∷ Kill ∷ Die ∷ Stop ∷ Restart ∷ Pause ∷ Unpause ∷ Rename ∷ Destroy ∷ Attach ∷ ExecCreate
-    ∷ ExecStart ∷ ExecDie ∷ Mount ∷ Unmount ∷ []
+    ∷ ExecStart ∷ ExecDie ∷ Mount ∷ Unmount ∷ Update ∷ []
 
 -- the action of a word
 abbrev pub action_of : List ℕ → Option Action

@@ -3,7 +3,7 @@ use Rattle.std.specs.Prelude.{◌≡◌, ℕ, List, ◌++◌, codes, Option, Som
 use Rattle.api_json.specs.declared.fault.BodyKey.{BodyKey}
 use Rattle.api_json.specs.declared.fault.BodyKey.TheVariants as Key
 use Rattle.api_json.specs.declared.fault.BodyFault.{BodyFault}
-use Rattle.api_json.specs.declared.fault.BodyFault.TheVariants.{BadJson, BadField, TtyLeftOut, AnonymousVolumes, BadMount, BadRestartPolicy, AutoRemoveNotBuilt, BadVolumeName, BadDriver, InvalidFilter, BadEventLine}
+use Rattle.api_json.specs.declared.fault.BodyFault.TheVariants.{BadJson, BadField, TtyLeftOut, AnonymousVolumes, BadMount, BadRestartPolicy, AutoRemoveExcludes, BadVolumeName, BadDriver, InvalidFilter, BadEventLine}
 use Rattle.api_json.specs.declared.fault.Refused.{Refused}
 use Rattle.api_json.specs.declared.fault.Refused.TheVariants.{BadBody, NoMemory}
 
@@ -35,6 +35,12 @@ key_text Key.AttachStdout = codes "AttachStdout"
 key_text Key.AttachStderr = codes "AttachStderr"
 key_text Key.Detach = codes "Detach"
 key_text Key.Driver = codes "Driver"
+key_text Key.Healthcheck = codes "Healthcheck"
+key_text Key.Test = codes "Test"
+key_text Key.Interval = codes "Interval"
+key_text Key.Timeout = codes "Timeout"
+key_text Key.StartPeriod = codes "StartPeriod"
+key_text Key.Retries = codes "Retries"
 
 -- the text that the client is told
 abbrev pub fault_text : BodyFault → List ℕ
@@ -44,7 +50,7 @@ fault_text TtyLeftOut = codes "TTY is left out"
 fault_text AnonymousVolumes = codes "anonymous volumes are left out"
 fault_text BadMount = codes "bad mount"
 fault_text BadRestartPolicy = codes "bad restart policy"
-fault_text AutoRemoveNotBuilt = codes "AutoRemove is not built"
+fault_text AutoRemoveExcludes = codes "AutoRemove excludes a restart policy"
 fault_text BadVolumeName = codes "bad volume name"
 fault_text BadDriver = codes "bad driver"
 fault_text InvalidFilter = codes "invalid filter"

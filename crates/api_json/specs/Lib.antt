@@ -1,6 +1,7 @@
 pub mod Values
 pub mod Mount
 pub mod Status
+pub mod Written
 pub mod Container
 pub mod List
 pub mod Exec
@@ -15,6 +16,7 @@ pub mod VolumeCreate
 pub mod Filters
 pub mod MountForms
 pub mod HostConfig
+pub mod Health
+pub mod Update
 pub mod Create
 pub mod Views
-pub mod Written

@@ -1,4 +1,5 @@
 -- What the views that are lent to the writers show (Docker Engine API v1.43, ContainerInspect, ExecInspect, VolumeInspect).
+use Rattle.std.specs.Prelude.{option_map}
 use Rattle.engine_text.specs.declared.listed.ListedVolume.{ListedVolume}
 use Rattle.api_json.specs.Container.{ContainerParts}
 use Rattle.api_json.specs.Exec.{ExecParts}
@@ -26,6 +27,8 @@ container_shown c = record {
   status = c.status;
   pid = c.pid;
   code = c.code;
+  auto_remove = c.auto_remove;
+  health = option_map (λ h. h.now) c.health;
 }
 
 -- the parts of an exec

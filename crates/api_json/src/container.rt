@@ -1,19 +1,22 @@
 // The text of a container (Docker Engine API v1.43, ContainerInspect).
-ghost use Rattle.std.specs.Prelude.{◌≡◌, ◌≤◌, ◌++◌, IfOk, codes};
+ghost use Rattle.std.specs.Prelude.{◌≡◌, ◌≤◌, ◌++◌, IfOk, codes, option_map};
 ghost use Rattle.engine_text.specs.Moment.{IsMoment};
 ghost use Rattle.api_json.specs.Container as spec;
 ghost use Rattle.api_json.specs.Values.{text};
 ghost use Rattle.api_json.specs.Views.{container_shown};
 ghost use Rattle.api_json.specs.Written.{Appends, tokens_of, member_tokens};
+ghost use Rattle.api_json.specs.Container.{health_tokens};
 
 use super::mount::mounts_member;
 use super::status::{is_dead, is_paused, is_restarting, status_word};
 use super::values::{IMAGE_NAME, first_word, later_words, slash_name};
 use super::written::{
-    flag_member, integer_member, moment_member, number_member, pairs_member, text_member,
-    words_member, written_text,
+    command_member, flag_member, integer_member, moment_member, nanoseconds_member, number_member,
+    pairs_member, text_member, words_member, written_text,
 };
-use engine_text::{Mounts, NoMemory, Pairs, Policy, Signal, Status, Text, Words, signal_name};
+use engine_text::{
+    HealthSpec, Mounts, NoMemory, Pairs, Policy, Signal, Status, Text, Words, signal_name,
+};
 use json::Writer;
 use std::alloc::{AllocError, Global};
 
@@ -38,6 +41,8 @@ pub struct ContainerView<'a> {
     pub status: Status,
     pub pid: u64,
     pub code: u8,
+    pub auto_remove: bool,
+    pub health: Option<&'a HealthSpec>,
 }
 
 fn policy_word(policy: &Policy) -> &'static str
@@ -68,6 +73,32 @@ fn is_running(pid: u64, status: Status) -> bool
     pid != 0 || is_restarting(status)
 }
 
+// Writes a health check: its times in nanoseconds, and its words behind `CMD`.
+fn check_member(out: &mut Writer, health: &HealthSpec) -> Result<(), AllocError>
+    ensures { Appends result out.old out.new
+        (member_tokens (codes "Healthcheck") (spec.health_data health.now)) }
+{
+    out.key("Healthcheck")?;
+    out.begin_object()?;
+    nanoseconds_member(out, "Interval", health.interval)?;
+    number_member(out, "Retries", u64::from(health.retries))?;
+    nanoseconds_member(out, "StartPeriod", health.start_period)?;
+    command_member(out, "Test", "CMD", health.words.as_slice())?;
+    nanoseconds_member(out, "Timeout", health.timeout)?;
+    out.end_object()
+}
+
+// Writes the health check, if there is one.
+fn health_member(out: &mut Writer, health: Option<&HealthSpec>) -> Result<(), AllocError>
+    ensures { Appends result out.old out.new
+        (health_tokens (option_map (λ h. h.now) health.entry)) }
+{
+    match health {
+        None => Ok(()),
+        Some(health) => check_member(out, health),
+    }
+}
+
 // Writes what was asked of the container.
 fn config_member(
     alloc: Global,
@@ -80,6 +111,7 @@ fn config_member(
     out.key("Config")?;
     out.begin_object()?;
     words_member(out, "Cmd", container.words.as_slice())?;
+    health_member(out, container.health)?;
     text_member(out, "Image", IMAGE_NAME)?;
     pairs_member(alloc, out, "Labels", container.labels.as_slice())?;
     flag_member(out, "OpenStdin", container.open_stdin)?;
@@ -103,13 +135,17 @@ fn policy_member(out: &mut Writer, policy: &Policy) -> Result<(), AllocError>
 }
 
 // Writes what was asked of the host.
-fn host_config_member(out: &mut Writer, policy: &Policy) -> Result<(), AllocError>
+fn host_config_member(
+    out: &mut Writer,
+    auto_remove: bool,
+    policy: &Policy,
+) -> Result<(), AllocError>
     ensures { Appends result out.old out.new
-        (member_tokens (codes "HostConfig") (spec.host_config_data policy.now)) }
+        (member_tokens (codes "HostConfig") (spec.host_config_data auto_remove policy.now)) }
 {
     out.key("HostConfig")?;
     out.begin_object()?;
-    flag_member(out, "AutoRemove", false)?;
+    flag_member(out, "AutoRemove", auto_remove)?;
     policy_member(out, policy)?;
     out.end_object()
 }
@@ -168,7 +204,7 @@ fn write_container(
     words_member(out, "Args", later_words(words))?;
     config_member(alloc, out, container)?;
     moment_member(alloc, out, "Created", Some(container.created))?;
-    host_config_member(out, container.policy)?;
+    host_config_member(out, container.auto_remove, container.policy)?;
     text_member(out, "Id", container.id)?;
     text_member(out, "Image", IMAGE_NAME)?;
     mounts_member(alloc, out, "Mounts", container.mounts.as_slice())?;

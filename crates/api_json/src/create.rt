@@ -1,13 +1,14 @@
 // The body of a create (Docker Engine API v1.43, ContainerCreate).
-ghost use Rattle.std.specs.Prelude.{◌≡◌, ◌++◌, IfOk, OnErr, option_copied, option_map};
+ghost use Rattle.std.specs.Prelude.{◌≡◌, IfOk, OnErr, option_copied, option_map};
 ghost use Rattle.serde_json.specs.View.{view, members_view};
 ghost use Rattle.api_json.specs.Fault.{Answers};
 ghost use Rattle.api_json.specs.Create as spec;
 
 use super::fault::{BodyFault, BodyKey, Refused};
 use super::fields::{field, flag, needed_text, read_body, text_field, unset_flag, whole_field};
+use super::health::read_health;
 use super::host_config::read_host;
-use super::lists::{read_labels, words_field};
+use super::lists::{join_words, read_labels, words_field};
 use engine_text::{CreateSpec, NoMemory, Signal, Text, Words, read_signal};
 use serde_json::{Map, Value};
 use std::alloc::Global;
@@ -33,17 +34,6 @@ pub struct Console {
 pub struct Stop {
     pub signal: Signal,
     pub after: i32,
-}
-
-// These words and then those.
-fn join_words(alloc: Global, first: Words, second: &[Text]) -> Result<Words, NoMemory>
-    ensures { IfOk result (λ words. words ≡ first ++ second.now) }
-{
-    let mut words = first;
-    'second: for word in second {
-        words.push(alloc, word.copy(alloc)?)?;
-    }
-    Ok(words)
 }
 
 // The words of the entry point, and then those of the command.
@@ -145,6 +135,7 @@ fn create_in(alloc: Global, name: Option<&str>, body: &Value) -> Result<CreateSp
     let labels = read_labels(alloc, body)?;
     check_volumes(body)?;
     let host = read_host(alloc, body)?;
+    let health = read_health(alloc, body)?;
     let name = copy_name(alloc, name)?;
     let image = Text::of(alloc, image)?;
     Ok(CreateSpec {
@@ -158,12 +149,15 @@ fn create_in(alloc: Global, name: Option<&str>, body: &Value) -> Result<CreateSp
         stdin_once: console.stdin_once,
         labels,
         mounts: host.mounts,
+        auto_remove: host.auto_remove,
+        health,
     })
 }
 
 /// Reads the body of a create: the fields that are read, in their order, are `Image`, `Entrypoint`,
-/// `Cmd`, `Tty`, `OpenStdin`, `StdinOnce`, `StopSignal`, `StopTimeout`, `Labels`, `Volumes` and
-/// `HostConfig`; others are passed over. The first fault is told. The name is kept as it was given.
+/// `Cmd`, `Tty`, `OpenStdin`, `StdinOnce`, `StopSignal`, `StopTimeout`, `Labels`, `Volumes`,
+/// `HostConfig` and `Healthcheck`; others are passed over. The first fault is told. The name is kept
+/// as it was given.
 #[tactic(auto, unfolding(crate::specs::Create::create_of))]
 pub fn read_create(alloc: Global, name: Option<&str>, body: &[u8]) -> Result<CreateSpec, Refused>
     ensures { Answers (spec.create_of (option_copied name.entry) body.now) result }

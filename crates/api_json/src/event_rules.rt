@@ -36,6 +36,7 @@ pub fn action_word(action: Action) -> &'static str
         Action::ExecDie => "exec_die",
         Action::Mount => "mount",
         Action::Unmount => "unmount",
+        Action::Update => "update",
     }
 }
 
@@ -71,6 +72,7 @@ pub fn read_action(word: &str) -> Option<Action>
         "exec_die" => Some(Action::ExecDie),
         "mount" => Some(Action::Mount),
         "unmount" => Some(Action::Unmount),
+        "update" => Some(Action::Update),
         _ => None,
     }
 }

@@ -34,6 +34,12 @@ pub enum BodyKey {
     AttachStderr,
     Detach,
     Driver,
+    Healthcheck,
+    Test,
+    Interval,
+    Timeout,
+    StartPeriod,
+    Retries,
 }
 
 /// Why a body, a filter or an event line is refused: one variant a text.
@@ -45,7 +51,7 @@ pub enum BodyFault {
     AnonymousVolumes,
     BadMount,
     BadRestartPolicy,
-    AutoRemoveNotBuilt,
+    AutoRemoveExcludes,
     BadVolumeName,
     BadDriver,
     InvalidFilter,
@@ -124,6 +130,12 @@ impl BodyKey {
             BodyKey::AttachStderr => "AttachStderr",
             BodyKey::Detach => "Detach",
             BodyKey::Driver => "Driver",
+            BodyKey::Healthcheck => "Healthcheck",
+            BodyKey::Test => "Test",
+            BodyKey::Interval => "Interval",
+            BodyKey::Timeout => "Timeout",
+            BodyKey::StartPeriod => "StartPeriod",
+            BodyKey::Retries => "Retries",
         }
     }
 }
@@ -159,6 +171,12 @@ fn bad_field(key: BodyKey) -> &'static str
         BodyKey::AttachStderr => "bad field AttachStderr",
         BodyKey::Detach => "bad field Detach",
         BodyKey::Driver => "bad field Driver",
+        BodyKey::Healthcheck => "bad field Healthcheck",
+        BodyKey::Test => "bad field Test",
+        BodyKey::Interval => "bad field Interval",
+        BodyKey::Timeout => "bad field Timeout",
+        BodyKey::StartPeriod => "bad field StartPeriod",
+        BodyKey::Retries => "bad field Retries",
     }
 }
 
@@ -174,7 +192,7 @@ impl BodyFault {
             BodyFault::AnonymousVolumes => "anonymous volumes are left out",
             BodyFault::BadMount => "bad mount",
             BodyFault::BadRestartPolicy => "bad restart policy",
-            BodyFault::AutoRemoveNotBuilt => "AutoRemove is not built",
+            BodyFault::AutoRemoveExcludes => "AutoRemove excludes a restart policy",
             BodyFault::BadVolumeName => "bad volume name",
             BodyFault::BadDriver => "bad driver",
             BodyFault::InvalidFilter => "invalid filter",

@@ -1,5 +1,5 @@
 // Words and pairs in bodies.
-ghost use Rattle.std.specs.Prelude.{◌≡◌, IfOk};
+ghost use Rattle.std.specs.Prelude.{◌≡◌, ◌++◌, IfOk};
 ghost use Rattle.serde_json.specs.View.{view, items_view, members_view};
 ghost use Rattle.json_laws.specs.Pairs.{words_of};
 ghost use Rattle.api_json.specs.Fault.{Answers};
@@ -23,6 +23,17 @@ pub fn read_words(alloc: Global, items: &[Value]) -> Result<Option<Words>, NoMem
         words.push(alloc, Text::of(alloc, text)?)?;
     }
     Ok(Some(words))
+}
+
+/// These words and then those.
+pub fn join_words(alloc: Global, first: Words, second: &[Text]) -> Result<Words, NoMemory>
+    ensures { IfOk result (λ words. words ≡ first ++ second.now) }
+{
+    let mut words = first;
+    'second: for word in second {
+        words.push(alloc, word.copy(alloc)?)?;
+    }
+    Ok(words)
 }
 
 // The texts of a list of texts.

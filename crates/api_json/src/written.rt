@@ -1,11 +1,11 @@
 // Bodies written token by token, with no tree of their values (RFC 8259).
-ghost use Rattle.std.specs.Prelude.{◌≡◌, ◌++◌, [], ◌∷◌, IfOk};
+ghost use Rattle.std.specs.Prelude.{◌≡◌, ◌*◌, ◌++◌, [], ◌∷◌, IfOk};
 ghost use Rattle.json.specs.Print.{print};
 ghost use Rattle.json_laws.specs.Pairs.{pairs_members, put_pairs, words_data};
 ghost use Rattle.serde_json.specs.Data.{boolean, no_members, null, object};
 ghost use Rattle.engine_text.specs.Moment.{IsMoment};
 ghost use Rattle.api_json.specs.Values as spec;
-ghost use Rattle.api_json.specs.Written.{Appends, member_tokens, lent_texts};
+ghost use Rattle.api_json.specs.Written.{Appends, member_tokens, last_words_tokens, lent_texts};
 
 use super::values::moment_string;
 use engine_text::{Pair, Text};
@@ -85,16 +85,50 @@ pub fn empty_object_member(out: &mut Writer, key: &str) -> Result<(), AllocError
     out.end_object()
 }
 
+/// Writes a member that is a time in nanoseconds, of which a millisecond has a million.
+pub fn nanoseconds_member(out: &mut Writer, key: &str, milliseconds: u64) -> Result<(), AllocError>
+    ensures { Appends result out.old out.new
+        (member_tokens key.now (spec.natural (milliseconds * 1_000_000))) }
+{
+    let mut buffer = itoa::Buffer::new();
+    let text = buffer.format(u128::from(milliseconds) * 1_000_000);
+    out.key(key)?;
+    out.number(text)
+}
+
+// Writes the rest of a list: these words, and its end.
+fn last_words(out: &mut Writer, words: &[Text]) -> Result<(), AllocError>
+    ensures { Appends result out.old out.new (last_words_tokens words.now) }
+{
+    'words: for word in words {
+        out.string(word.as_str())?;
+    }
+    out.end_array()
+}
+
 /// Writes a member that is the list of these words.
 pub fn words_member(out: &mut Writer, key: &str, words: &[Text]) -> Result<(), AllocError>
     ensures { Appends result out.old out.new (member_tokens key.now (words_data words.now)) }
 {
     out.key(key)?;
     out.begin_array()?;
-    'words: for word in words {
-        out.string(word.as_str())?;
-    }
-    out.end_array()
+    last_words(out, words)
+}
+
+/// Writes a member that is the list of this word and those behind it.
+pub fn command_member(
+    out: &mut Writer,
+    key: &str,
+    first: &str,
+    words: &[Text],
+) -> Result<(), AllocError>
+    ensures { Appends result out.old out.new
+        (member_tokens key.now (words_data (first.now ∷ words.now))) }
+{
+    out.key(key)?;
+    out.begin_array()?;
+    out.string(first)?;
+    last_words(out, words)
 }
 
 // The values of pairs by their keys: of equal keys the last counts.

@@ -3,6 +3,7 @@ mod RiseLemmas
 mod SignalLemmas
 mod MountLemmas
 mod CreateLemmas
+mod UpdateLemmas
 mod BodyLemmas
 mod FilterLemmas
 pub mod CutLemmas

@@ -14,14 +14,16 @@ use Rattle.api_json.specs.Create.{create_of}
 use Rattle.api_json.specs.ExecCreate.{exec_of, exec_start_of}
 use Rattle.api_json.specs.VolumeCreate.{volume_of}
 use Rattle.api_json.specs.Filters.{filter_of}
-use Rattle.engine_text.specs.Soundness.{IsSound, is_full, if_given, is_signal, is_seconds, is_limit, is_count, is_time, is_filter, is_list_key, is_event_key, is_volume_key, is_log_ask, far}
+use Rattle.engine_text.specs.Soundness.{is_policy, IsSound, is_full, if_given, is_signal, is_seconds, is_limit, is_count, is_time, is_filter, is_list_key, is_event_key, is_volume_key, is_log_ask, far}
+use Rattle.api_json.specs.Update.{update_of}
+use Rattle.api_routes.proofs.UpdateLemmas.{IsGiven, update_within}
 use Rattle.api_routes.proofs.WithinLemmas.{both_true}
 use Rattle.api_routes.proofs.CreateLemmas.{IsWithin, create_within, named_within}
 use Rattle.api_routes.proofs.BodyLemmas.{IsExec, IsVolume, exec_within, volume_within}
 use Rattle.api_routes.proofs.FilterLemmas.{IsFilter, filter_within}
 use Rattle.api_routes.specs.Query.{value_or_empty}
 use Rattle.api_routes.specs.Keys.{flag, create_name, new_name, signal_in, kill_signal, seconds_in, limit_in, tail_in, condition_in, time_in}
-use Rattle.api_routes.specs.Calls.{of_body, filters_in, create_call, list_keys, list_call, stop_call, restart_call, kill_call, rename_call, wait_call, remove_call, end_of, asked_logs, log_ask, logs_call, exec_create_call, volume_create_call, volume_list_call, event_keys, events_call}
+use Rattle.api_routes.specs.Calls.{of_body, filters_in, create_call, list_keys, list_call, stop_call, restart_call, kill_call, rename_call, update_call, wait_call, remove_call, end_of, asked_logs, log_ask, logs_call, exec_create_call, volume_create_call, volume_list_call, event_keys, events_call}
 use Rattle.api_routes.specs.RouteClass.{Asked, route_class, ask, in_chunks, exec_start_class}
 use Rattle.api_routes.specs.Laws.{OfItsCall}
 use Rattle.api_routes.specs.declared.class.Class.{Class}
@@ -139,6 +141,11 @@ exec-sound name body full =
     goes-on IsExec IsSound (of_body (exec_of body)) _ (from-body IsExec (exec_of body) (exec_within body)) (λ exec is.
     both_true (is_full name) (is_full exec.words) full is)
 
+update-sound : (name body : List ℕ) → IsNamed name → IfOk (update_call name body) IsSound
+update-sound name body full =
+    goes-on IsGiven IsSound (of_body (update_of body)) _ (from-body IsGiven (update_of body) (update_within body)) (λ policy is.
+    both_true (is_full name) (if_given is_policy policy) full is)
+
 volume-sound : (body : List ℕ) → IfOk (volume_create_call body) IsSound
 volume-sound body =
     goes-on IsVolume IsSound (of_body (volume_of body)) _ (from-body IsVolume (volume_of body) (volume_within body)) (λ volume is. is)
@@ -182,6 +189,7 @@ route-sound to.Kill a full = asks (kill_call a.name a.query) (kill-sound a.name 
 route-sound to.Pause a full = full refl
 route-sound to.Unpause a full = full refl
 route-sound to.Rename a full = asks (rename_call a.name a.query) (rename-sound a.name a.query (full refl))
+route-sound to.Update a full = asks (update_call a.name a.body) (update-sound a.name a.body (full refl))
 route-sound to.Wait a full = asks (wait_call a.name a.query) (wait-sound a.name a.query (full refl))
 route-sound to.Remove a full = asks (remove_call a.name a.query) (remove-sound a.name a.query (full refl))
 route-sound to.Logs a full = chunks (logs_call a.name a.query) (logs-sound a.name a.query (full refl))

@@ -9,6 +9,7 @@ use Rattle.engine_text.specs.declared.filter.FilterKey.TheVariants as key
 use Rattle.engine_text.specs.declared.filter.FilterRow.{FilterRow}
 use Rattle.api_json.specs.Create.{create_of}
 use Rattle.api_json.specs.ExecCreate.{exec_of}
+use Rattle.api_json.specs.Update.{update_of}
 use Rattle.api_json.specs.VolumeCreate.{volume_of}
 use Rattle.api_json.specs.Filters.{filter_of}
 use Rattle.api_json.specs.declared.fault.BodyFault.{BodyFault}
@@ -63,6 +64,10 @@ kill_call target query = and_then (signal_in query) (λ signal. Ok (call.Kill ta
 
 abbrev pub rename_call : List ℕ → List ℕ → Result Call Fault
 rename_call target query = and_then (new_name query) (λ name. Ok (call.Rename target name))
+
+-- ContainerUpdate.
+abbrev pub update_call : List ℕ → List ℕ → Result Call Fault
+update_call target body = and_then (of_body (update_of body)) (λ policy. Ok (call.Update target policy))
 
 abbrev pub wait_call : List ℕ → List ℕ → Result Call Fault
 wait_call target query = and_then (condition_in query) (λ until. Ok (call.Wait target until))

@@ -4,7 +4,7 @@ use Rattle.engine_text.specs.declared.call.Call.{Call}
 use Rattle.engine_text.specs.declared.call.Call.TheVariants as call
 use Rattle.api_json.specs.ExecCreate.{exec_start_of}
 use Rattle.api_routes.specs.Fault.{and_then}
-use Rattle.api_routes.specs.Calls.{of_body, create_call, list_call, stop_call, restart_call, kill_call, rename_call, wait_call, remove_call, logs_call, attach_ask, exec_create_call, volume_create_call, volume_list_call, events_call}
+use Rattle.api_routes.specs.Calls.{of_body, create_call, list_call, stop_call, restart_call, kill_call, rename_call, update_call, wait_call, remove_call, logs_call, attach_ask, exec_create_call, volume_create_call, volume_list_call, events_call}
 use Rattle.api_routes.specs.declared.class.Class.{Class}
 use Rattle.api_routes.specs.declared.class.Class.TheVariants.{Direct, Ask, Stream}
 use Rattle.api_routes.specs.declared.class.DirectKind.{DirectKind}
@@ -61,6 +61,7 @@ route_class to.Kill a = ask (kill_call a.name a.query)
 route_class to.Pause a = Ok (Ask (call.Pause a.name))
 route_class to.Unpause a = Ok (Ask (call.Unpause a.name))
 route_class to.Rename a = ask (rename_call a.name a.query)
+route_class to.Update a = ask (update_call a.name a.body)
 route_class to.Wait a = ask (wait_call a.name a.query)
 route_class to.Remove a = ask (remove_call a.name a.query)
 route_class to.Logs a = in_chunks (logs_call a.name a.query)

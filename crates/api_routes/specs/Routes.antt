@@ -42,6 +42,7 @@ post_table =
     ∷ (of_container (codes "pause"), to.Pause)
     ∷ (of_container (codes "unpause"), to.Unpause)
     ∷ (of_container (codes "rename"), to.Rename)
+    ∷ (of_container (codes "update"), to.Update)
     ∷ (of_container (codes "wait"), to.Wait)
     ∷ (of_container (codes "attach"), to.Attach)
     ∷ (of_container (codes "exec"), to.ExecCreate)

@@ -2,6 +2,7 @@
 ghost use Rattle.std.specs.Prelude.{None};
 ghost use Rattle.api_json.specs.Create.{create_of};
 ghost use Rattle.api_json.specs.ExecCreate.{exec_of, exec_start_of};
+ghost use Rattle.api_json.specs.Update.{update_of};
 ghost use Rattle.api_json.specs.VolumeCreate.{volume_of};
 ghost use Rattle.api_routes.specs.Calls.{of_body, filters_in};
 ghost use Rattle.api_routes.specs.Reading.{Reads};
@@ -11,9 +12,9 @@ use crate::query::value_or_empty;
 use crate::refused::Refused;
 use api_json::{
     BodyFault, ExecSpec, Refused as BodyRefused, VolumeSpec, read_create, read_exec,
-    read_exec_start, read_filter, read_volume,
+    read_exec_start, read_filter, read_update, read_volume,
 };
-use engine_text::{CreateSpec, Filter, FilterKey};
+use engine_text::{CreateSpec, Filter, FilterKey, Policy};
 use std::alloc::Global;
 
 /// What the body of a create asks for, without a name.
@@ -22,6 +23,17 @@ pub(crate) fn create_body(alloc: Global, body: &[u8]) -> Result<CreateSpec, Refu
 {
     match read_create(alloc, None, body) {
         Ok(spec) => Ok(spec),
+        Err(BodyRefused::BadBody(fault)) => Err(Refused::Fault(Fault::Body(fault))),
+        Err(BodyRefused::NoMemory) => Err(Refused::NoMemory),
+    }
+}
+
+/// The policy that the body of an update gives, if it gives one.
+pub(crate) fn update_body(alloc: Global, body: &[u8]) -> Result<Option<Policy>, Refused>
+    ensures { Reads result (of_body (update_of body.now)) }
+{
+    match read_update(alloc, body) {
+        Ok(policy) => Ok(policy),
         Err(BodyRefused::BadBody(fault)) => Err(Refused::Fault(Fault::Body(fault))),
         Err(BodyRefused::NoMemory) => Err(Refused::NoMemory),
     }

@@ -3,7 +3,7 @@ ghost use Rattle.api_routes.specs.Calls as spec;
 ghost use Rattle.api_routes.specs.Reading.{Reads};
 
 use crate::Fault;
-use crate::body::{create_body, filters_in};
+use crate::body::{create_body, filters_in, update_body};
 use crate::keys::{condition_in, flag, limit_in, seconds_in};
 use crate::names::{create_name, new_name, signal_in};
 use crate::refused::Refused;
@@ -84,6 +84,14 @@ pub(crate) fn rename_call(alloc: Global, target: Text, query: &str) -> Result<Ca
 {
     let name = new_name(alloc, query)?;
     Ok(Call::Rename { target, name })
+}
+
+/// The update that a request asks for.
+pub(crate) fn update_call(alloc: Global, target: Text, body: &[u8]) -> Result<Call, Refused>
+    ensures { Reads result (spec.update_call target body.now) }
+{
+    let policy = update_body(alloc, body)?;
+    Ok(Call::Update { target, policy })
 }
 
 /// The wait that a request asks for.

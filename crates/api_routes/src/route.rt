@@ -15,6 +15,7 @@ pub enum Route {
     Pause,
     Unpause,
     Rename,
+    Update,
     Wait,
     Remove,
     Logs,

@@ -5,7 +5,8 @@ ghost use Rattle.api_routes.specs.Reading.{Reads};
 
 use crate::body::exec_start_body;
 use crate::containers::{
-    create_call, kill_call, list_call, remove_call, rename_call, restart_call, stop_call, wait_call,
+    create_call, kill_call, list_call, remove_call, rename_call, restart_call, stop_call,
+    update_call, wait_call,
 };
 use crate::execs::{exec_create_call, volume_create_call, volume_list_call};
 use crate::logs::{attach_ask, events_call, logs_call};
@@ -78,6 +79,7 @@ pub(crate) fn route_class(
         Route::Pause => Ok(Class::Ask(Call::Pause { target: name })),
         Route::Unpause => Ok(Class::Ask(Call::Unpause { target: name })),
         Route::Rename => Ok(Class::Ask(rename_call(alloc, name, query)?)),
+        Route::Update => Ok(Class::Ask(update_call(alloc, name, body)?)),
         Route::Wait => Ok(Class::Ask(wait_call(alloc, name, query)?)),
         Route::Remove => Ok(Class::Ask(remove_call(alloc, name, query)?)),
         Route::Logs => Ok(Class::Stream(logs_call(alloc, name, query)?, Takeover::None)),

@@ -48,6 +48,7 @@ fn post_routes(alloc: Global) -> Result<Router<Route>, InsertError>
     add(&mut router, "/containers/{ref}/pause", Route::Pause)?;
     add(&mut router, "/containers/{ref}/unpause", Route::Unpause)?;
     add(&mut router, "/containers/{ref}/rename", Route::Rename)?;
+    add(&mut router, "/containers/{ref}/update", Route::Update)?;
     add(&mut router, "/containers/{ref}/wait", Route::Wait)?;
     add(&mut router, "/containers/{ref}/attach", Route::Attach)?;
     add(&mut router, "/containers/{ref}/exec", Route::ExecCreate)?;

@@ -1,17 +1,19 @@
 -- Which calls a request can make (Docker Engine API v1.43, the parameters of each operation; own: their bounds).
-use Rattle.std.specs.Prelude.{ℕ, ℤ, pos, negsuc, ◌==◌, ◌&&◌, ◌||◌, nat_le, nat_lt, Bool, true, false, IsTrue, List, [], ◌∷◌, Option, Some, None, length, map}
+use Rattle.std.specs.Prelude.{ℕ, ℤ, pos, negsuc, ◌==◌, ◌&&◌, ◌||◌, nat_le, nat_lt, Bool, true, false, not, IsTrue, List, [], ◌∷◌, Option, Some, None, length, map}
 use Rattle.std.specs.List.{list_all}
 use Rattle.std.specs.Ordering.{nat_cmp, is_lt}
 use Rattle.std.specs.Cmp.Lexicographic.{slice_cmp}
 use Rattle.engine_text.specs.Name.{is_name, is_volume_name}
 use Rattle.engine_text.specs.Mounts.{is_path}
 use Rattle.engine_text.specs.Filter.{filter_word}
+use Rattle.engine_text.specs.Policy.{is_no}
 use Rattle.engine_text.specs.declared.call.Call.{Call}
 use Rattle.engine_text.specs.declared.call.CreateSpec.{CreateSpec}
 use Rattle.engine_text.specs.declared.call.LogAsk.{LogAsk}
 use Rattle.engine_text.specs.declared.filter.FilterRow.{FilterRow}
 use Rattle.engine_text.specs.declared.filter.FilterKey.{FilterKey}
 use Rattle.engine_text.specs.declared.filter.FilterKey.TheVariants as Key
+use Rattle.engine_text.specs.declared.health.HealthSpec.{HealthSpec}
 use Rattle.engine_text.specs.declared.mounts.Mount.{Mount}
 use Rattle.engine_text.specs.declared.pairs.Pair.{Pair}
 use Rattle.engine_text.specs.declared.policy.Policy.{Policy}
@@ -112,11 +114,26 @@ is_filter is_key rows = are_rising (map (λ r. filter_word r.key) rows) && list_
 
 -- ---- calls
 
+-- Whether a container with this policy may be removed by itself: only where it is never restarted.
+abbrev pub allows_auto_remove : Policy → Bool → Bool
+allows_auto_remove policy auto = not auto || is_no policy
+
+-- Milliseconds of a health check: an hour at most.
+abbrev pub is_span : ℕ → Bool
+is_span n = nat_le n 3600000
+
+-- A health check has at least one word, an interval and a timeout of at least a millisecond, and 1 to 1,000 retries.
+abbrev pub is_health : HealthSpec → Bool
+is_health h =
+    is_full h.words && nat_le 1 h.interval && is_span h.interval && nat_le 1 h.timeout && is_span h.timeout
+    && is_span h.start_period && nat_le 1 h.retries && nat_le h.retries 1000
+
 -- The values of a create.
 abbrev pub is_create : CreateSpec → Bool
 is_create spec =
     if_given is_name spec.name && is_policy spec.policy && is_signal spec.stop_signal && is_seconds spec.stop_after
-    && are_labels spec.labels && are_mounts spec.mounts
+    && are_labels spec.labels && are_mounts spec.mounts && allows_auto_remove spec.policy spec.auto_remove
+    && if_given is_health spec.health
 
 -- Logs ask for at least one stream.
 abbrev pub is_log_ask : LogAsk → Bool
@@ -133,6 +150,7 @@ is_sound (Call.Stop target wait signal) = is_full target && if_given is_seconds 
 is_sound (Call.Restart target wait signal) = is_full target && if_given is_seconds wait && if_given is_signal signal
 is_sound (Call.Kill target signal) = is_full target && is_signal signal
 is_sound (Call.Rename target name) = is_full target && is_name name
+is_sound (Call.Update target policy) = is_full target && if_given is_policy policy
 is_sound (Call.Remove target force) = is_full target
 is_sound (Call.Wait target until) = is_full target
 is_sound (Call.List all limit filter) = if_given is_limit limit && is_filter is_list_key filter

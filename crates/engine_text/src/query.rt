@@ -4,7 +4,8 @@ ghost use Rattle.engine_text.specs.Texts.{same_letters};
 ghost use Rattle.engine_text.specs.Query.{is_blank, without_first_blanks, without_last_blanks};
 ghost use Rattle.engine_text.specs.Query.{is_false_word, query_bool};
 
-fn is_blank(c: u8) -> bool
+/// Whether it is a space or a tab.
+pub fn is_blank(c: u8) -> bool
     ensures { result ≡ is_blank c }
 {
     c == b' ' || c == b'\t'

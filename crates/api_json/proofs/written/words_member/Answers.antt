@@ -1,9 +1,10 @@
-use Rattle.api_json.proofs.WrittenLemmas.{lacks_word_less, lacks_words_none}
+use Rattle.std.proofs.Common.{refl}
+use Rattle.api_json.proofs.WrittenLemmas.{lacks_all, lacks_one_less, lacks_rest}
 use Rattle.api_json.proofs.written.words_member.Goals as goal
 
-pub words-preserved : goal.words-preserved
-words-preserved c =
-    lacks_word_less c.args.words.now c.words.word-index c.word-item.result c.as_str.result.now c.words-test.true c.word-item.is c.as_str.ensures c.in_ok-string.ensures c.words.invariant
-
 pub returns : goal.returns
-returns c = lacks_words_none c.args.key.now c.args.words.now c.words.word-index c.words-test.false c.end_array.ensures c.words.invariant
+returns c =
+    lacks_rest c.last_words.ensures
+    (lacks_one_less c.in_ok-begin_array.ensures
+    (lacks_one_less c.in_ok-key.ensures
+    (lacks_all refl)))
