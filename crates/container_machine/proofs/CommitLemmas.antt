@@ -66,5 +66,5 @@ pub kept_due_parts : (p : PreparedDue) (w : MachineParts) (death : Option Death)
 kept_due_parts p w death events a b d f h h0 h1 h2 h3 h4 h5 =
     subst (λ (s : State). IsConsistent s) (sym (due_parts p w death events a b d f h h0 h1 h2 h3 h4 h5)) h.kept
 
-pub stepped_as : (w v : MachineParts) (e : Effect) → due_step w.memory.state ≡ Some e → v.memory.state ≡ e.state → IsStepped (due_step w.memory.state) w v
-stepped_as w v e is state = subst (λ (o : Option Effect). IsStepped o w v) (sym is) state
+pub stepped_as : (w v : MachineParts) (e : Effect) → due_step w.memory.state ≡ Some e → v.memory.state ≡ e.state → v.memory.room ≡ w.memory.room → IsStepped (due_step w.memory.state) w v
+stepped_as w v e is state room = subst (λ (o : Option Effect). IsStepped o w v) (sym is) (state, room)

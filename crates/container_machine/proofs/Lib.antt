@@ -22,4 +22,5 @@ pub mod TakeLemmas
 pub mod DueFoundLemmas
 pub mod DueMakeLemmas
 pub mod UnpauseLemmas
+pub mod UpdateLemmas
 pub mod VolumeLemmas

@@ -154,6 +154,7 @@ fits (Plan.Unpause n kit) t m brings k at room = record {
   end = λ ended. settles n kit t m (brings ended) k at.until room;
   spare = room.spare;
 }
+fits (Plan.Update n policy) t m brings k at room = tt
 fits (Plan.VolumeCreate name labels) t m brings k at room = record { free = brings; room = room }
 fits (Plan.VolumeRemove name) t m brings k at room = record { stands = brings.stands; unused = brings.unused }
 fits (Plan.Wait connection n until) t m brings k at room = record {

@@ -13,15 +13,17 @@ use Rattle.engine_text.specs.declared.owner.Owner.{Owner}
 use Rattle.engine_text.specs.declared.status.Status.{Status}
 use Rattle.proc_kernel.specs.Catalogue.{program_of}
 use Rattle.machine_model.specs.State.{State, container_numbered}
+use Rattle.machine_model.specs.Calls.Kill.{by_hand}
 use Rattle.machine_model.specs.Chain.{Died}
+use Rattle.machine_model.specs.Effects.EndMain.{ended}
 use Rattle.machine_model.specs.EventTexts.{die_event, kill_event}
 use Rattle.machine_effects.specs.Fit.{HasEnded, died_of, exec_numbers, next_script, outputs_of}
-use Rattle.machine_effects.specs.Foretold.{told_code, told_goal, told_mounts, told_number, told_status}
+use Rattle.machine_effects.specs.Foretold.{running_numbers, told_code, told_end, told_goal, told_mounts, told_number, told_status}
+use Rattle.machine_effects.specs.Marks.{renewed}
 use Rattle.machine_effects.specs.ToldCalls.{told_main, told_op, told_unpause}
 use Rattle.machine_effects.specs.ToldKill.{aimed, told_kill}
-use Rattle.machine_effects.specs.ToldMeet.{running_after, running_numbers, told_code_with, told_deliver, told_end_with, told_meet, told_wake}
+use Rattle.machine_effects.specs.ToldMeet.{running_after, told_deliver, told_meet, told_wake}
 use Rattle.machine_effects.specs.declared.kit.Kit.{Kit}
-use Rattle.machine_effects.proofs.MeetToldLemmas.{code_is}
 use Rattle.container_machine.specs.RunEnds.{IsEndKit, IsOwnerKit, Serves}
 
 -- ---- the kit
@@ -75,29 +77,29 @@ pub script_aimed : (code : Option ℕ) (g : Goal) (n : ℕ) (c : Container) (s :
 script_aimed None g n c s kit of = tt
 script_aimed (Some code) g n c s kit of = of.script ∙ aimed_next g c
 
-goal_next : (g : Goal) (c : Container) (t : ℕ) → told_goal g (next_script g c) c t ≡ told_goal g (own_script c) c t
-goal_next Goal.Remove c t = refl
-goal_next Goal.Stop c t = refl
-goal_next Goal.Restart c t = refl
-goal_next Goal.None c t = refl
+goal_next : (g : Goal) (c : Container) (code t : ℕ) → told_goal g (next_script g c) (renewed (ended code t) c) t ≡ told_goal g (own_script c) (renewed (ended code t) c) t
+goal_next Goal.Remove c code t = refl
+goal_next Goal.Stop c code t = refl
+goal_next Goal.Restart c code t = refl
+goal_next Goal.None c code t = refl
 
-status_next : (u : Status) (c : Container) (t : ℕ) → told_status u (next_script c.life.goal c) c t ≡ told_status u (own_script c) c t
-status_next Status.Dead c t = refl
-status_next Status.Created c t = goal_next c.life.goal c t
-status_next Status.Running c t = goal_next c.life.goal c t
-status_next Status.Paused c t = goal_next c.life.goal c t
-status_next Status.Restarting c t = goal_next c.life.goal c t
-status_next Status.Removing c t = goal_next c.life.goal c t
-status_next Status.Exited c t = goal_next c.life.goal c t
+status_next : (u : Status) (c : Container) (code t : ℕ) → told_status u (next_script c.life.goal c) (renewed (ended code t) c) t ≡ told_status u (own_script c) (renewed (ended code t) c) t
+status_next Status.Dead c code t = refl
+status_next Status.Created c code t = goal_next c.life.goal c code t
+status_next Status.Running c code t = goal_next c.life.goal c code t
+status_next Status.Paused c code t = goal_next c.life.goal c code t
+status_next Status.Restarting c code t = goal_next c.life.goal c code t
+status_next Status.Removing c code t = goal_next c.life.goal c code t
+status_next Status.Exited c code t = goal_next c.life.goal c code t
 
-code_with_next : (execs : List ℕ) (code : Option ℕ) (c : Container) (o : Option Program) (s : State) → IsScriptFor code c o → told_code_with execs code c o s ≡ told_code_with execs code c (own_script c) s
+code_with_next : (execs : List ℕ) (code : Option ℕ) (c : Container) (o : Option Program) (s : State) → IsScriptFor code c o → told_code execs code c o s ≡ told_code execs code c (own_script c) s
 code_with_next execs None c o s is = refl
 code_with_next execs (Some code) c o s is =
-    ap (λ p. told_end_with execs code c p s) is
-    ∙ ap (λ l. flat_map (told_number s) execs ++ (die_event code c s.clock ∷ (told_mounts Action.Unmount c s.clock ++ l))) (status_next c.life.status c s.clock)
+    ap (λ p. told_end execs code c p s) is
+    ∙ ap (λ l. flat_map (told_number s) execs ++ (die_event code c s.clock ∷ (told_mounts Action.Unmount c s.clock ++ l))) (status_next c.life.status c code s.clock)
 
-code_next : (code : Option ℕ) (n : ℕ) (c : Container) (o : Option Program) (s : State) → IsScriptFor code c o → told_code code n c o s ≡ told_code code n c (own_script c) s
-code_next code n c o s is = code_is code n c o s ∙ (code_with_next (running_numbers n s) code c o s is ∙ sym (code_is code n c (own_script c) s))
+code_next : (code : Option ℕ) (n : ℕ) (c : Container) (o : Option Program) (s : State) → IsScriptFor code c o → told_code (running_numbers n s) code c o s ≡ told_code (running_numbers n s) code c (own_script c) s
+code_next code n c o s is = code_with_next (running_numbers n s) code c o s is
 
 meet_next : (u : Status) (code : Option ℕ) (n : ℕ) (c : Container) (o : Option Program) (s : State) → IsScriptFor code c o → told_meet u code n c o s ≡ told_meet u code n c (own_script c) s
 meet_next Status.Paused code n c o s is = ap (λ l. told_wake n c s ++ l) (code_with_next (running_after n s) code c o s is)
@@ -108,9 +110,20 @@ meet_next Status.Removing code n c o s is = code_next code n c o s is
 meet_next Status.Exited code n c o s is = code_next code n c o s is
 meet_next Status.Dead code n c o s is = code_next code n c o s is
 
+-- stopped by hand
+hand_next : (g : Goal) (c : Container) → next_script g c ≡ next_script g (renewed by_hand c)
+hand_next Goal.Remove c = refl
+hand_next Goal.Stop c = refl
+hand_next Goal.Restart c = refl
+hand_next Goal.None c = refl
+
+script_by_hand : (code : Option ℕ) (c : Container) (o : Option Program) → IsScriptFor code c o → IsScriptFor code (renewed by_hand c) o
+script_by_hand None c o is = tt
+script_by_hand (Some code) c o is = is ∙ hand_next c.life.goal c
+
 -- of a kill
 pub deliver_next : (last : Bool) (code : Option ℕ) (n : ℕ) (c : Container) (o : Option Program) (s : State) → IsScriptFor code c o → told_deliver last code n c o s ≡ told_deliver last code n c (own_script c) s
-deliver_next true code n c o s is = meet_next c.life.status code n c o s is
+deliver_next true code n c o s is = meet_next c.life.status code n (renewed by_hand c) o s (script_by_hand code c o is)
 deliver_next false code n c o s is = code_next code n c o s is
 
 -- of a signal with its event kill

@@ -12,5 +12,6 @@ pub mod Start
 pub mod Stop
 pub mod Take
 pub mod Unpause
+pub mod Update
 pub mod Volumes
 pub mod Wait

@@ -32,7 +32,7 @@ pub record IsForDue (p : PreparedDue) (w : MachineParts) : Type 0 where
   pub fits : FitsDue p.plan (standing due.moment w.memory)
   pub kept : IsConsistent (finished 0 (due_at due w.memory.state)).state
 
--- The machine after a due step, if there is one.
+-- The machine after a due step, if there is one: its room is as it was.
 abbrev pub IsStepped : Option Effect → MachineParts → MachineParts → Type 0
 IsStepped None before after = ⊥
-IsStepped (Some e) before after = after.memory.state ≡ e.state
+IsStepped (Some e) before after = (after.memory.state ≡ e.state) × (after.memory.room ≡ before.memory.room)

@@ -37,6 +37,7 @@ use Rattle.container_machine.specs.Calls.Remove.{CanForce, force_effect, give_up
 use Rattle.container_machine.specs.Calls.Rename.{rename_effect}
 use Rattle.container_machine.specs.Calls.Stop.{CanStop, halt_effect, stop_restarting_effect}
 use Rattle.container_machine.specs.Calls.Unpause.{CanThaw}
+use Rattle.container_machine.specs.Calls.Update.{update_effect}
 use Rattle.container_machine.specs.Calls.Volumes.{CanMakeVolume, CanRemoveVolume, HasVolumeRoom}
 use Rattle.container_machine.specs.Calls.Wait.{wait_effect}
 use Rattle.container_machine.specs.RunEnds.{ServesAs, ServesBy}
@@ -65,6 +66,7 @@ plan_effect (Plan.RestartRestarting n script) = restart_restarting_effect n
 plan_effect (Plan.Start n script) = launch_by_call n
 plan_effect (Plan.StopRestarting n) = stop_restarting_effect n
 plan_effect (Plan.Unpause n kit) = thaw_container n
+plan_effect (Plan.Update n policy) = update_effect n policy
 plan_effect (Plan.VolumeCreate name labels) = make_volume name labels
 plan_effect (Plan.VolumeRemove name) = remove_volume name
 plan_effect (Plan.Wait connection n until) = wait_effect connection n until
@@ -92,6 +94,7 @@ Fits (Plan.RestartRestarting n script) m = CanStart n script m
 Fits (Plan.Start n script) m = CanStart n script m
 Fits (Plan.StopRestarting n) m = ⊤
 Fits (Plan.Unpause n kit) m = CanThaw n kit m
+Fits (Plan.Update n policy) m = ⊤
 Fits (Plan.VolumeCreate name labels) m = CanMakeVolume name m
 Fits (Plan.VolumeRemove name) m = CanRemoveVolume name m.state
 Fits (Plan.Wait connection n until) m = CanBegin m
@@ -119,6 +122,7 @@ HasRoomFor (Plan.RestartRestarting n script) m = HasRoom m
 HasRoomFor (Plan.Start n script) m = HasRoom m
 HasRoomFor (Plan.StopRestarting n) m = ⊤
 HasRoomFor (Plan.Unpause n kit) m = HasRoom m
+HasRoomFor (Plan.Update n policy) m = ⊤
 HasRoomFor (Plan.VolumeCreate name labels) m = HasVolumeRoom m
 HasRoomFor (Plan.VolumeRemove name) m = ⊤
 HasRoomFor (Plan.Wait connection n until) m = length m.state.tickets < m.room.tickets
@@ -148,6 +152,7 @@ Brings (Plan.RestartRestarting n script) t s = IsScriptOf n script s
 Brings (Plan.Start n script) t s = IsScriptOf n script s
 Brings (Plan.StopRestarting n) t s = ⊤
 Brings (Plan.Unpause n kit) t s = ServesBy (thaw_container n) n kit (at_moment t s)
+Brings (Plan.Update n policy) t s = ⊤
 Brings (Plan.VolumeCreate name labels) t s = volume_named name s ≡ None
 Brings (Plan.VolumeRemove name) t s = CanRemoveVolume name s
 Brings (Plan.Wait connection n until) t s = ⊤

@@ -39,7 +39,8 @@ pub record IsFor (p : Prepared) (w : MachineParts) (a : Asked) : Type 0 where
 abbrev pub IsForSome : Prepared → MachineParts → Type 0
 IsForSome p w = (a : Asked) × IsFor p w a
 
--- The machine after a step with that outcome, and the reply.
+-- The machine after a step with that outcome, its room as it was, and the reply.
 pub record IsCommitted (o : Outcome) (answer : Reply) (before after : MachineParts) : Type 0 where
   pub reply : answer ≡ o.reply
   pub state : after.memory.state ≡ o.effect.state
+  pub room : after.memory.room ≡ before.memory.room

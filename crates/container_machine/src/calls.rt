@@ -16,5 +16,6 @@ pub mod start;
 pub mod stop;
 pub mod take;
 pub mod unpause;
+pub mod update;
 pub mod volumes;
 pub mod wait;

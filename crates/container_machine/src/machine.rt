@@ -153,6 +153,9 @@ impl Machine {
             Call::Unpause { target } => {
                 calls::unpause::prepare(&self.tables, alloc, moment, target.as_str())
             }
+            Call::Update { target, policy } => {
+                calls::update::prepare(&self.tables, alloc, moment, target.as_str(), *policy)
+            }
             Call::VolumeCreate { name, labels } => {
                 calls::volumes::create::prepare(&self.tables, alloc, moment, name.as_str(), labels)
             }
@@ -210,6 +213,7 @@ impl Machine {
             Plan::Start { .. } => self.tables.make_room(alloc),
             Plan::StopRestarting { .. } => Ok(()),
             Plan::Unpause { .. } => self.tables.make_room(alloc),
+            Plan::Update { .. } => Ok(()),
             Plan::VolumeCreate { .. } => self.tables.make_volume_room(alloc),
             Plan::VolumeRemove { .. } => Ok(()),
             Plan::Wait { .. } => self.tables.make_ticket_room(),

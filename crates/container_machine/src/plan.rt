@@ -4,7 +4,7 @@ ghost use Rattle.container_machine.specs.Plans.{plan_effect, Fits};
 ghost use Rattle.machine_effects.specs.Settled.{deaths};
 
 use super::{calls, halts};
-use engine_text::{Bytes, Exec, Owner, Pairs, Script, Signal, Text, Until, Volume};
+use engine_text::{Bytes, Exec, Owner, Pairs, Policy, Script, Signal, Text, Until, Volume};
 use machine_effects::{Death, Halting, Held, HeldOutput, Kit, Tables};
 
 /// What a prepared call does.
@@ -93,6 +93,10 @@ pub enum Plan {
     Unpause {
         number: u64,
         kit: Kit,
+    },
+    Update {
+        number: u64,
+        policy: Option<Policy>,
     },
     VolumeCreate {
         name: Text,
@@ -201,6 +205,10 @@ pub fn perform(tables: &mut Tables, plan: Plan) -> Option<Death>
             None
         }
         Plan::Unpause { number, kit } => calls::unpause::perform(tables, number, kit),
+        Plan::Update { number, policy } => {
+            calls::update::perform(tables, number, policy);
+            None
+        }
         Plan::VolumeCreate { name, labels } => {
             calls::volumes::create::perform(tables, name, labels);
             None

@@ -100,6 +100,13 @@ pub fn same_name(alloc: Global) -> Result<Text, NoMemory>
     Text::of(alloc, "same name")
 }
 
+/// A container that is removed by itself isn't restarted.
+pub fn auto_remove_excludes(alloc: Global) -> Result<Text, NoMemory>
+    ensures { IfOk result (λ t. t ≡ spec.auto_remove_excludes) }
+{
+    Text::of(alloc, "AutoRemove excludes a restart policy")
+}
+
 /// A container that runs isn't removed without force.
 pub fn running_removal(alloc: Global, id: &str) -> Result<Text, NoMemory>
     ensures { IfOk result (λ t. t ≡ spec.running_removal id.now) }

@@ -20,10 +20,10 @@ use Rattle.machine_model.specs.Effects.Cancel.{cancel_restart, cancelled}
 use Rattle.machine_model.specs.Effects.Destroy.{destroy, without}
 use Rattle.machine_model.specs.Effects.Launch.{afresh, launch_by_call}
 use Rattle.machine_model.specs.Effects.Meet.{running, step_process, thaw_container, thaw_execs, wake_parts}
-use Rattle.machine_effects.specs.Foretold.{told_code, told_launch}
+use Rattle.machine_effects.specs.Foretold.{running_numbers, told_code, told_launch}
 use Rattle.machine_effects.specs.Marks.{renewed}
 use Rattle.machine_effects.specs.ToldCalls.{told_again, told_main, told_op, told_unpause}
-use Rattle.machine_effects.specs.ToldMeet.{running_after, running_numbers, told_code_with, told_thaw, told_wake}
+use Rattle.machine_effects.specs.ToldMeet.{running_after, told_thaw, told_wake}
 use Rattle.machine_effects.proofs.SettleLemmas.{has_number, tell_still}
 use Rattle.machine_effects.proofs.ToldLemmas.{AreAlike, found_renewed, launch_then, launch_told, same_launch, told_at}
 use Rattle.machine_effects.proofs.MeetLemmas.{effect_told}
@@ -45,15 +45,15 @@ unpause_told n s c o code found paused named single is =
     let f : container_numbered n z ≡ Some c1 = ap (find (λ (d : Container). d.number == n)) a.containers ∙ found_renewed n running s c found in
     let k : code ≡ code_at (thaw z.clock) (process_of (Owner.Container n) z.processes) =
     is ∙ (sym (ap (λ t. code_at (thaw t) (process_of (Owner.Container n) s.processes)) a.clock) ∙ sym (ap (λ q. code_at (thaw z.clock) q) (main_thaws xs n s1))) in
-    let ends : (step_process thaw (Owner.Container n) z).events ≡ told_code_with (running_numbers n z) code c1 o s1 =
-    effect_told_with (effect_of (thaw z.clock) (process_of (Owner.Container n) z.processes)) n (λ p. (thaw z.clock p).process) s1 z c1 o a f named ∙ ap (λ q. told_code_with (running_numbers n z) q c1 o s1) (sym k) in
+    let ends : (step_process thaw (Owner.Container n) z).events ≡ told_code (running_numbers n z) code c1 o s1 =
+    effect_told_with (effect_of (thaw z.clock) (process_of (Owner.Container n) z.processes)) n (λ p. (thaw z.clock p).process) s1 z c1 o a f named ∙ ap (λ q. told_code (running_numbers n z) q c1 o s1) (sym k) in
     let still : (in_order (wake_parts n) s).state ≡ z = ap (λ y. (thaw_execs n (change_life n running y)).state) (tell_still (plain_event Action.Unpause) n s) in
     ap (λ l. l ++ (step_process thaw (Owner.Container n) (in_order (wake_parts n) s).state).events) (wake_told n s c found single)
     ∙ (ap (λ l. told_wake n c s ++ l)
     (ap (λ y. (step_process thaw (Owner.Container n) y).events) still
-    ∙ (ends ∙ (ap (λ ks. told_code_with ks code c1 o s1) (runs_after n s1 single.execs single.processes)
-    ∙ code_kept (running_after n s) code n running c o s refl (paused_status c.life.status o c s.clock refl paused))))
-    ∙ ap (λ m. told_wake m c s ++ told_code_with (running_after m s) code c o s) (sym (has_number n s c found)))
+    ∙ (ends ∙ (ap (λ ks. told_code ks code c1 o s1) (runs_after n s1 single.execs single.processes)
+    ∙ code_kept (running_after n s) code n running c o s refl (λ code. paused_status c.life.status o code s.clock c refl paused))))
+    ∙ ap (λ m. told_wake m c s ++ told_code (running_after m s) code c o s) (sym (has_number n s c found)))
 
 -- ---- an op
 
@@ -61,8 +61,8 @@ main_op_told : (n : ℕ) (s : State) (c : Container) (o : Option Program) (code 
     → code ≡ code_at (run_due s.clock) (process_of (Owner.Container n) s.processes) → (step_process run_due (Owner.Container n) s).events ≡ told_op (Owner.Container n) code o s
 main_op_told n s c o code found named is =
     effect_told (effect_of (run_due s.clock) (process_of (Owner.Container n) s.processes)) n (λ p. (run_due s.clock p).process) s c o found named
-    ∙ (ap (λ k. told_code k n c o s) (sym is)
-    ∙ (ap (λ m. told_code code m c o s) (sym (has_number n s c found)) ∙ ap (λ q. told_main q code o s) (sym found)))
+    ∙ (ap (λ k. told_code (running_numbers n s) k c o s) (sym is)
+    ∙ (ap (λ m. told_code (running_numbers m s) code c o s) (sym (has_number n s c found)) ∙ ap (λ q. told_main q code o s) (sym found)))
 
 exec_op_told : (n : ℕ) (s : State) (o : Option Program) (code : Option ℕ) → code ≡ code_at (run_due s.clock) (process_of (Owner.Exec n) s.processes) → (step_process run_due (Owner.Exec n) s).events ≡ told_op (Owner.Exec n) code o s
 exec_op_told n s o code is =

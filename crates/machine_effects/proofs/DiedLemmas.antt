@@ -19,7 +19,7 @@ use Rattle.machine_model.specs.State.{State, container_numbered, exec_numbered, 
 use Rattle.machine_model.specs.EventTexts.{plain_event, die_event}
 use Rattle.machine_model.specs.Chain.{Effect, Died, in_order, each, and_then, change, with_found, tell_of, tell_mounts}
 use Rattle.machine_model.specs.Effects.Destroy.{destroy, without}
-use Rattle.machine_model.specs.Effects.EndMain.{end_main, die, clear_deadlines, end_exec, end_execs, by_goal, by_status, follow, decision_at}
+use Rattle.machine_model.specs.Effects.EndMain.{end_main, die, clear_deadlines, end_exec, end_execs, by_goal, by_status, removed_if, follow, decision_at}
 use Rattle.machine_model.specs.Effects.Launch.{launch, launch_by_call, afresh, launch_program, container_room}
 use Rattle.machine_effects.specs.Effects.EndMain.{begun}
 use Rattle.machine_model.specs.Effects.Meet.{by_effect, step_process, stepped, thaw_container, thaw_execs, wake_parts, woken, send, meet_signal, running}
@@ -77,19 +77,23 @@ none_destroy n s =
     let z : State = (tell_of (plain_event Action.Destroy) n s).state in
     none_both _ _ (none_tell (plain_event Action.Destroy) n s) (none_found (container_numbered n z) (λ c. change (without c)) (λ c y. refl) z)
 
-none_follow : (d : Decision) (n : ℕ) → NoneDied (follow d n)
-none_follow Stay n s = refl
-none_follow (Again delay) n s = refl
+none_gone : (auto : Bool) (n : ℕ) → NoneDied (removed_if auto n)
+none_gone true n s = none_destroy n s
+none_gone false n s = refl
+
+none_follow : (d : Decision) (auto : Bool) (n : ℕ) → NoneDied (follow d auto n)
+none_follow Stay auto n s = none_gone auto n _
+none_follow (Again delay) auto n s = refl
 
 none_goal : (g : Goal) (c : Container) → NoneDied (by_goal g c)
 none_goal Goal.Remove c s = none_destroy c.number s
-none_goal Goal.Stop c s = none_tell _ c.number _
+none_goal Goal.Stop c s = none_both _ _ (none_tell _ c.number _) (none_gone c.life.auto_remove c.number _)
 none_goal Goal.Restart c s =
     let n : ℕ = c.number in
     let a : State = (tell_of (plain_event Action.Stop) n s).state in
     let b : State = (launch_by_call n a).state in
     none_both _ _ (none_tell (plain_event Action.Stop) n s) (none_both _ _ (none_launch n (change_life n afresh a)) (none_tell (plain_event Action.Restart) n b))
-none_goal Goal.None c s = none_follow (decision_at s.clock c.life) c.number s
+none_goal Goal.None c s = none_follow (decision_at s.clock c.life) c.life.auto_remove c.number s
 
 none_status : (u : Status) (c : Container) → NoneDied (by_status u c)
 none_status Status.Dead c s = refl

@@ -28,15 +28,17 @@ use Rattle.machine_model.specs.Due.{stop_deadline}
 use Rattle.machine_model.specs.Effects.Halt.{halt, lesser, set_deadline}
 use Rattle.machine_model.specs.Effects.Meet.{meet_signal}
 use Rattle.machine_model.specs.Tickets.{begun}
-use Rattle.machine_effects.specs.Foretold.{told_code, told_exec, told_goal, told_mounts, told_number, told_status}
+use Rattle.std.proofs.lemmas.Bool.{false≢true}
+use Rattle.machine_model.specs.Effects.EndMain.{ended}
+use Rattle.machine_effects.specs.Foretold.{running_numbers, told_code, told_exec, told_goal, told_mounts, told_number, told_status}
 use Rattle.engine_text.specs.declared.event.Action.{Action}
 use Rattle.machine_effects.specs.Marks.{renewed}
 use Rattle.machine_effects.specs.ToldKill.{aimed, told_kill}
-use Rattle.machine_effects.specs.ToldMeet.{told_meet, told_wake, told_code_with, told_thaw, thawed_code, running_numbers, running_after}
+use Rattle.machine_effects.specs.ToldMeet.{told_meet, told_wake, told_thaw, thawed_code, running_after}
 use Rattle.machine_effects.proofs.SettleLemmas.{has_number, tell_still}
 use Rattle.machine_effects.proofs.SiftLemmas.{nil_end}
 use Rattle.machine_effects.proofs.ToldLemmas.{found_renewed, told_at}
-use Rattle.machine_effects.proofs.MeetToldLemmas.{StandOnce, code_is, code_kept, goal_kept, meet_told, status_kept, thaws_marked}
+use Rattle.machine_effects.proofs.MeetToldLemmas.{StandOnce, IsLike, code_kept, meet_told, status_like, thaws_marked}
 
 -- ---- timers and tickets, of which nothing is told
 
@@ -72,17 +74,17 @@ ends_beside (k ∷ ks) b s =
     ap (λ l. l ++ flat_map (told_number (beside b s)) ks) (exec_beside 137 (exec_numbered k s) b s)
     ∙ ap (λ l. told_number s k ++ l) (ends_beside ks b s)
 
-code_beside : (ks : List ℕ) (code : Option ℕ) (c : Container) (o : Option Program) (b : Beside) (s : State) → told_code_with ks code c o (beside b s) ≡ told_code_with ks code c o s
+code_beside : (ks : List ℕ) (code : Option ℕ) (c : Container) (o : Option Program) (b : Beside) (s : State) → told_code ks code c o (beside b s) ≡ told_code ks code c o s
 code_beside ks None c o b s = refl
 code_beside ks (Some code) c o b s =
-    ap (λ l. l ++ (die_event code c s.clock ∷ (told_mounts Action.Unmount c s.clock ++ told_status c.life.status o c s.clock))) (ends_beside ks b s)
+    ap (λ l. l ++ (die_event code c s.clock ∷ (told_mounts Action.Unmount c s.clock ++ told_status c.life.status o (renewed (ended code s.clock) c) s.clock))) (ends_beside ks b s)
 
-main_beside : (code : Option ℕ) (n : ℕ) (c : Container) (o : Option Program) (b : Beside) (s : State) → told_code code n c o (beside b s) ≡ told_code code n c o s
-main_beside code n c o b s = code_is code n c o (beside b s) ∙ (code_beside (running_numbers n s) code c o b s ∙ sym (code_is code n c o s))
+main_beside : (code : Option ℕ) (n : ℕ) (c : Container) (o : Option Program) (b : Beside) (s : State) → told_code (running_numbers n (beside b s)) code c o (beside b s) ≡ told_code (running_numbers n s) code c o s
+main_beside code n c o b s = code_beside (running_numbers n s) code c o b s
 
 meet_beside : (u : Status) (code : Option ℕ) (n : ℕ) (c : Container) (o : Option Program) (b : Beside) (s : State) → told_meet u code n c o (beside b s) ≡ told_meet u code n c o s
 meet_beside Status.Paused code n c o b s =
-    ap (λ l. (plain_event Action.Unpause c s.clock ∷ l) ++ told_code_with (running_after n s) code c o (beside b s)) (thaws_beside (running_numbers n s) b s)
+    ap (λ l. (plain_event Action.Unpause c s.clock ∷ l) ++ told_code (running_after n s) code c o (beside b s)) (thaws_beside (running_numbers n s) b s)
     ∙ ap (λ l. told_wake n c s ++ l) (code_beside (running_after n s) code c o b s)
 meet_beside Status.Created code n c o b s = main_beside code n c o b s
 meet_beside Status.Running code n c o b s = main_beside code n c o b s
@@ -93,24 +95,23 @@ meet_beside Status.Dead code n c o b s = main_beside code n c o b s
 
 -- ---- a renewed life of which the same is told
 
--- mounts, goal and status are as they were
+-- its status is as it was, and what is told of an end
 pub record IsToldAs (f : Life → Life) (l : Life) : Type 0 where
-  pub mounts : (f l).mounts ≡ l.mounts
-  pub goal : (f l).goal ≡ l.goal
   pub status : (f l).status ≡ l.status
+  pub like : (t : ℕ) → IsLike t (f l) l
 
-status_same : (o : Option Program) (t : ℕ) (f : Life → Life) (c : Container) → IsToldAs f c.life → told_status (f c.life).status o (renewed f c) t ≡ told_status c.life.status o c t
-status_same o t f c k = ap (λ u. told_status u o (renewed f c) t) k.status ∙ status_kept c.life.status o t f c k.mounts k.goal
+status_same : (o : Option Program) (code t : ℕ) (f : Life → Life) (c : Container) → IsToldAs f c.life → told_status (f c.life).status o (renewed (ended code t) (renewed f c)) t ≡ told_status c.life.status o (renewed (ended code t) c) t
+status_same o code t f c k =
+    ap (λ u. told_status u o (renewed (ended code t) (renewed f c)) t) k.status ∙ status_like c.life.status o code t c (f c.life) c.life (k.like t)
 
-code_same : (code : Option ℕ) (n : ℕ) (f : Life → Life) (c : Container) (o : Option Program) (s : State) → IsToldAs f c.life → told_code code n (renewed f c) o (change_life n f s) ≡ told_code code n c o s
+code_same : (code : Option ℕ) (n : ℕ) (f : Life → Life) (c : Container) (o : Option Program) (s : State) → IsToldAs f c.life → told_code (running_numbers n (change_life n f s)) code (renewed f c) o (change_life n f s) ≡ told_code (running_numbers n s) code c o s
 code_same code n f c o s k =
-    code_is code n (renewed f c) o (change_life n f s)
-    ∙ (code_kept (running_numbers n s) code n f c o s k.mounts (status_same o s.clock f c k) ∙ sym (code_is code n c o s))
+    code_kept (running_numbers n s) code n f c o s (k.like s.clock).mounts (λ code. status_same o code s.clock f c k)
 
 meet_same : (u : Status) (code : Option ℕ) (n : ℕ) (f : Life → Life) (c : Container) (o : Option Program) (s : State) → IsToldAs f c.life → told_meet u code n (renewed f c) o (change_life n f s) ≡ told_meet u code n c o s
 meet_same Status.Paused code n f c o s k =
-    ap (λ l. (plain_event Action.Unpause c s.clock ∷ l) ++ told_code_with (running_after n s) code (renewed f c) o (change_life n f s)) (thaws_marked (running_numbers n s) n f s)
-    ∙ ap (λ l. told_wake n c s ++ l) (code_kept (running_after n s) code n f c o s k.mounts (status_same o s.clock f c k))
+    ap (λ l. (plain_event Action.Unpause c s.clock ∷ l) ++ told_code (running_after n s) code (renewed f c) o (change_life n f s)) (thaws_marked (running_numbers n s) n f s)
+    ∙ ap (λ l. told_wake n c s ++ l) (code_kept (running_after n s) code n f c o s (k.like s.clock).mounts (λ code. status_same o code s.clock f c k))
 meet_same Status.Created code n f c o s k = code_same code n f c o s k
 meet_same Status.Running code n f c o s k = code_same code n f c o s k
 meet_same Status.Restarting code n f c o s k = code_same code n f c o s k
@@ -144,9 +145,10 @@ by_number number n s c d o code found =
     ap (λ l. l ++ told_meet c.life.status code n d o s) (told_at (kill_event number) n s c found)
     ∙ ap (λ m. kill_event number c s.clock ∷ told_meet c.life.status code m d o s) (sym (has_number n s c found))
 
--- what a goal wants is told of the container as it is
-pub goal_aimed : (g : Goal) (o : Option Program) (c : Container) (t : ℕ) → told_goal g o c t ≡ told_goal g o (aimed g c) t
-goal_aimed g o c t = sym (goal_kept g o t (λ (l : Life). record l { goal = g }) c refl)
+-- a mark that sets a goal decides nothing
+abbrev list_goal : Goal → Bool
+list_goal Goal.None = true
+list_goal g = false
 
 -- ---- a stop deadline
 
@@ -181,13 +183,13 @@ halt_told mark goal seconds sent s c o code aims found named single is =
     ∙ ap (λ l. l ++ told_meet c.life.status code n (aimed goal c) o s) (told_at (kill_event number) n s c found))
 
 pub stopping_aims : (l : Life) → Aims stopping Goal.Stop l
-stopping_aims l = record { over = refl; told = record { mounts = refl; goal = refl; status = refl }; words = refl; starts = refl }
+stopping_aims l = record { over = refl; told = record { status = refl; like = λ t. record { mounts = refl; auto = refl; goal = refl; decided = λ none code. absurd (false≢true (ap list_goal none)) } }; words = refl; starts = refl }
 
 pub restart_aims : (l : Life) → Aims to_restart Goal.Restart l
-restart_aims l = record { over = refl; told = record { mounts = refl; goal = refl; status = refl }; words = refl; starts = refl }
+restart_aims l = record { over = refl; told = record { status = refl; like = λ t. record { mounts = refl; auto = refl; goal = refl; decided = λ none code. absurd (false≢true (ap list_goal none)) } }; words = refl; starts = refl }
 
 pub remove_aims : (l : Life) → Aims to_remove Goal.Remove l
-remove_aims l = record { over = refl; told = record { mounts = refl; goal = refl; status = refl }; words = refl; starts = refl }
+remove_aims l = record { over = refl; told = record { status = refl; like = λ t. record { mounts = refl; auto = refl; goal = refl; decided = λ none code. absurd (false≢true (ap list_goal none)) } }; words = refl; starts = refl }
 
 -- a stop of a container that lives
 pub stop_told : (seconds : Option ℤ) (sent : Option Signal) (s : State) (c : Container) (o : Option Program) (code : Option ℕ) → container_numbered c.number s ≡ Some c → o ≡ program_of c.life.words (c.life.starts + 1) → StandOnce s

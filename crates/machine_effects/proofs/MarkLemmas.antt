@@ -21,3 +21,4 @@ mark_log Mark.ToRemove l log = refl
 mark_log (Mark.Restarted count) l log = refl
 mark_log (Mark.Waiting delay) l log = refl
 mark_log (Mark.Ended code moment) l log = refl
+mark_log (Mark.Governed policy) l log = refl

@@ -16,7 +16,7 @@ use Rattle.proc_kernel.specs.Tables.{process_of, effect_of, change as changed_of
 use Rattle.machine_model.specs.State.{State, container_numbered, change_life}
 use Rattle.machine_model.specs.EventTexts.{exec_die_event}
 use Rattle.machine_model.specs.Effects.Meet.{by_effect, send}
-use Rattle.machine_effects.specs.Foretold.{told_of, told_exec, told_end, told_code}
+use Rattle.machine_effects.specs.Foretold.{told_of, told_exec, running_numbers, told_end, told_code}
 use Rattle.machine_effects.specs.Marks.{renewed}
 use Rattle.machine_effects.proofs.ToldLemmas.{end_told, running_changed}
 
@@ -60,15 +60,15 @@ exec_marked code (Some x) n f s =
 -- ---- a signal to the main process
 
 pub effect_told : (e : ProcessEffect) (n : ℕ) (p : Process → Process) (s : State) (c : Container) (o : Option Program) → container_numbered n s ≡ Some c → o ≡ program_of c.life.words (c.life.starts + 1)
-    → (by_effect e (Owner.Container n) (record s { processes = changed_of (Owner.Container n) p s.processes })).events ≡ told_code (code_in e) n c o s
+    → (by_effect e (Owner.Container n) (record s { processes = changed_of (Owner.Container n) p s.processes })).events ≡ told_code (running_numbers n s) (code_in e) c o s
 effect_told Lives n p s c o found named = refl
 effect_told (Wrote stream payload) n p s c o found named = refl
 effect_told (Ended code) n p s c o found named =
     end_told code n s (record s { processes = changed_of (Owner.Container n) p s.processes }) c (record { containers = refl; clock = refl; execs = λ k. refl }) (running_changed n (Owner.Container n) p s) found
-    ∙ ap (λ q. told_end code n c q s) (sym named)
+    ∙ ap (λ q. told_end (running_numbers n s) code c q s) (sym named)
 
 pub send_told : (thaws : Bool) (number n : ℕ) (s : State) (c : Container) (o : Option Program) (code : Option ℕ) → container_numbered n s ≡ Some c → o ≡ program_of c.life.words (c.life.starts + 1)
-    → code ≡ code_at (signal number thaws s.clock) (process_of (Owner.Container n) s.processes) → (send thaws number n s).events ≡ told_code code n c o s
+    → code ≡ code_at (signal number thaws s.clock) (process_of (Owner.Container n) s.processes) → (send thaws number n s).events ≡ told_code (running_numbers n s) code c o s
 send_told thaws number n s c o code found named is =
     effect_told (effect_of (signal number thaws s.clock) (process_of (Owner.Container n) s.processes)) n (λ p. (signal number thaws s.clock p).process) s c o found named
-    ∙ ap (λ k. told_code k n c o s) (sym is)
+    ∙ ap (λ k. told_code (running_numbers n s) k c o s) (sym is)

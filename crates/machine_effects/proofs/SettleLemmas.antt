@@ -24,7 +24,7 @@ use Rattle.proc_kernel.specs.Catalogue.{program_of}
 use Rattle.machine_model.specs.State.{State, container_numbered, exec_numbered, running_execs, change_life, drop_process, change_exec, clear_timer}
 use Rattle.machine_model.specs.EventTexts.{exec_die_event, plain_event}
 use Rattle.machine_model.specs.Chain.{Effect, and_then, change, tell_of, with_found}
-use Rattle.machine_model.specs.Effects.EndMain.{end_exec, exec_ended, end_execs, die, clear_deadlines, by_status, by_goal, follow, decision_at}
+use Rattle.machine_model.specs.Effects.EndMain.{end_exec, exec_ended, end_execs, die, clear_deadlines, by_status, by_goal, exited, removed_if, stay, follow, decision_at}
 use Rattle.machine_model.specs.Effects.Launch.{launch, launch_by_call, launch_program, container_room}
 use Rattle.machine_model.proofs.ChainLemmas.{Keeps, keeps_each}
 use Rattle.machine_effects.specs.Memory.{Room}
@@ -70,6 +70,7 @@ mark_words Mark.ToRemove l = refl
 mark_words (Mark.Restarted count) l = refl
 mark_words (Mark.Waiting delay) l = refl
 mark_words (Mark.Ended code moment) l = refl
+mark_words (Mark.Governed policy) l = refl
 
 pub mark_starts : (m : Mark) (l : Life) → (marked m l).starts ≡ l.starts
 mark_starts Mark.ByHand l = refl
@@ -87,6 +88,7 @@ mark_starts Mark.ToRemove l = refl
 mark_starts (Mark.Restarted count) l = refl
 mark_starts (Mark.Waiting delay) l = refl
 mark_starts (Mark.Ended code moment) l = refl
+mark_starts (Mark.Governed policy) l = refl
 
 named_by : (f : Life → Life) → ((l : Life) → (f l).words ≡ l.words) → ((l : Life) → (f l).starts ≡ l.starts) → (script : Option Program) (o : Option Container) → ((c : Container) → o ≡ Some c → script ≡ program_of c.life.words (c.life.starts + 1))
     → (c : Container) → option_map (renewed f) o ≡ Some c → script ≡ program_of c.life.words (c.life.starts + 1)
@@ -350,20 +352,23 @@ launch_some n s c program e h = sym (some_of n (container_numbered n s) s c prog
 
 -- ---- the conclusion
 
-followed_is : (n : ℕ) (c : Container) (s : State) → container_numbered n s ≡ Some c → followed n s ≡ follow (decision_at s.clock c.life) n s
-followed_is n c s e = ap (λ o. with_found o (λ (d : Container) (z : State). follow (decision_at z.clock d.life) n z) s) e
+followed_is : (n : ℕ) (c : Container) (s : State) → container_numbered n s ≡ Some c → followed n s ≡ follow (decision_at s.clock c.life) c.life.auto_remove n s
+followed_is n c s e = ap (λ o. with_found o (λ (d : Container) (z : State). follow (decision_at z.clock d.life) d.life.auto_remove n z) s) e
 
 pub tell_still : (event : Container → ℕ → Event) (n : ℕ) (s : State) → (tell_of event n s).state ≡ s
 tell_still event n s = told s (container_numbered n s) _ (λ c z. refl)
 
 goal_is : (n : ℕ) (c : Container) (s : State) → container_numbered n s ≡ Some c → c.number ≡ n → (g : Goal) → (goal_effect g n s).state ≡ (by_goal g c s).state
 goal_is n c s e k Goal.Remove = ap (λ m. (goal_effect Goal.Remove m s).state) (sym k)
-goal_is n c s e k Goal.Stop = ap (λ m. (goal_effect Goal.Stop m s).state) (sym k) ∙ sym (tell_still (plain_event Action.Stop) c.number _)
+goal_is n c s e k Goal.Stop =
+    ap (λ o. (with_found o (λ (d : Container). stay d.life.auto_remove n) s).state) e
+    ∙ (ap (λ m. (stay c.life.auto_remove m s).state) (sym k)
+    ∙ ap (λ z. (removed_if c.life.auto_remove c.number z).state) (sym (tell_still (plain_event Action.Stop) c.number (change_life c.number exited s))))
 goal_is n c s e k Goal.Restart =
     ap (λ m. (launch_by_call m s).state) (sym k)
     ∙ (ap (λ z. (launch_by_call c.number z).state) (sym (tell_still (plain_event Action.Stop) c.number s))
     ∙ sym (tell_still (plain_event Action.Restart) c.number _))
-goal_is n c s e k Goal.None = ap (λ (x : Effect). x.state) (followed_is n c s e) ∙ ap (λ m. (follow (decision_at s.clock c.life) m s).state) (sym k)
+goal_is n c s e k Goal.None = ap (λ (x : Effect). x.state) (followed_is n c s e) ∙ ap (λ m. (follow (decision_at s.clock c.life) c.life.auto_remove m s).state) (sym k)
 
 status_is : (n : ℕ) (c : Container) (s : State) → (u : Status) → (u ≡ Status.Dead → ⊥) → (by_status u c s).state ≡ (by_goal c.life.goal c s).state
 status_is n c s Status.Dead other = absurd (other refl)

@@ -23,10 +23,11 @@ use Rattle.machine_model.specs.State.{State, container_numbered, exec_numbered, 
 use Rattle.machine_model.specs.EventTexts.{plain_event, die_event, exec_die_event, mount_event}
 use Rattle.machine_model.specs.Chain.{and_then, each, change, tell_of, tell_mounts, with_found}
 use Rattle.machine_model.specs.Effects.Destroy.{without}
-use Rattle.machine_model.specs.Effects.EndMain.{end_main, end_exec, exec_ended, end_execs, die, ended, exited, clear_deadlines, by_goal, by_status, follow, decision_at}
+use Rattle.machine_model.specs.Effects.EndMain.{end_main, end_exec, exec_ended, end_execs, die, ended, exited, clear_deadlines, by_goal, by_status, removed_if, follow, decision_at}
 use Rattle.machine_model.specs.Effects.Launch.{launch, launch_program, launched, afresh, container_room}
-use Rattle.machine_effects.specs.Foretold.{told_of, told_exec, told_number, told_execs, told_mounts, told_launch, told_goal, told_status}
+use Rattle.machine_effects.specs.Foretold.{told_of, told_exec, told_number, running_numbers, ending_as, told_mounts, told_launch, told_gone, told_follow, told_goal, told_status}
 use Rattle.machine_effects.specs.Marks.{renewed}
+use Rattle.machine_effects.specs.declared.foretell_end.Ending.{Ending}
 use Rattle.machine_effects.specs.Effects.EndMain.{begun}
 use Rattle.machine_effects.proofs.EachLemmas.{same_filter}
 use Rattle.machine_effects.proofs.SettleLemmas.{begun_is, found_updated, has_number, told, tell_still}
@@ -161,9 +162,17 @@ quiet_found : (o : Option Container) (s : State) → (with_found o (λ (c : Cont
 quiet_found None s = refl
 quiet_found (Some c) s = refl
 
-follow_quiet : (d : Decision) (n : ℕ) (s : State) → (follow d n s).events ≡ []
-follow_quiet Stay n s = refl
-follow_quiet (Again delay) n s = refl
+-- one that is removed by itself tells of its destroy
+gone_told : (auto : Bool) (n : ℕ) (c : Container) (s : State) → container_numbered n s ≡ Some c → (removed_if auto n s).events ≡ told_gone auto (plain_event Action.Destroy c s.clock)
+gone_told false n c s e = refl
+gone_told true n c s e =
+    let z : State = (tell_of (plain_event Action.Destroy) n s).state in
+    ap (λ l. l ++ (with_found (container_numbered n z) (λ (d : Container). change (without d)) z).events) (told_at (plain_event Action.Destroy) n s c e)
+    ∙ ap (λ l. plain_event Action.Destroy c s.clock ∷ l) (quiet_found (container_numbered n z) z)
+
+follow_told : (d : Decision) (auto : Bool) (c : Container) (s : State) → container_numbered c.number s ≡ Some c → (follow d auto c.number s).events ≡ told_follow d auto (plain_event Action.Destroy c s.clock)
+follow_told Stay auto c s e = gone_told auto c.number (renewed exited c) (change_life c.number exited s) (found_renewed c.number exited s c e)
+follow_told (Again delay) auto c s e = refl
 
 pub same_launch : (o : Option Program) (f : Life → Life) (c : Container) (t : ℕ) → (f c.life).mounts ≡ c.life.mounts → told_launch o (renewed f c) t ≡ told_launch o c t
 same_launch None f c t e = refl
@@ -193,14 +202,22 @@ restart_told c s e =
     ∙ (ap (λ l. plain_event Action.Stop c s.clock ∷ (l ++ (tell_of (plain_event Action.Restart) n (launch n b).state).events)) first
     ∙ ap (λ l. plain_event Action.Stop c s.clock ∷ (told_launch o c s.clock ++ l)) last))
 
+-- a restart tells the same of the container as it ended
+pub restart_ended : (o : Option Program) (code t : ℕ) (ending : Ending) (c : Container) → told_goal Goal.Restart o (renewed (ended code t) (ending_as ending c)) t ≡ told_goal Goal.Restart o c t
+restart_ended None code t ending c = refl
+restart_ended (Some program) code t ending c = refl
+
 goal_told : (g : Goal) (c : Container) (s : State) → container_numbered c.number s ≡ Some c → (by_goal g c s).events ≡ told_goal g (program_of c.life.words (c.life.starts + 1)) c s.clock
-goal_told Goal.Remove c s e =
-    let z : State = (tell_of (plain_event Action.Destroy) c.number s).state in
-    ap (λ l. l ++ (with_found (container_numbered c.number z) (λ (d : Container). change (without d)) z).events) (told_at (plain_event Action.Destroy) c.number s c e)
-    ∙ ap (λ l. plain_event Action.Destroy c s.clock ∷ l) (quiet_found (container_numbered c.number z) z)
-goal_told Goal.Stop c s e = told_at (plain_event Action.Stop) c.number (change_life c.number exited s) (renewed exited c) (found_renewed c.number exited s c e)
+goal_told Goal.Remove c s e = gone_told true c.number c s e
+goal_told Goal.Stop c s e =
+    let n : ℕ = c.number in
+    let z : State = change_life n exited s in
+    let found : container_numbered n z ≡ Some (renewed exited c) = found_renewed n exited s c e in
+    ap (λ y. (tell_of (plain_event Action.Stop) n z).events ++ (removed_if c.life.auto_remove n y).events) (tell_still (plain_event Action.Stop) n z)
+    ∙ (ap (λ l. l ++ (removed_if c.life.auto_remove n z).events) (told_at (plain_event Action.Stop) n z (renewed exited c) found)
+    ∙ ap (λ l. plain_event Action.Stop c s.clock ∷ l) (gone_told c.life.auto_remove n (renewed exited c) z found))
 goal_told Goal.Restart c s e = restart_told c s e
-goal_told Goal.None c s e = follow_quiet (decision_at s.clock c.life) c.number s
+goal_told Goal.None c s e = follow_told (decision_at s.clock c.life) c.life.auto_remove c s e
 
 status_told : (u : Status) (c : Container) (s : State) → container_numbered c.number s ≡ Some c → (by_status u c s).events ≡ told_status u (program_of c.life.words (c.life.starts + 1)) c s.clock
 status_told Status.Dead c s e = refl
@@ -213,25 +230,10 @@ status_told Status.Exited c s e = goal_told c.life.goal c s e
 
 -- ---- an end
 
-same_goal : (g : Goal) (o : Option Program) (code t : ℕ) (c : Container) → told_goal g o (renewed (ended code t) c) t ≡ told_goal g o c t
-same_goal Goal.Remove o code t c = refl
-same_goal Goal.Stop o code t c = refl
-same_goal Goal.Restart o code t c = ap (λ l. plain_event Action.Stop c t ∷ (l ++ plain_event Action.Restart c t ∷ [])) (same_launch o (ended code t) c t refl)
-same_goal Goal.None o code t c = refl
-
-same_status : (u : Status) (o : Option Program) (code t : ℕ) (c : Container) → told_status u o (renewed (ended code t) c) t ≡ told_status u o c t
-same_status Status.Dead o code t c = refl
-same_status Status.Created o code t c = same_goal c.life.goal o code t c
-same_status Status.Running o code t c = same_goal c.life.goal o code t c
-same_status Status.Paused o code t c = same_goal c.life.goal o code t c
-same_status Status.Restarting o code t c = same_goal c.life.goal o code t c
-same_status Status.Removing o code t c = same_goal c.life.goal o code t c
-same_status Status.Exited o code t c = same_goal c.life.goal o code t c
-
 -- the parts of an end, in a state in which the execs have ended
 rest_told : (code n : ℕ) (s : State) (c : Container) → container_numbered n s ≡ Some c
     → (tell_of (die_event code) n s).events ++ ((tell_mounts Action.Unmount n (clear_deadlines n (die code n s).state)).events ++ ((with_found (container_numbered n (tell_mounts Action.Unmount n (clear_deadlines n (die code n s).state)).state) (λ (d : Container). by_status d.life.status d) (tell_mounts Action.Unmount n (clear_deadlines n (die code n s).state)).state).events ++ []))
-    ≡ die_event code c s.clock ∷ (told_mounts Action.Unmount c s.clock ++ told_status c.life.status (program_of c.life.words (c.life.starts + 1)) c s.clock)
+    ≡ die_event code c s.clock ∷ (told_mounts Action.Unmount c s.clock ++ told_status c.life.status (program_of c.life.words (c.life.starts + 1)) (renewed (ended code s.clock) c) s.clock)
 rest_told code n s c e =
     let d : State = clear_deadlines n (die code n s).state in
     let c2 : Container = renewed (ended code s.clock) c in
@@ -239,8 +241,8 @@ rest_told code n s c e =
     let y : State = (tell_mounts Action.Unmount n d).state in
     let at : y ≡ d = told d (container_numbered n d) _ (λ c x. refl) in
     let k : container_numbered c2.number d ≡ Some c2 = ap (λ m. container_numbered m d) (has_number n s c e) ∙ f in
-    let last : (with_found (container_numbered n d) (λ (d : Container). by_status d.life.status d) d).events ≡ told_status c.life.status (program_of c.life.words (c.life.starts + 1)) c s.clock =
-    ap (λ o. (with_found o (λ (d : Container). by_status d.life.status d) d).events) f ∙ (status_told c.life.status c2 d k ∙ same_status c.life.status (program_of c.life.words (c.life.starts + 1)) code s.clock c) in
+    let last : (with_found (container_numbered n d) (λ (d : Container). by_status d.life.status d) d).events ≡ told_status c.life.status (program_of c.life.words (c.life.starts + 1)) (renewed (ended code s.clock) c) s.clock =
+    ap (λ o. (with_found o (λ (d : Container). by_status d.life.status d) d).events) f ∙ status_told c.life.status c2 d k in
     ap (λ l. l ++ ((tell_mounts Action.Unmount n d).events ++ ((with_found (container_numbered n y) (λ (d : Container). by_status d.life.status d) y).events ++ []))) (told_at (die_event code) n s c e)
     ∙ (ap (λ l. die_event code c s.clock ∷ (l ++ ((with_found (container_numbered n y) (λ (d : Container). by_status d.life.status d) y).events ++ []))) (mounts_at Action.Unmount n d c2 f)
     ∙ (ap (λ z. die_event code c s.clock ∷ (told_mounts Action.Unmount c s.clock ++ ((with_found (container_numbered n z) (λ (d : Container). by_status d.life.status d) z).events ++ []))) at
@@ -248,29 +250,29 @@ rest_told code n s c e =
 
 end_parts : (code n : ℕ) (s a : State) (c : Container) → a.containers ≡ s.containers → a.clock ≡ s.clock → container_numbered n s ≡ Some c
     → (tell_of (die_event code) n a).events ++ ((tell_mounts Action.Unmount n (clear_deadlines n (die code n (tell_of (die_event code) n a).state).state)).events ++ ((with_found (container_numbered n (tell_mounts Action.Unmount n (clear_deadlines n (die code n (tell_of (die_event code) n a).state).state)).state) (λ (d : Container). by_status d.life.status d) (tell_mounts Action.Unmount n (clear_deadlines n (die code n (tell_of (die_event code) n a).state).state)).state).events ++ []))
-    ≡ die_event code c s.clock ∷ (told_mounts Action.Unmount c s.clock ++ told_status c.life.status (program_of c.life.words (c.life.starts + 1)) c s.clock)
+    ≡ die_event code c s.clock ∷ (told_mounts Action.Unmount c s.clock ++ told_status c.life.status (program_of c.life.words (c.life.starts + 1)) (renewed (ended code s.clock) c) s.clock)
 end_parts code n s a c same clock e =
     let g : container_numbered n a ≡ Some c = ap (find (λ (d : Container). d.number == n)) same ∙ e in
     ap (λ z. (tell_of (die_event code) n a).events ++ ((tell_mounts Action.Unmount n (clear_deadlines n (die code n z).state)).events ++ ((with_found (container_numbered n (tell_mounts Action.Unmount n (clear_deadlines n (die code n z).state)).state) (λ (d : Container). by_status d.life.status d) (tell_mounts Action.Unmount n (clear_deadlines n (die code n z).state)).state).events ++ []))) (tell_still (die_event code) n a)
-    ∙ (rest_told code n a c g ∙ ap (λ t. die_event code c t ∷ (told_mounts Action.Unmount c t ++ told_status c.life.status (program_of c.life.words (c.life.starts + 1)) c t)) clock)
+    ∙ (rest_told code n a c g ∙ ap (λ t. die_event code c t ∷ (told_mounts Action.Unmount c t ++ told_status c.life.status (program_of c.life.words (c.life.starts + 1)) (renewed (ended code t) c) t)) clock)
 
 -- the end of a main process, told from a state in which the same is told of its execs
 pub end_told_of : (code n : ℕ) (s z : State) (c : Container) → AreAlike s z → container_numbered n z ≡ Some c
-    → (end_main code n z).events ≡ flat_map (told_number s) (map (λ (x : Exec). x.number) (running_execs n z)) ++ (die_event code c s.clock ∷ (told_mounts Action.Unmount c s.clock ++ told_status c.life.status (program_of c.life.words (c.life.starts + 1)) c s.clock))
+    → (end_main code n z).events ≡ flat_map (told_number s) (map (λ (x : Exec). x.number) (running_execs n z)) ++ (die_event code c s.clock ∷ (told_mounts Action.Unmount c s.clock ++ told_status c.life.status (program_of c.life.words (c.life.starts + 1)) (renewed (ended code s.clock) c) s.clock))
 end_told_of code n s z c a e =
     let y : State = (end_execs n z).state in
     let b : AreAlike z y = each_alike (running_execs n z) z in
     let execs : List Event = flat_map (told_number s) (map (λ (x : Exec). x.number) (running_execs n z)) in
     let first : (end_execs n z).events ≡ execs = each_told (running_execs n z) s z a in
     ap (λ l. l ++ ((tell_of (die_event code) n y).events ++ ((tell_mounts Action.Unmount n (clear_deadlines n (die code n (tell_of (die_event code) n y).state).state)).events ++ ((with_found (container_numbered n (tell_mounts Action.Unmount n (clear_deadlines n (die code n (tell_of (die_event code) n y).state).state)).state) (λ (d : Container). by_status d.life.status d) (tell_mounts Action.Unmount n (clear_deadlines n (die code n (tell_of (die_event code) n y).state).state)).state).events ++ [])))) first
-    ∙ ap (λ l. execs ++ l) (end_parts code n z y c b.containers b.clock e ∙ ap (λ t. die_event code c t ∷ (told_mounts Action.Unmount c t ++ told_status c.life.status (program_of c.life.words (c.life.starts + 1)) c t)) a.clock)
+    ∙ ap (λ l. execs ++ l) (end_parts code n z y c b.containers b.clock e ∙ ap (λ t. die_event code c t ∷ (told_mounts Action.Unmount c t ++ told_status c.life.status (program_of c.life.words (c.life.starts + 1)) (renewed (ended code t) c) t)) a.clock)
 
 -- the same execs running
 pub end_told : (code n : ℕ) (s z : State) (c : Container) → AreAlike s z → running_execs n z ≡ running_execs n s → container_numbered n z ≡ Some c
-    → (end_main code n z).events ≡ told_execs n s ++ (die_event code c s.clock ∷ (told_mounts Action.Unmount c s.clock ++ told_status c.life.status (program_of c.life.words (c.life.starts + 1)) c s.clock))
+    → (end_main code n z).events ≡ flat_map (told_number s) (running_numbers n s) ++ (die_event code c s.clock ∷ (told_mounts Action.Unmount c s.clock ++ told_status c.life.status (program_of c.life.words (c.life.starts + 1)) (renewed (ended code s.clock) c) s.clock))
 end_told code n s z c a same e =
     end_told_of code n s z c a e
-    ∙ ap (λ (xs : List Exec). flat_map (told_number s) (map (λ (x : Exec). x.number) xs) ++ (die_event code c s.clock ∷ (told_mounts Action.Unmount c s.clock ++ told_status c.life.status (program_of c.life.words (c.life.starts + 1)) c s.clock))) same
+    ∙ ap (λ (xs : List Exec). flat_map (told_number s) (map (λ (x : Exec). x.number) xs) ++ (die_event code c s.clock ∷ (told_mounts Action.Unmount c s.clock ++ told_status c.life.status (program_of c.life.words (c.life.starts + 1)) (renewed (ended code s.clock) c) s.clock))) same
 
 -- ---- a step of the main process
 

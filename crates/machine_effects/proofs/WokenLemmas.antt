@@ -18,7 +18,8 @@ use Rattle.machine_model.specs.Chain.{each, with_found, and_then, change, tell_o
 use Rattle.machine_model.specs.Effects.Meet.{by_effect, step_process, stepped}
 use Rattle.machine_model.specs.Effects.EndMain.{exec_ended}
 use Rattle.machine_model.specs.EventTexts.{exec_die_event}
-use Rattle.machine_effects.specs.ToldMeet.{thawed_code, lives_on, running_after, running_numbers, is_none}
+use Rattle.machine_effects.specs.Foretold.{running_numbers}
+use Rattle.machine_effects.specs.ToldMeet.{thawed_code, lives_on, running_after, is_none}
 use Rattle.machine_effects.proofs.ListLemmas.{All-imp}
 use Rattle.machine_effects.proofs.SettleLemmas.{tell_still}
 use Rattle.machine_effects.proofs.ToldLemmas.{AreAlike, stands_changed}

@@ -1,5 +1,5 @@
 -- own: the events of a step, told before it from the state in which it begins.
-use Rattle.std.specs.Prelude.{ℕ, List, [], ◌∷◌, ◌++◌, Option, Some, None, map}
+use Rattle.std.specs.Prelude.{ℕ, Bool, true, false, List, [], ◌∷◌, ◌++◌, Option, Some, None, map}
 use Rattle.std.specs.List.{flat_map}
 use Rattle.engine_text.specs.Scripts.{Program}
 use Rattle.engine_text.specs.declared.container.Container.{Container}
@@ -9,6 +9,11 @@ use Rattle.engine_text.specs.declared.event.Event.{Event}
 use Rattle.engine_text.specs.declared.exec.Exec.{Exec}
 use Rattle.engine_text.specs.declared.status.Status.{Status}
 use Rattle.machine_model.specs.State.{State, container_numbered, exec_numbered, running_execs}
+use Rattle.restart_policy.specs.declared.decision.Decision.{Decision}
+use Rattle.restart_policy.specs.declared.decision.Decision.TheVariants.{Stay, Again}
+use Rattle.machine_model.specs.Effects.EndMain.{ended, decision_at}
+use Rattle.machine_effects.specs.Marks.{renewed}
+use Rattle.machine_effects.specs.declared.foretell_end.Ending.{Ending}
 use Rattle.machine_model.specs.EventTexts.{plain_event, die_event, exec_die_event, mount_event}
 
 -- An event of a container that may stand.
@@ -25,9 +30,13 @@ told_exec code (Some x) s = told_of (λ c. exec_die_event x.id code c s.clock) (
 abbrev pub told_number : State → ℕ → List Event
 told_number s k = told_exec 137 (exec_numbered k s) s
 
--- The ends of a container's running execs.
-abbrev pub told_execs : ℕ → State → List Event
-told_execs n s = flat_map (told_number s) (map (λ x. x.number) (running_execs n s))
+-- The numbers of a container's running execs.
+abbrev pub running_numbers : ℕ → State → List ℕ
+running_numbers n s = map (λ x. x.number) (running_execs n s)
+
+-- The container that ends so.
+abbrev pub ending_as : Ending → Container → Container
+ending_as ending c = record c { life = record c.life { goal = ending.goal; manual = ending.manual } }
 
 -- Mounts or unmounts.
 abbrev pub told_mounts : Action → Container → ℕ → List Event
@@ -38,14 +47,24 @@ abbrev pub told_launch : Option Program → Container → ℕ → List Event
 told_launch None c t = []
 told_launch (Some program) c t = told_mounts Action.Mount c t ++ plain_event Action.Start c t ∷ []
 
--- What its goal wants after an end.
+-- The destroy of one that is removed by itself.
+abbrev pub told_gone : Bool → Event → List Event
+told_gone true destroy = destroy ∷ []
+told_gone false destroy = []
+
+-- It is told where the container stays exited.
+abbrev pub told_follow : Decision → Bool → Event → List Event
+told_follow Stay auto destroy = told_gone auto destroy
+told_follow (Again delay) auto destroy = []
+
+-- What the goal wants after an end, told of the container as it ended.
 abbrev pub told_goal : Goal → Option Program → Container → ℕ → List Event
 told_goal Goal.Remove script c t = plain_event Action.Destroy c t ∷ []
-told_goal Goal.Stop script c t = plain_event Action.Stop c t ∷ []
+told_goal Goal.Stop script c t = plain_event Action.Stop c t ∷ told_gone c.life.auto_remove (plain_event Action.Destroy c t)
 told_goal Goal.Restart script c t = plain_event Action.Stop c t ∷ (told_launch script c t ++ plain_event Action.Restart c t ∷ [])
-told_goal Goal.None script c t = []
+told_goal Goal.None script c t = told_follow (decision_at t c.life) c.life.auto_remove (plain_event Action.Destroy c t)
 
--- What follows an end: in a dead container nothing.
+-- What follows an end, told so: in a dead container nothing.
 abbrev pub told_status : Status → Option Program → Container → ℕ → List Event
 told_status Status.Dead script c t = []
 told_status Status.Created script c t = told_goal c.life.goal script c t
@@ -55,12 +74,14 @@ told_status Status.Restarting script c t = told_goal c.life.goal script c t
 told_status Status.Removing script c t = told_goal c.life.goal script c t
 told_status Status.Exited script c t = told_goal c.life.goal script c t
 
--- An end with a code.
-abbrev pub told_end : ℕ → ℕ → Container → Option Program → State → List Event
-told_end code n c script s =
-    told_execs n s ++ (die_event code c s.clock ∷ (told_mounts Action.Unmount c s.clock ++ told_status c.life.status script c s.clock))
+-- The end of the container's main process with that code, these execs of it running then.
+abbrev pub told_end : List ℕ → ℕ → Container → Option Program → State → List Event
+told_end execs code c script s =
+    flat_map (told_number s) execs
+    ++ (die_event code c s.clock ∷ (told_mounts Action.Unmount c s.clock
+    ++ told_status c.life.status script (renewed (ended code s.clock) c) s.clock))
 
--- An end, if there is one.
-abbrev pub told_code : Option ℕ → ℕ → Container → Option Program → State → List Event
-told_code None n c script s = []
-told_code (Some code) n c script s = told_end code n c script s
+-- The same, if it ends.
+abbrev pub told_code : List ℕ → Option ℕ → Container → Option Program → State → List Event
+told_code execs None c script s = []
+told_code execs (Some code) c script s = told_end execs code c script s

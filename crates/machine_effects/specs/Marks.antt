@@ -9,6 +9,7 @@ use Rattle.machine_model.specs.Calls.Pause.{paused}
 use Rattle.machine_model.specs.Calls.Remove.{to_remove, removing}
 use Rattle.machine_model.specs.Calls.Restart.{to_restart}
 use Rattle.machine_model.specs.Calls.Stop.{stopping}
+use Rattle.machine_model.specs.Calls.Update.{governed}
 use Rattle.machine_model.specs.Due.{died}
 use Rattle.machine_model.specs.Effects.Cancel.{cancelled}
 use Rattle.machine_model.specs.Effects.EndMain.{ended, exited, no_goal, restarting}
@@ -37,6 +38,7 @@ marked Mark.ToRemove = to_remove
 marked (Mark.Restarted count) = counted count
 marked (Mark.Waiting delay) = restarting delay
 marked (Mark.Ended code moment) = ended code moment
+marked (Mark.Governed policy) = governed policy
 
 -- A container with its life changed.
 abbrev pub renewed : (Life → Life) → Container → Container

@@ -8,13 +8,13 @@ use Rattle.engine_text.specs.declared.owner.Owner.{Owner}
 use Rattle.engine_text.specs.declared.owner.Owner.TheVariants.{Container as OfContainer, Exec as OfExec}
 use Rattle.machine_model.specs.State.{State, container_numbered}
 use Rattle.machine_model.specs.EventTexts.{plain_event}
-use Rattle.machine_effects.specs.Foretold.{told_code, told_launch}
-use Rattle.machine_effects.specs.ToldMeet.{running_after, told_code_with, told_thaw, told_wake}
+use Rattle.machine_effects.specs.Foretold.{running_numbers, told_code, told_launch}
+use Rattle.machine_effects.specs.ToldMeet.{running_after, told_thaw, told_wake}
 
 -- An unpause, which ends the main process with that code, if it does: first the wake, then the end.
 abbrev pub told_unpause : Option ℕ → Container → Option Program → State → List Event
 told_unpause code c script s =
-    told_wake c.number c s ++ told_code_with (running_after c.number s) code c script s
+    told_wake c.number c s ++ told_code (running_after c.number s) code c script s
 
 -- A launch, and then event restart.
 abbrev pub told_again : Option Program → Container → ℕ → List Event
@@ -23,7 +23,7 @@ told_again script c t = told_launch script c t ++ plain_event Action.Restart c t
 -- The end of the main process of a container that may stand, if it ends.
 abbrev pub told_main : Option Container → Option ℕ → Option Program → State → List Event
 told_main None code script s = []
-told_main (Some c) code script s = told_code code c.number c script s
+told_main (Some c) code script s = told_code (running_numbers c.number s) code c script s
 
 -- The next op of the owner's process, which ends it with that code, if it does.
 abbrev pub told_op : Owner → Option ℕ → Option Program → State → List Event

@@ -1,5 +1,5 @@
 -- own: the events of a signal that is met, told before it from the state in which it is sent.
-use Rattle.std.specs.Prelude.{ℕ, Bool, true, false, List, [], ◌∷◌, ◌++◌, Option, Some, None, map, filter}
+use Rattle.std.specs.Prelude.{ℕ, Bool, true, false, List, [], ◌∷◌, ◌++◌, Option, Some, None, filter}
 use Rattle.std.specs.List.{flat_map}
 use Rattle.engine_text.specs.Scripts.{Program}
 use Rattle.engine_text.specs.declared.container.Container.{Container}
@@ -10,9 +10,11 @@ use Rattle.engine_text.specs.declared.status.Status.{Status}
 use Rattle.proc_kernel.specs.Foretelling.{code_at}
 use Rattle.proc_kernel.specs.Processes.{thaw}
 use Rattle.proc_kernel.specs.Tables.{process_of}
-use Rattle.machine_model.specs.State.{State, exec_numbered, running_execs}
-use Rattle.machine_model.specs.EventTexts.{plain_event, die_event}
-use Rattle.machine_effects.specs.Foretold.{told_exec, told_number, told_mounts, told_status, told_code}
+use Rattle.machine_model.specs.State.{State, exec_numbered}
+use Rattle.machine_model.specs.EventTexts.{plain_event}
+use Rattle.machine_model.specs.Calls.Kill.{by_hand}
+use Rattle.machine_effects.specs.Marks.{renewed}
+use Rattle.machine_effects.specs.Foretold.{told_exec, running_numbers, told_code}
 
 -- The code with which the exec's process ends once it goes on, if it does.
 abbrev pub thawed_code : ℕ → State → Option ℕ
@@ -26,10 +28,6 @@ is_none (Some code) = false
 -- Whether the exec's process lives on once it goes on.
 abbrev pub lives_on : ℕ → State → Bool
 lives_on j s = is_none (thawed_code j s)
-
--- The numbers of a container's running execs.
-abbrev pub running_numbers : ℕ → State → List ℕ
-running_numbers n s = map (λ x. x.number) (running_execs n s)
 
 -- Those that still run once they went on.
 abbrev pub running_after : ℕ → State → List ℕ
@@ -45,28 +43,17 @@ abbrev pub told_wake : ℕ → Container → State → List Event
 told_wake n c s =
     plain_event Action.Unpause c s.clock ∷ flat_map (λ j. told_thaw (thawed_code j s) j s) (running_numbers n s)
 
--- The end of the main process, these execs of it running then.
-abbrev pub told_end_with : List ℕ → ℕ → Container → Option Program → State → List Event
-told_end_with execs code c script s =
-    flat_map (told_number s) execs
-    ++ (die_event code c s.clock ∷ (told_mounts Action.Unmount c s.clock ++ told_status c.life.status script c s.clock))
-
--- The same, if it ends.
-abbrev pub told_code_with : List ℕ → Option ℕ → Container → Option Program → State → List Event
-told_code_with execs None c script s = []
-told_code_with execs (Some code) c script s = told_end_with execs code c script s
-
 -- A signal with a thaw, which ends the main process with that code, if it does.
 abbrev pub told_meet : Status → Option ℕ → ℕ → Container → Option Program → State → List Event
-told_meet Status.Paused code n c script s = told_wake n c s ++ told_code_with (running_after n s) code c script s
-told_meet Status.Created code n c script s = told_code code n c script s
-told_meet Status.Running code n c script s = told_code code n c script s
-told_meet Status.Restarting code n c script s = told_code code n c script s
-told_meet Status.Removing code n c script s = told_code code n c script s
-told_meet Status.Exited code n c script s = told_code code n c script s
-told_meet Status.Dead code n c script s = told_code code n c script s
+told_meet Status.Paused code n c script s = told_wake n c s ++ told_code (running_after n s) code c script s
+told_meet Status.Created code n c script s = told_code (running_numbers n s) code c script s
+told_meet Status.Running code n c script s = told_code (running_numbers n s) code c script s
+told_meet Status.Restarting code n c script s = told_code (running_numbers n s) code c script s
+told_meet Status.Removing code n c script s = told_code (running_numbers n s) code c script s
+told_meet Status.Exited code n c script s = told_code (running_numbers n s) code c script s
+told_meet Status.Dead code n c script s = told_code (running_numbers n s) code c script s
 
 -- The signal of a kill: a final one is met, another is sent.
 abbrev pub told_deliver : Bool → Option ℕ → ℕ → Container → Option Program → State → List Event
-told_deliver true code n c script s = told_meet c.life.status code n c script s
-told_deliver false code n c script s = told_code code n c script s
+told_deliver true code n c script s = told_meet c.life.status code n (renewed by_hand c) script s
+told_deliver false code n c script s = told_code (running_numbers n s) code c script s

@@ -12,6 +12,7 @@ ghost use Rattle.machine_effects.specs.ToldMeet.{told_thaw};
 
 use super::events::{exec_die_event, plain_event};
 use super::foretell::{add, tell_launch};
+use super::foretell_end::Ending;
 use super::tables::Tables;
 use container_table::Held;
 use engine_text::{Action, Event, NoMemory, Owner, Script};
@@ -64,7 +65,11 @@ impl Tables {
             ++ told_unpause code (container_in h.now) script.now
             (at_moment moment self.now.state)) }
     {
-        self.tell_woken(alloc, code, h, script, moment, out)
+        let ending = Ending {
+            goal: h.container.life.goal,
+            manual: h.container.life.manual,
+        };
+        self.tell_woken(alloc, code, ending, h, script, moment, out)
     }
 
     // The end of the exec with that code, if it ends.
@@ -109,7 +114,11 @@ impl Tables {
         let Some(h) = self.numbered(number) else {
             return Ok(());
         };
-        self.tell_code(alloc, code, h, script, moment, out)
+        let ending = Ending {
+            goal: h.container.life.goal,
+            manual: h.container.life.manual,
+        };
+        self.tell_code(alloc, code, ending, h, script, moment, out)
     }
 
     /// The next op of the owner's process, which ends it with that code, if it does.

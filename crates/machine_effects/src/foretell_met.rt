@@ -2,12 +2,15 @@
 ghost use Rattle.std.specs.Prelude.{◌≡◌, ℕ, ◌∷◌, [], ◌++◌, IfOk, OnOk};
 ghost use Rattle.std.specs.List.{flat_map};
 ghost use Rattle.machine_model.specs.Step.{at_moment};
-ghost use Rattle.machine_effects.specs.Foretold.{told_number, told_status, told_mounts};
+ghost use Rattle.machine_model.specs.Calls.Kill.{by_hand};
+ghost use Rattle.machine_effects.specs.Foretold.{ending_as, running_numbers, told_code, told_end};
 ghost use Rattle.machine_effects.specs.Held.{container_in};
-ghost use Rattle.machine_effects.specs.ToldMeet.{lives_on, running_after, running_numbers, thawed_code, told_thaw, told_wake, told_end_with, told_code_with, told_meet, told_deliver};
+ghost use Rattle.machine_effects.specs.Marks.{renewed};
+ghost use Rattle.machine_effects.specs.ToldMeet.{lives_on, running_after, thawed_code, told_thaw, told_wake, told_meet, told_deliver};
 
-use super::events::{die_event, exec_die_event, plain_event};
-use super::foretell::{add, tell_mounts, tell_status};
+use super::events::{exec_die_event, plain_event};
+use super::foretell::add;
+use super::foretell_end::Ending;
 use super::tables::Tables;
 use container_table::Held;
 use engine_text::{Action, Event, NoMemory, Owner, Script, Status};
@@ -124,45 +127,34 @@ impl Tables {
         Ok(after)
     }
 
-    // The end of the main process with that code, these execs of it running then.
-    fn tell_end_with(
-        &self,
-        alloc: Global,
-        execs: &[u64],
-        code: u8,
-        h: &Held,
-        script: &Option<Script>,
-        moment: u64,
-        out: &mut Vec<Event>,
-    ) -> Result<(), NoMemory>
-        ensures { OnOk result (out.new.items ≡ out.old.items
-            ++ told_end_with execs.now code (container_in h.now) script.now
-            (at_moment moment self.now.state)) }
-    {
-        self.tell_numbers(alloc, execs, moment, out)?;
-        let event = die_event(alloc, code, &h.container, moment)?;
-        add(out, event)?;
-        tell_mounts(alloc, Action::Unmount, h, moment, out)?;
-        tell_status(alloc, script, h, moment, out)
-    }
-
     // The end of a paused container's main process, once it goes on.
     fn tell_woken_end(
         &self,
         alloc: Global,
         code: u8,
+        ending: Ending,
         h: &Held,
         script: &Option<Script>,
         moment: u64,
         out: &mut Vec<Event>,
     ) -> Result<(), NoMemory>
         ensures { OnOk result (out.new.items ≡ out.old.items
-            ++ told_end_with
+            ++ told_end
             (running_after h.now.container.number (at_moment moment self.now.state))
-            code (container_in h.now) script.now (at_moment moment self.now.state)) }
+            code (ending_as ending (container_in h.now)) script.now
+            (at_moment moment self.now.state)) }
     {
         let after = self.running_after(alloc, h.container.number, moment)?;
-        self.tell_end_with(alloc, after.as_slice(), code, h, script, moment, out)
+        self.tell_end(
+            alloc,
+            after.as_slice(),
+            code,
+            ending,
+            h,
+            script,
+            moment,
+            out,
+        )
     }
 
     // A signal that wakes a paused container.
@@ -170,6 +162,7 @@ impl Tables {
         &self,
         alloc: Global,
         code: Option<u8>,
+        ending: Ending,
         h: &Held,
         script: &Option<Script>,
         moment: u64,
@@ -178,19 +171,47 @@ impl Tables {
         ensures { OnOk result (out.new.items ≡ out.old.items
             ++ (told_wake h.now.container.number (container_in h.now)
             (at_moment moment self.now.state)
-            ++ told_code_with
+            ++ told_code
             (running_after h.now.container.number (at_moment moment self.now.state))
-            code (container_in h.now) script.now (at_moment moment self.now.state))) }
+            code (ending_as ending (container_in h.now)) script.now
+            (at_moment moment self.now.state))) }
     {
         self.tell_wake(alloc, h, moment, out)?;
         match code {
             None => Ok(()),
-            Some(code) => self.tell_woken_end(alloc, code, h, script, moment, out),
+            Some(code) => self.tell_woken_end(alloc, code, ending, h, script, moment, out),
         }
     }
 
     /// A signal with a thaw, which ends the main process with that code, if it does.
-    pub fn tell_met(
+    pub(super) fn tell_met(
+        &self,
+        alloc: Global,
+        code: Option<u8>,
+        ending: Ending,
+        h: &Held,
+        script: &Option<Script>,
+        moment: u64,
+        out: &mut Vec<Event>,
+    ) -> Result<(), NoMemory>
+        ensures { OnOk result (out.new.items ≡ out.old.items
+            ++ told_meet h.now.container.life.status code h.now.container.number
+            (ending_as ending (container_in h.now)) script.now
+            (at_moment moment self.now.state)) }
+    {
+        match h.container.life.status {
+            Status::Paused => self.tell_woken(alloc, code, ending, h, script, moment, out),
+            Status::Created => self.tell_code(alloc, code, ending, h, script, moment, out),
+            Status::Running => self.tell_code(alloc, code, ending, h, script, moment, out),
+            Status::Restarting => self.tell_code(alloc, code, ending, h, script, moment, out),
+            Status::Removing => self.tell_code(alloc, code, ending, h, script, moment, out),
+            Status::Exited => self.tell_code(alloc, code, ending, h, script, moment, out),
+            Status::Dead => self.tell_code(alloc, code, ending, h, script, moment, out),
+        }
+    }
+
+    // A signal that stops it by hand: a final one of a kill.
+    fn tell_last(
         &self,
         alloc: Global,
         code: Option<u8>,
@@ -201,18 +222,35 @@ impl Tables {
     ) -> Result<(), NoMemory>
         ensures { OnOk result (out.new.items ≡ out.old.items
             ++ told_meet h.now.container.life.status code h.now.container.number
-            (container_in h.now)
-            script.now (at_moment moment self.now.state)) }
+            (renewed by_hand (container_in h.now)) script.now (at_moment moment self.now.state)) }
     {
-        match h.container.life.status {
-            Status::Paused => self.tell_woken(alloc, code, h, script, moment, out),
-            Status::Created => self.tell_code(alloc, code, h, script, moment, out),
-            Status::Running => self.tell_code(alloc, code, h, script, moment, out),
-            Status::Restarting => self.tell_code(alloc, code, h, script, moment, out),
-            Status::Removing => self.tell_code(alloc, code, h, script, moment, out),
-            Status::Exited => self.tell_code(alloc, code, h, script, moment, out),
-            Status::Dead => self.tell_code(alloc, code, h, script, moment, out),
-        }
+        let ending = Ending {
+            goal: h.container.life.goal,
+            manual: true,
+        };
+        self.tell_met(alloc, code, ending, h, script, moment, out)
+    }
+
+    // A signal that leaves open how it ends.
+    fn tell_sent(
+        &self,
+        alloc: Global,
+        code: Option<u8>,
+        h: &Held,
+        script: &Option<Script>,
+        moment: u64,
+        out: &mut Vec<Event>,
+    ) -> Result<(), NoMemory>
+        ensures { OnOk result (out.new.items ≡ out.old.items
+            ++ told_code
+            (running_numbers h.now.container.number (at_moment moment self.now.state))
+            code (container_in h.now) script.now (at_moment moment self.now.state)) }
+    {
+        let ending = Ending {
+            goal: h.container.life.goal,
+            manual: h.container.life.manual,
+        };
+        self.tell_code(alloc, code, ending, h, script, moment, out)
     }
 
     /// The signal of a kill: a final one is met, another is sent.
@@ -231,9 +269,9 @@ impl Tables {
             script.now (at_moment moment self.now.state)) }
     {
         if last {
-            self.tell_met(alloc, code, h, script, moment, out)
+            self.tell_last(alloc, code, h, script, moment, out)
         } else {
-            self.tell_code(alloc, code, h, script, moment, out)
+            self.tell_sent(alloc, code, h, script, moment, out)
         }
     }
 }

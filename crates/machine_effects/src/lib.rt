@@ -13,6 +13,7 @@ mod execs;
 mod foretell;
 mod foretell_calls;
 mod foretell_create;
+mod foretell_end;
 mod foretell_kill;
 mod foretell_met;
 mod halting;

@@ -20,22 +20,25 @@ pub fn begin(life: &mut Life, starts: u64, moment: u64, pid: u64)
     life.pid = pid;
 }
 
+/// What becomes of a container whose main process ended with that code at the moment, stopped by hand
+/// or not.
+pub fn decision_of(life: &Life, code: u8, manual: bool, moment: u64) -> Decision
+    ensures what { result
+        ≡ decision_at moment (record life.now { code = code; manual = manual }) }
+    ensures soon { IsSoon result }
+{
+    let ran = match life.started {
+        None => 0,
+        Some(launch) => moment.saturating_sub(launch),
+    };
+    decide(&life.policy, code, ran, life.restarts, life.delay, manual)
+}
+
 /// What becomes of the container, whose main process ended at the moment.
 pub fn decision(h: &Held, moment: u64) -> Decision
     ensures what { result ≡ decision_at moment (container_in h.now).life }
     ensures soon { IsSoon result }
 {
     let life = &h.container.life;
-    let ran = match life.started {
-        None => 0,
-        Some(launch) => moment.saturating_sub(launch),
-    };
-    decide(
-        &life.policy,
-        life.code,
-        ran,
-        life.restarts,
-        life.delay,
-        life.manual,
-    )
+    decision_of(life, life.code, life.manual, moment)
 }

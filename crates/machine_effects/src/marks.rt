@@ -2,7 +2,7 @@
 ghost use Rattle.std.specs.Prelude.{◌≡◌};
 ghost use Rattle.machine_effects.specs.Marks.{marked};
 
-use engine_text::{Goal, Life, Status};
+use engine_text::{Goal, Life, Policy, Status};
 
 /// What a step notes in a container's life.
 #[derive(Clone, Copy, Drop)]
@@ -22,6 +22,7 @@ pub enum Mark {
     Restarted(u64),
     Waiting(u64),
     Ended(u8, u64),
+    Governed(Option<Policy>),
 }
 
 /// Notes it.
@@ -62,5 +63,6 @@ pub fn note(life: &mut Life, mark: Mark)
             life.finished = Some(moment);
             life.pid = 0;
         }
+        Mark::Governed(policy) => life.policy = policy.unwrap_or(life.policy),
     }
 }

@@ -11,6 +11,7 @@ use Rattle.machine_model.proofs.Calls.KillLemmas.{kill_obeys}
 use Rattle.machine_model.proofs.Calls.PauseLemmas.{pause_obeys}
 use Rattle.machine_model.proofs.Calls.UnpauseLemmas.{unpause_obeys}
 use Rattle.machine_model.proofs.Calls.RenameLemmas.{rename_obeys}
+use Rattle.machine_model.proofs.Calls.UpdateLemmas.{update_obeys}
 use Rattle.machine_model.proofs.Calls.RemoveLemmas.{remove_obeys}
 use Rattle.machine_model.proofs.Calls.WaitLemmas.{wait_obeys}
 use Rattle.machine_model.proofs.Calls.InspectLemmas.{inspect_obeys}
@@ -34,6 +35,7 @@ obeys (Call.Kill target signal) connection s = kill_obeys target signal connecti
 obeys (Call.Pause target) connection s = pause_obeys target connection s
 obeys (Call.Unpause target) connection s = unpause_obeys target connection s
 obeys (Call.Rename target name) connection s = rename_obeys target name connection s
+obeys (Call.Update target policy) connection s = update_obeys target policy connection s
 obeys (Call.Remove target force) connection s = remove_obeys target force connection s
 obeys (Call.Wait target until) connection s = wait_obeys target until connection s
 obeys (Call.Inspect target) connection s = inspect_obeys target connection s

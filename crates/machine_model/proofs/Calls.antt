@@ -11,6 +11,7 @@ pub mod LogsLemmas
 pub mod PauseLemmas
 pub mod RemoveLemmas
 pub mod RenameLemmas
+pub mod UpdateLemmas
 pub mod RestartLemmas
 pub mod StartLemmas
 pub mod StopLemmas

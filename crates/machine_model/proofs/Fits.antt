@@ -16,6 +16,7 @@ pub mod PartLemmas
 pub mod PauseLemmas
 pub mod RemoveLemmas
 pub mod RenameLemmas
+pub mod UpdateLemmas
 pub mod RestartLemmas
 pub mod StartLemmas
 pub mod StepLemmas

@@ -2,6 +2,7 @@ pub mod Scenes
 pub mod StandardFacts
 pub mod RemovalFacts
 pub mod RunFacts
+pub mod UpdateFacts
 pub mod CallFacts
 pub mod InputFacts
 pub mod TableFacts

@@ -14,8 +14,8 @@ use crate::prepared::Prepared;
 use crate::refusals::{name_conflict, no_such_image};
 use crate::texts::join;
 use engine_text::{
-    Action, Container, CreateSpec, Event, Goal, Life, Log, NoMemory, OpenLog, Reply, Status, Text,
-    Volume, Words,
+    Action, Container, CreateSpec, Event, Goal, HealthSpec, Life, Log, NoMemory, OpenLog, Reply,
+    Status, Text, Volume, Words,
 };
 use machine_effects::{Held, Tables, add, plain_event, tell_volumes};
 use std::alloc::Global;
@@ -42,6 +42,16 @@ fn words_or_hello(alloc: Global, words: &Words) -> Result<Words, NoMemory>
     words.copy(alloc)
 }
 
+// The health check again, if there is one.
+fn copy_health(alloc: Global, health: &Option<HealthSpec>) -> Result<Option<HealthSpec>, NoMemory>
+    ensures { IfOk result (λ h. h ≡ health.now) }
+{
+    match health {
+        None => Ok(None),
+        Some(health) => Ok(Some(health.copy(alloc)?)),
+    }
+}
+
 fn new_life(alloc: Global, asked: &CreateSpec, moment: u64) -> Result<Life, NoMemory>
     ensures { IfOk result (λ l. l ≡ spec.new_life asked.now moment) }
 {
@@ -66,6 +76,8 @@ fn new_life(alloc: Global, asked: &CreateSpec, moment: u64) -> Result<Life, NoMe
         delay: 0,
         manual: false,
         log: Log::new(alloc),
+        auto_remove: asked.auto_remove,
+        health: copy_health(alloc, &asked.health)?,
     })
 }
 

@@ -47,6 +47,8 @@ fn prepare_shown(
         status: life.status,
         pid: life.pid,
         code: life.code,
+        auto_remove: life.auto_remove,
+        health: life.health.as_ref(),
     };
     let body = container_body(alloc, &view)?;
     Ok(answer(alloc, moment, 200, body))

@@ -1,10 +1,9 @@
 // The end of an exec, and of a main process.
 ghost use Rattle.std.specs.Prelude.{◌≡◌, ◌+◌, ◌<◌, ◌≤◌, length};
-ghost use Rattle.machine_model.specs.Effects.EndMain.{end_exec, end_execs, die, clear_deadlines, end_main, follow};
+ghost use Rattle.machine_model.specs.Effects.EndMain.{end_exec, end_execs, die, clear_deadlines, end_main, wait_again};
 ghost use Rattle.machine_model.specs.History.{greatest_moment};
-ghost use Rattle.restart_policy.specs.declared.decision.Decision.TheVariants.{Again};
-ghost use Rattle.machine_effects.specs.Effects.EndMain.{followed, goal_effect, concluded};
-ghost use Rattle.machine_effects.specs.Fit.{CanSettle, HasGoal};
+ghost use Rattle.machine_effects.specs.Effects.EndMain.{followed, stayed, goal_effect, concluded};
+ghost use Rattle.machine_effects.specs.Fit.{CanRemove, CanSettle, HasGoal};
 
 use crate::kit::Kit;
 use crate::lives;
@@ -67,7 +66,7 @@ impl Tables {
         requires clock { self.old.state.clock ≤ greatest_moment }
         requires timers { length self.old.state.timers < self.old.room.timers }
         requires delay { delay ≤ 60000 }
-        ensures state { self.new.state ≡ (follow (Again delay) number self.old.state).state }
+        ensures state { self.new.state ≡ (wait_again delay number self.old.state).state }
         ensures room { self.new.room ≡ self.old.room }
     {
         let moment = self.clock() + delay;
@@ -75,9 +74,27 @@ impl Tables {
         self.set_timer(3, number, moment);
     }
 
-    /// It stays exited, or is restarted after a delay.
-    pub fn follow(&mut self, number: u64)
+    // It stays exited, and is gone where it is removed by itself.
+    fn stay(&mut self, number: u64, kit: Kit)
+        requires { CanRemove number kit self.old.room self.old.state }
+        ensures state { self.new.state ≡ (stayed number self.old.state).state }
+        ensures room { self.new.room ≡ self.old.room }
+    {
+        let Some(h) = self.numbered(number) else {
+            return;
+        };
+        let auto = h.container.life.auto_remove;
+        self.renew(number, Mark::Exited);
+        if !auto {
+            return;
+        }
+        self.destroy(number, kit);
+    }
+
+    /// It stays exited, and is gone where it is removed by itself, or waits for a restart.
+    pub fn follow(&mut self, number: u64, kit: Kit)
         requires clock { self.old.state.clock ≤ greatest_moment }
+        requires remove { CanRemove number kit self.old.room self.old.state }
         requires timers { length self.old.state.timers < self.old.room.timers }
         ensures state { self.new.state ≡ (followed number self.old.state).state }
         ensures room { self.new.room ≡ self.old.room }
@@ -86,7 +103,7 @@ impl Tables {
             return;
         };
         match lives::decision(h, self.clock()) {
-            Decision::Stay => self.renew(number, Mark::Exited),
+            Decision::Stay => self.stay(number, kit),
             Decision::Again(delay) => self.wait(number, delay),
         }
     }
@@ -101,9 +118,9 @@ impl Tables {
     {
         match goal {
             Goal::Remove => self.destroy(number, kit),
-            Goal::Stop => self.renew(number, Mark::Exited),
+            Goal::Stop => self.stay(number, kit),
             Goal::Restart => self.launch_by_call(number, kit.script),
-            Goal::None => self.follow(number),
+            Goal::None => self.follow(number, kit),
         }
     }
 

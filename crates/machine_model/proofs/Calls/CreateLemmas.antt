@@ -50,7 +50,7 @@ folded_add name spec s h low =
     )
 
 signal_of : (spec : CreateSpec) → is_create spec ≡ true → is_signal spec.stop_signal ≡ true
-signal_of spec e = (both_true _ _ (both_true _ _ (both_true _ _ (both_true _ _ e).0).0).0).1
+signal_of spec e = (both_true _ _ (both_true _ _ (both_true _ _ (both_true _ _ (both_true _ _ (both_true _ _ e).0).0).0).0).0).1
 
 held : (name : List ℕ) (spec : CreateSpec) (s : State) (o : Option Container) → holder name s.containers ≡ o → Obeys (Call.Create spec) s (by_holder o name spec s)
 held name spec s (Some other) e = obeys_answer (Call.Create spec) s 409 _ refl

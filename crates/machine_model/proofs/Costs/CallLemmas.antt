@@ -34,6 +34,7 @@ use Rattle.machine_model.specs.Calls.Pause as pause
 use Rattle.machine_model.specs.Calls.Unpause as unpause
 use Rattle.machine_model.specs.Calls.Rename as rename
 use Rattle.machine_model.specs.Calls.Remove as remove
+use Rattle.machine_model.specs.Calls.Update as update
 use Rattle.machine_model.specs.Calls.Volumes as volumes
 use Rattle.machine_model.specs.Calls.Feed as feeds
 use Rattle.machine_model.specs.Calls.Take.{end_ticket}
@@ -42,7 +43,7 @@ use Rattle.machine_model.proofs.VolumeLemmas.{made as volumes_made, with_mounts}
 use Rattle.machine_model.proofs.Processes.LimitLemmas.{feed_end_fits}
 use Rattle.machine_model.proofs.Costs.CostLemmas.{Cost, none, tells, plus, most_of, IsPriced, Costs, costs_still, costs_then, costs_nothing, costs_tell}
 use Rattle.machine_model.proofs.Costs.AnswerLemmas.{full, idle, top, ticket, at}
-use Rattle.machine_model.proofs.Costs.StatusLemmas.{start_by, stop_by, restart_by, kill_by, pause_by, unpause_by, rename_by, remove_by}
+use Rattle.machine_model.proofs.Costs.StatusLemmas.{start_by, stop_by, restart_by, kill_by, pause_by, unpause_by, rename_by, update_by, remove_by}
 use Rattle.engine_text.specs.declared.call.Call.{Call}
 use Rattle.engine_text.specs.declared.call.CreateSpec.{CreateSpec}
 use Rattle.engine_text.specs.declared.container.Container.{Container}
@@ -99,7 +100,7 @@ adds R k name spec s few free =
     k.on_after (tells 16) (record { told = 1; spawns = 0; makes = 1; asks = 0; retries = 0 }) s a (then_add c a.state) first behind
 
 pub few_mounts : (spec : CreateSpec) → is_create spec ≡ true → length spec.mounts ≤ 16
-few_mounts spec e = leb-true (length spec.mounts) 16 (both_true _ _ (both_true _ _ e).1).0
+few_mounts spec e = leb-true (length spec.mounts) 16 (both_true _ _ (both_true _ _ (both_true _ _ (both_true _ _ e).0).0).1).0
 
 create_holder : {P : Type 0} {E : ℕ → Type 0} (R : Cost → State → Effect → Type 0) → IsPriced P E R → (o : Option Container) (name : List ℕ) (spec : CreateSpec) (s : State) → (P → length spec.mounts ≤ 16) → holder name s.containers ≡ o → R full s (create.by_holder o name spec s).effect
 create_holder R k (Some other) name spec s few e = idle R k s
@@ -229,6 +230,7 @@ call_costs R k (Call.Kill target signal) connection s sound ready ends = at R k 
 call_costs R k (Call.Pause target) connection s sound ready ends = at R k s target (λ c. pause.by_status c.life.status c) (λ c found. pause_by R k c.life.status c s)
 call_costs R k (Call.Unpause target) connection s sound ready ends = at R k s target (λ c. unpause.by_status c.life.status c) (λ c found. unpause_by R k c.life.status c s)
 call_costs R k (Call.Rename target name) connection s sound ready ends = at R k s target (λ c. rename.by_status c.life.status (without_slash name) c) (λ c found. rename_by R k c.life.status (without_slash name) c s found)
+call_costs R k (Call.Update target policy) connection s sound ready ends = at R k s target (λ c. update.by_status c.life.status policy c) (λ c found. update_by R k c.life.status policy c s)
 call_costs R k (Call.Remove target force) connection s sound ready ends =
     at R k s target (λ c. remove.by_status c.life.status force connection c) (λ c found. remove_by R k c.life.status force connection c s found)
 call_costs R k (Call.Wait target until) connection s sound ready ends =

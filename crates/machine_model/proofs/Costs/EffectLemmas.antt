@@ -14,7 +14,7 @@ use Rattle.machine_model.specs.Chain.{Effect, still, change, after, in_order, ea
 use Rattle.machine_model.specs.EventTexts.{plain_event, die_event, kill_event}
 use Rattle.machine_model.specs.Effects.Launch.{launch_program, launch, launch_by_call, afresh}
 use Rattle.machine_model.specs.Effects.Destroy.{destroy}
-use Rattle.machine_model.specs.Effects.EndMain.{end_execs, ended, die, exited, no_goal, restarting, follow, decision_at, by_goal, by_status, end_main}
+use Rattle.machine_model.specs.Effects.EndMain.{end_execs, ended, die, exited, no_goal, restarting, removed_if, follow, decision_at, by_goal, by_status, end_main}
 use Rattle.machine_model.specs.Effects.Cancel.{cancelled, cancel_restart}
 use Rattle.machine_model.specs.Effects.Halt.{lesser, set_deadline, halt}
 use Rattle.machine_model.specs.Effects.Meet.{end_of, by_effect, stepped, step_process, running, thaw_execs, wake_parts, thaw_container, send, woken, meet_signal}
@@ -87,21 +87,28 @@ costs_die {R} k code n =
     let all = costs_then k gone (costs_then k ends told) in
     record { holds = λ s. all.holds s }
 
-costs_follow : {P : Type 0} {E : ℕ → Type 0} {R : Cost → State → Effect → Type 0} → IsPriced P E R → (d : Decision) (n : ℕ) → Costs R none (follow d n)
-costs_follow k Stay n = costs_renew k n exited (λ t. record { mounts = λ l. refl; log = λ l. refl; starts = λ l. refl; restarts = λ l. omega arith; moments = λ l h. h })
-costs_follow k (Again delay) n =
-    costs_then k (costs_renew k n (restarting delay) (λ t. record { mounts = λ l. refl; log = λ l. refl; starts = λ l. refl; restarts = λ l. omega arith; moments = λ l h. h }))
-    (costs_timers k (λ s. with_timer (s.clock + delay) 3 n s.timers) (λ s h. set_from (s.clock + delay) 3 n s.clock s.timers (omega arith) h))
+costs_removed_if : {P : Type 0} {E : ℕ → Type 0} {R : Cost → State → Effect → Type 0} → IsPriced P E R → (auto : Bool) (n : ℕ) → Costs R (tells 1) (removed_if auto n)
+costs_removed_if k true n = costs_destroy k n
+costs_removed_if k false n = record { holds = λ s. costs_nothing (tells 1) k s }
+
+costs_follow : {P : Type 0} {E : ℕ → Type 0} {R : Cost → State → Effect → Type 0} → IsPriced P E R → (d : Decision) (auto : Bool) (n : ℕ) → Costs R (tells 1) (follow d auto n)
+costs_follow k Stay auto n = costs_then k (costs_renew k n exited (λ t. record { mounts = λ l. refl; log = λ l. refl; starts = λ l. refl; restarts = λ l. omega arith; moments = λ l h. h })) (costs_removed_if k auto n)
+costs_follow k (Again delay) auto n =
+    costs_most k
+    (costs_then k (costs_renew k n (restarting delay) (λ t. record { mounts = λ l. refl; log = λ l. refl; starts = λ l. refl; restarts = λ l. omega arith; moments = λ l h. h }))
+    (costs_timers k (λ s. with_timer (s.clock + delay) 3 n s.timers) (λ s h. set_from (s.clock + delay) 3 n s.clock s.timers (omega arith) h))) refl
 
 costs_by_goal : {P : Type 0} {E : ℕ → Type 0} {R : Cost → State → Effect → Type 0} → IsPriced P E R → (g : Goal) (c : Container) → Costs R goal_cost (by_goal g c)
 costs_by_goal k Goal.Remove c = costs_most k (costs_destroy k c.number) refl
 costs_by_goal k Goal.Stop c =
     costs_most k
-    (costs_then k (costs_renew k c.number exited (λ t. record { mounts = λ l. refl; log = λ l. refl; starts = λ l. refl; restarts = λ l. omega arith; moments = λ l h. h })) (costs_tell k (plain_event Stop) c.number (λ c t. refl))) refl
+    (costs_then k (costs_renew k c.number exited (λ t. record { mounts = λ l. refl; log = λ l. refl; starts = λ l. refl; restarts = λ l. omega arith; moments = λ l h. h })) (costs_then k (costs_tell k (plain_event Stop) c.number (λ c t. refl)) (costs_removed_if k c.life.auto_remove c.number))) refl
 costs_by_goal k Goal.Restart c =
     costs_then k (costs_tell k (plain_event Stop) c.number (λ c t. refl)) (costs_then k (costs_launch_by_call k c.number) (costs_tell k (plain_event Restart) c.number (λ c t. refl)))
 costs_by_goal k Goal.None c =
-    costs_most k (costs_at (λ s. follow (decision_at s.clock c.life) c.number) (λ s. (costs_follow k (decision_at s.clock c.life) c.number).holds s)) refl
+    costs_most k
+    (costs_at (λ s. follow (decision_at s.clock c.life) c.life.auto_remove c.number)
+    (λ s. (costs_follow k (decision_at s.clock c.life) c.life.auto_remove c.number).holds s)) refl
 
 costs_by_status : {P : Type 0} {E : ℕ → Type 0} {R : Cost → State → Effect → Type 0} → IsPriced P E R → (u : Status) (c : Container) → Costs R goal_cost (by_status u c)
 costs_by_status k Status.Dead c = record { holds = λ s. costs_nothing goal_cost k s }

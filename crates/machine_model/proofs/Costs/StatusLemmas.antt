@@ -23,14 +23,16 @@ use Rattle.machine_model.specs.Calls.Pause as pause
 use Rattle.machine_model.specs.Calls.Unpause as unpause
 use Rattle.machine_model.specs.Calls.Rename as rename
 use Rattle.machine_model.specs.Calls.Remove as remove
+use Rattle.machine_model.specs.Calls.Update as update
 use Rattle.machine_model.proofs.Processes.LimitLemmas.{freeze_fits}
-use Rattle.machine_model.proofs.Costs.CostLemmas.{Cost, none, tells, IsPriced, Costs, costs_still, costs_then, costs_most, costs_at, costs_tell, costs_renew, costs_timers, costs_each}
+use Rattle.machine_model.proofs.Costs.CostLemmas.{Cost, none, tells, IsPriced, IsQuiet, Costs, costs_still, costs_then, costs_most, costs_at, costs_tell, costs_renew, costs_timers, costs_each}
 use Rattle.machine_model.proofs.Costs.EffectLemmas.{set_from, launch_cost, costs_launch_by_call, costs_destroy, costs_thaw, costs_send, costs_meet, costs_halt, costs_cancel, meet_cost}
 use Rattle.machine_model.proofs.Costs.AnswerLemmas.{full, idle, top, ticket}
 use Rattle.engine_text.specs.declared.container.Container.{Container}
 use Rattle.engine_text.specs.declared.exec.Exec.{Exec}
 use Rattle.engine_text.specs.declared.owner.Owner.{Owner}
 use Rattle.engine_text.specs.declared.owner.Owner.TheVariants.{Container as OfContainer, Exec as OfExec}
+use Rattle.engine_text.specs.declared.policy.Policy.{Policy}
 use Rattle.engine_text.specs.declared.signal.Signal.{Signal}
 use Rattle.engine_text.specs.declared.status.Status.{Status}
 use Rattle.engine_text.specs.declared.ticket.Asked.{Asked}
@@ -164,6 +166,30 @@ rename_by R k Status.Restarting name c s found = rename_own R k (same_bytes name
 rename_by R k Status.Removing name c s found = idle R k s
 rename_by R k Status.Exited name c s found = rename_own R k (same_bytes name c.name) name c s found
 rename_by R k Status.Dead name c s found = idle R k s
+
+-- ---- update
+
+quiet : (policy : Option Policy) (t : ℕ) → IsQuiet t (update.governed policy)
+quiet policy t = record { mounts = λ l. refl; log = λ l. refl; starts = λ l. refl; restarts = λ l. omega arith; moments = λ l h. h }
+
+updates : {P : Type 0} {E : ℕ → Type 0} {R : Cost → State → Effect → Type 0} → IsPriced P E R → (policy : Option Policy) (c : Container) → Costs R (tells 1) (update.update policy c)
+updates k policy c = costs_then k (costs_renew k c.number (update.governed policy) (quiet policy)) (costs_tell k (plain_event Action.Update) c.number (λ c t. refl))
+
+update_own : {P : Type 0} {E : ℕ → Type 0} (R : Cost → State → Effect → Type 0) → IsPriced P E R → (b : Bool) (policy : Option Policy) (c : Container) (s : State) → R full s (update.by_excluded b policy c s).effect
+update_own R k true policy c s = idle R k s
+update_own R k false policy c s = top R _ k (update.update policy c) s (updates k policy c) refl
+
+update_stands : {P : Type 0} {E : ℕ → Type 0} (R : Cost → State → Effect → Type 0) → IsPriced P E R → (policy : Option Policy) (c : Container) (s : State) → R full s (update.update_standing policy c s).effect
+update_stands R k policy c s = update_own R k (update.is_excluded c.life.auto_remove policy) policy c s
+
+pub update_by : {P : Type 0} {E : ℕ → Type 0} (R : Cost → State → Effect → Type 0) → IsPriced P E R → (u : Status) (policy : Option Policy) (c : Container) (s : State) → R full s (update.by_status u policy c s).effect
+update_by R k Status.Created policy c s = update_stands R k policy c s
+update_by R k Status.Running policy c s = update_stands R k policy c s
+update_by R k Status.Paused policy c s = update_stands R k policy c s
+update_by R k Status.Restarting policy c s = update_stands R k policy c s
+update_by R k Status.Removing policy c s = idle R k s
+update_by R k Status.Exited policy c s = update_stands R k policy c s
+update_by R k Status.Dead policy c s = idle R k s
 
 -- ---- remove
 

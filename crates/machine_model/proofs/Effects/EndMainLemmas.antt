@@ -1,11 +1,11 @@
 -- What the ends of execs and of main processes tell.
-use Rattle.std.proofs.Common.{◌≡◌, ℕ, ◌+◌, ◌^◌, ◌<◌, ◌==◌, false, not, refl, ap, sym, ◌∙◌, arith, subst}
+use Rattle.std.proofs.Common.{◌≡◌, ℕ, ◌+◌, ◌^◌, ◌<◌, ◌==◌, Bool, true, false, not, refl, ap, sym, ◌∙◌, arith, subst}
 use Rattle.std.proofs.lemmas.Fmt.{decimal_is_IsNumeral}
 use Rattle.api_json.specs.Status.{is_paused}
 use Rattle.machine_model.specs.EventTexts.{plain_event, die_event, exec_die_event}
 use Rattle.machine_model.specs.State.{State, set_timer, drop_process, exec_numbered, running_execs, change_exec}
 use Rattle.machine_model.specs.Chain.{each, change, renew, tell_of, with_found, with_container}
-use Rattle.machine_model.specs.Effects.EndMain.{end_exec, end_execs, exec_ended, ended, die, clear_deadlines, exited, no_goal, restarting, follow, decision_at, by_goal, by_status, end_main}
+use Rattle.machine_model.specs.Effects.EndMain.{end_exec, end_execs, exec_ended, ended, die, clear_deadlines, exited, no_goal, restarting, removed_if, follow, decision_at, by_goal, by_status, end_main}
 use Rattle.machine_model.specs.Summary.{summary_row, exit_code}
 use Rattle.machine_model.specs.Ranges.{IsLifeInRange}
 use Rattle.machine_model.proofs.Effects.LaunchLemmas.{Awake, tells_launch_by_call}
@@ -84,19 +84,25 @@ pub awake_mark : {n : ℕ} (f : Life → Life) → ((l : Life) → IsLifeInRange
 awake_mark f keeps same stays =
     tells_renew (λ s. f) (λ s l. keeps l) (λ s fit r c id h. (h.0 ∙ sym (same c), ap is_paused (stays c.life) ∙ h.1))
 
-tells_follow : (d : Decision) (n : ℕ) → Tells n Awake (follow d n) Awake
-tells_follow Stay n = awake_renew exited (λ l h. h) (λ c. refl) (λ l. refl)
-tells_follow (Again delay) n =
+tells_removed_if : (auto : Bool) (n : ℕ) → Tells n Awake (removed_if auto n) Awake
+tells_removed_if true n = tells_destroy n Awake Awake
+tells_removed_if false n = tells_still
+
+tells_follow : (d : Decision) (auto : Bool) (n : ℕ) → Tells n Awake (follow d auto n) Awake
+tells_follow Stay auto n = tells_then (awake_renew exited (λ l h. h) (λ c. refl) (λ l. refl)) (tells_removed_if auto n)
+tells_follow (Again delay) auto n =
     tells_then (awake_renew (restarting delay) (λ l h. h) (λ c. refl) (λ l. refl)) (tells_apart (λ s. set_timer 3 n (s.clock + delay) s) (λ s. refl) (λ s fit. fit))
 
 tells_by_goal : (g : Goal) (c : Container) → Tells c.number Awake (by_goal g c) Awake
 tells_by_goal Goal.Remove c = tells_destroy c.number Awake Awake
 tells_by_goal Goal.Stop c =
-    tells_then (awake_renew exited (λ l h. h) (λ c. refl) (λ l. refl)) (tells_quiet c.number (plain_event Stop) (λ c t rs. refl))
+    tells_then (awake_renew exited (λ l h. h) (λ c. refl) (λ l. refl))
+    (tells_then (tells_quiet c.number (plain_event Stop) (λ c t rs. refl)) (tells_removed_if c.life.auto_remove c.number))
 tells_by_goal Goal.Restart c =
     tells_then (tells_quiet c.number (plain_event Stop) (λ c t rs. refl))
     (tells_then (tells_launch_by_call c.number) (tells_quiet c.number (plain_event Restart) (λ c t rs. refl)))
-tells_by_goal Goal.None c = tells_at (λ s. follow (decision_at s.clock c.life) c.number) (λ s. tells_follow (decision_at s.clock c.life) c.number)
+tells_by_goal Goal.None c =
+    tells_at (λ s. follow (decision_at s.clock c.life) c.life.auto_remove c.number) (λ s. tells_follow (decision_at s.clock c.life) c.life.auto_remove c.number)
 
 tells_by_status : (u : Status) (c : Container) → Tells c.number Awake (by_status u c) Awake
 tells_by_status Status.Dead c = tells_still

@@ -8,7 +8,7 @@ use Rattle.machine_model.specs.State.{State, drop_process}
 use Rattle.machine_model.specs.Chain.{change, and_then, with_container, renew, tell_of}
 use Rattle.machine_model.specs.EventTexts.{plain_event, die_event}
 use Rattle.machine_model.specs.Consistency.{FitsStatus, IsFrozenAs, HasStarted}
-use Rattle.machine_model.specs.Effects.EndMain.{end_execs, ended, die, exited, no_goal, restarting, follow, decision_at, by_goal, by_status, end_main}
+use Rattle.machine_model.specs.Effects.EndMain.{end_execs, ended, die, exited, no_goal, restarting, removed_if, follow, decision_at, by_goal, by_status, end_main}
 use Rattle.machine_model.proofs.Fits.PartLemmas.{Steady, Parts, Leads, leads_then, leads_from, leads_to, leads_still, leads_at, leads_with, leads_tell, leads_mounts, leads_renew, Stood}
 use Rattle.machine_model.proofs.Fits.MainPartLemmas.{drop_main, NoExecs}
 use Rattle.machine_model.proofs.Fits.TimerPartLemmas.{leads_clear_1, leads_clear_2, leads_set_3, timed}
@@ -107,8 +107,20 @@ rests l u p a b c is fits up calm pid none off away quiet started =
       ap is_paused is ∙ up,
     )
 
-spent_exits : (n : ℕ) → Leads Local n (On Spent) (renew n exited) (On CalmUp)
-spent_exits n = on_renew exited (λ l p a b c h. rests (exited l) Status.Exited p a b c refl refl refl refl h.0.0 h.0.1 h.0.2 h.0.3 h.0.4 (λ other. h.1)) (λ l p a b c h. sym h.0.6) (λ l. refl)
+-- at rest, with neither a process nor a timer
+abbrev Rested : Life → Option Process → Bool → Bool → Bool → Type 0
+Rested l p a b c = CalmUp l p a b c × Bare l p a b c
+
+spent_exits : (n : ℕ) → Leads Local n (On Spent) (renew n exited) (On Rested)
+spent_exits n =
+    on_renew exited
+    (λ l p a b c h. (rests (exited l) Status.Exited p a b c refl refl refl refl h.0.0 h.0.1 h.0.2 h.0.3 h.0.4 (λ other. h.1), (h.0.1, h.0.2, h.0.3, h.0.4)))
+    (λ l p a b c h. sym h.0.6) (λ l. refl)
+
+-- one that is removed by itself is gone
+leads_removed_if : (auto : Bool) (n : ℕ) → Leads Local n (On Rested) (removed_if auto n) (On CalmUp)
+leads_removed_if true n = leads_from (λ v h. on_weaker Rested Bare (λ l p x y z k. k.1) v h) (leads_destroy n)
+leads_removed_if false n = leads_from (λ v h. on_weaker Rested CalmUp (λ l p x y z k. k.0) v h) leads_still
 
 -- its timer is to be set
 abbrev Waiting : Life → Option Process → Bool → Bool → Bool → Type 0
@@ -131,9 +143,9 @@ waits_by l p a b c h =
       ap is_paused h.5,
     )
 
-leads_follow : (d : Decision) (n : ℕ) → Leads Local n (Here Spent) (follow d n) (On CalmUp)
-leads_follow Stay n = leads_from (λ v h. on_here Spent v h) (spent_exits n)
-leads_follow (Again delay) n =
+leads_follow : (d : Decision) (auto : Bool) (n : ℕ) → Leads Local n (Here Spent) (follow d auto n) (On CalmUp)
+leads_follow Stay auto n = leads_from (λ v h. on_here Spent v h) (leads_then (spent_exits n) (leads_removed_if auto n))
+leads_follow (Again delay) auto n =
     let marks : Leads Local n (Here Spent) (renew n (restarting delay)) (Here Waiting) =
     here_renew Spent Waiting (λ s. restarting delay) (λ s pid l p a b c h. (h.0.0, h.0.1, h.0.2, h.0.3, h.0.5, refl, h.1)) (λ s l p a b c h. sym h.0.6) (λ s l. refl) in
     let sets : Leads Local n (Here Waiting) (change (λ s. record s { timers = with_timer (s.clock + delay) 3 n s.timers })) (On CalmUp) =
@@ -145,12 +157,15 @@ up_calm v h = on_weaker Up CalmUp (λ l p a b c k. (k.0.0, k.1)) v h
 
 leads_by_goal : (g : Goal) (c : Container) → Leads Local c.number (Here Spent) (by_goal g c) (On CalmUp)
 leads_by_goal Goal.Remove c = leads_from (λ v h. on_weaker Spent Bare (λ l p x y z k. (k.0.1, k.0.2, k.0.3, k.0.4)) v (on_here Spent v h)) (leads_destroy c.number)
-leads_by_goal Goal.Stop c = leads_from (λ v h. on_here Spent v h) (leads_then (spent_exits c.number) (leads_tell c.number (plain_event Stop)))
+leads_by_goal Goal.Stop c =
+    leads_from (λ v h. on_here Spent v h)
+    (leads_then (spent_exits c.number) (leads_then (leads_tell c.number (plain_event Stop)) (leads_removed_if c.life.auto_remove c.number)))
 leads_by_goal Goal.Restart c =
     leads_from (λ v h. on_weaker Spent Fallen (λ l p x y z k. k.0) v (on_here Spent v h))
     (leads_then (leads_tell c.number (plain_event Stop))
     (leads_to up_calm (leads_then (leads_launch_by_call c.number) (leads_tell c.number (plain_event Restart)))))
-leads_by_goal Goal.None c = leads_at (λ s. follow (decision_at s.clock c.life) c.number) (λ s. leads_follow (decision_at s.clock c.life) c.number)
+leads_by_goal Goal.None c =
+    leads_at (λ s. follow (decision_at s.clock c.life) c.life.auto_remove c.number) (λ s. leads_follow (decision_at s.clock c.life) c.life.auto_remove c.number)
 
 leads_by_status : (u : Status) (c : Container) → c.life.status ≡ u → Leads Local c.number (Stood c (On Spent)) (by_status u c) (On CalmUp)
 leads_by_status Status.Dead c e =

@@ -44,6 +44,7 @@ use Rattle.machine_model.proofs.Fits.FeedLemmas.{feed_mains, feed_end_mains}
 use Rattle.machine_model.proofs.Fits.ExecLemmas.{running_by, mains_made_exec, exec_found, inspect_found}
 use Rattle.machine_model.proofs.Fits.CreateLemmas.{create_image}
 use Rattle.machine_model.proofs.Fits.RenameLemmas.{rename_by}
+use Rattle.machine_model.proofs.Fits.UpdateLemmas.{update_mains}
 use Rattle.machine_model.proofs.Fits.FreshLemmas.{Fresh, mains_told}
 use Rattle.engine_text.specs.declared.call.Call.{Call}
 use Rattle.engine_text.specs.declared.container.Container.{Container}
@@ -85,6 +86,7 @@ mains_call (Call.Kill target signal) connection s fresh h = kill_mains target si
 mains_call (Call.Pause target) connection s fresh h = pause_mains target s h
 mains_call (Call.Unpause target) connection s fresh h = unpause_mains target s h
 mains_call (Call.Rename target name) connection s fresh h = mains_at s target (λ c. rename.by_status c.life.status (without_slash name) c) (λ c found. rename_by c.life.status (without_slash name) c s h) h
+mains_call (Call.Update target policy) connection s fresh h = update_mains target policy s h
 mains_call (Call.Remove target force) connection s fresh h = remove_mains connection target force s h
 mains_call (Call.Wait target until) connection s fresh h = mains_at s target _ (λ c found. h) h
 mains_call (Call.Inspect target) connection s fresh h = mains_at s target _ (λ c found. h) h

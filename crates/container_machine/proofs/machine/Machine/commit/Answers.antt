@@ -26,6 +26,7 @@ returns c = λ asked for. record {
   reply = for.reply;
   state = commit_parts c.args.prepared c.args.self.now asked c.perform-death.result c.as_slice.result.now c.stand_at.new.self.state c.perform-death.new.tables.state c.settle.new.self.state c.count.new.self.state
       for (ap (λ (m : Memory). m.state) c.stand_at.ensures ∙ ap (λ (w : MachineParts). at_moment c.args.prepared.moment w.memory.state) c.self.view_is) c.perform-death.ensures.state c.perform-death.ensures.died c.settle.ensures.state c.as_slice.ensures.value c.count.ensures.state;
+  room = c.count.ensures.room ∙ (c.settle.ensures.room ∙ (c.perform-death.ensures.room ∙ (ap (λ (m : Memory). m.room) c.stand_at.ensures ∙ ap (λ (w : MachineParts). w.memory.room) c.self.view_is)));
 }
 
 pub perform-death-requires : goal.perform-death-requires

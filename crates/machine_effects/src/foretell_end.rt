@@ -1,0 +1,195 @@
+// The events of the end of a main process, made before it and told of the container as it ends.
+ghost use Rattle.std.specs.Prelude.{◌≡◌, ℕ, ◌∷◌, [], ◌++◌, OnOk};
+ghost use Rattle.std.specs.List.{flat_map};
+ghost use Rattle.engine_text.specs.declared.event.Action as actions;
+ghost use Rattle.machine_model.specs.Effects.EndMain.{ended, decision_at};
+ghost use Rattle.machine_model.specs.EventTexts as texts;
+ghost use Rattle.machine_model.specs.Step.{at_moment};
+ghost use Rattle.machine_effects.specs.Foretold.{ending_as, running_numbers, told_code, told_end, told_follow, told_goal, told_gone, told_number, told_status};
+ghost use Rattle.machine_effects.specs.Held.{container_in};
+ghost use Rattle.machine_effects.specs.Marks.{renewed};
+
+use super::events::{die_event, plain_event};
+use super::foretell::{add, tell_mounts, tell_restart};
+use super::lives;
+use super::tables::Tables;
+use container_table::Held;
+use engine_text::{Action, Event, Goal, NoMemory, Script, Status};
+use restart_policy::Decision;
+use std::alloc::Global;
+
+/// What is wanted at the end of a main process, and whether it was stopped by hand: by a call that
+/// ends it what the call says, and else what the container's life says.
+#[derive(Clone, Copy, Drop)]
+pub struct Ending {
+    pub goal: Goal,
+    pub manual: bool,
+}
+
+// The destroy of one that is removed by itself.
+fn tell_gone(alloc: Global, h: &Held, moment: u64, out: &mut Vec<Event>) -> Result<(), NoMemory>
+    ensures { OnOk result (out.new.items ≡ out.old.items
+        ++ told_gone h.now.container.life.auto_remove
+        (texts.plain_event actions.Action.Destroy (container_in h.now) moment)) }
+{
+    if !h.container.life.auto_remove {
+        return Ok(());
+    }
+    let event = plain_event(alloc, Action::Destroy, &h.container, moment)?;
+    add(out, event)
+}
+
+// So it is where it stays exited.
+fn tell_follow(
+    alloc: Global,
+    ending: Ending,
+    code: u8,
+    h: &Held,
+    moment: u64,
+    out: &mut Vec<Event>,
+) -> Result<(), NoMemory>
+    ensures { OnOk result (out.new.items ≡ out.old.items
+        ++ told_follow
+        (decision_at moment
+        (renewed (ended code moment) (ending_as ending (container_in h.now))).life)
+        h.now.container.life.auto_remove
+        (texts.plain_event actions.Action.Destroy (container_in h.now) moment)) }
+{
+    match lives::decision_of(&h.container.life, code, ending.manual, moment) {
+        Decision::Stay => tell_gone(alloc, h, moment, out),
+        Decision::Again(_) => Ok(()),
+    }
+}
+
+// What the goal wants after an end.
+#[tactic(auto, using(crate::proofs::ToldLemmas::restart_ended))]
+fn tell_goal(
+    alloc: Global,
+    ending: Ending,
+    code: u8,
+    script: &Option<Script>,
+    h: &Held,
+    moment: u64,
+    out: &mut Vec<Event>,
+) -> Result<(), NoMemory>
+    ensures { OnOk result (out.new.items ≡ out.old.items
+        ++ told_goal ending.goal script.now
+        (renewed (ended code moment) (ending_as ending (container_in h.now))) moment) }
+{
+    match ending.goal {
+        Goal::Remove => {
+            let event = plain_event(alloc, Action::Destroy, &h.container, moment)?;
+            add(out, event)
+        }
+        Goal::Stop => {
+            let event = plain_event(alloc, Action::Stop, &h.container, moment)?;
+            add(out, event)?;
+            tell_gone(alloc, h, moment, out)
+        }
+        Goal::Restart => tell_restart(alloc, script, h, moment, out),
+        Goal::None => tell_follow(alloc, ending, code, h, moment, out),
+    }
+}
+
+// What follows an end: in a dead container nothing.
+fn tell_status(
+    alloc: Global,
+    ending: Ending,
+    code: u8,
+    script: &Option<Script>,
+    h: &Held,
+    moment: u64,
+    out: &mut Vec<Event>,
+) -> Result<(), NoMemory>
+    ensures { OnOk result (out.new.items ≡ out.old.items
+        ++ told_status h.now.container.life.status script.now
+        (renewed (ended code moment) (ending_as ending (container_in h.now))) moment) }
+{
+    match h.container.life.status {
+        Status::Dead => Ok(()),
+        Status::Created => tell_goal(alloc, ending, code, script, h, moment, out),
+        Status::Running => tell_goal(alloc, ending, code, script, h, moment, out),
+        Status::Paused => tell_goal(alloc, ending, code, script, h, moment, out),
+        Status::Restarting => tell_goal(alloc, ending, code, script, h, moment, out),
+        Status::Removing => tell_goal(alloc, ending, code, script, h, moment, out),
+        Status::Exited => tell_goal(alloc, ending, code, script, h, moment, out),
+    }
+}
+
+impl Tables {
+    /// The end of the main process with that code, these execs of it running then.
+    pub(super) fn tell_end(
+        &self,
+        alloc: Global,
+        execs: &[u64],
+        code: u8,
+        ending: Ending,
+        h: &Held,
+        script: &Option<Script>,
+        moment: u64,
+        out: &mut Vec<Event>,
+    ) -> Result<(), NoMemory>
+        ensures { OnOk result (out.new.items ≡ out.old.items
+            ++ told_end execs.now code (ending_as ending (container_in h.now)) script.now
+            (at_moment moment self.now.state)) }
+    {
+        self.tell_numbers(alloc, execs, moment, out)?;
+        let event = die_event(alloc, code, &h.container, moment)?;
+        add(out, event)?;
+        tell_mounts(alloc, Action::Unmount, h, moment, out)?;
+        tell_status(alloc, ending, code, script, h, moment, out)
+    }
+
+    // Its end, those execs running that run now.
+    fn tell_end_now(
+        &self,
+        alloc: Global,
+        code: u8,
+        ending: Ending,
+        h: &Held,
+        script: &Option<Script>,
+        moment: u64,
+        out: &mut Vec<Event>,
+    ) -> Result<(), NoMemory>
+        ensures { OnOk result (out.new.items ≡ out.old.items
+            ++ told_end
+            (running_numbers h.now.container.number (at_moment moment self.now.state))
+            code (ending_as ending (container_in h.now)) script.now
+            (at_moment moment self.now.state)) }
+    {
+        let running = self.running(alloc, h.container.number)?;
+        self.tell_end(
+            alloc,
+            running.as_slice(),
+            code,
+            ending,
+            h,
+            script,
+            moment,
+            out,
+        )
+    }
+
+    /// Its end, if it ends.
+    pub(super) fn tell_code(
+        &self,
+        alloc: Global,
+        code: Option<u8>,
+        ending: Ending,
+        h: &Held,
+        script: &Option<Script>,
+        moment: u64,
+        out: &mut Vec<Event>,
+    ) -> Result<(), NoMemory>
+        ensures { OnOk result (out.new.items ≡ out.old.items
+            ++ told_code
+            (running_numbers h.now.container.number (at_moment moment self.now.state))
+            code (ending_as ending (container_in h.now)) script.now
+            (at_moment moment self.now.state)) }
+    {
+        match code {
+            None => Ok(()),
+            Some(code) => self.tell_end_now(alloc, code, ending, h, script, moment, out),
+        }
+    }
+}
