@@ -29,6 +29,8 @@ no_life = record {
   delay = 0;
   manual = false;
   log = [];
+  auto_remove = false;
+  health = None;
 }
 
 -- The container without anything, in whose log there is no room.

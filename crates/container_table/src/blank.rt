@@ -48,5 +48,7 @@ pub fn blank_life(alloc: Global) -> Life
         delay: 0,
         manual: false,
         log: Log::new(alloc),
+        auto_remove: false,
+        health: None,
     }
 }
