@@ -1,7 +1,7 @@
 -- A text that is called legal is the journal of a legal history: that of its lines.
 use Rattle.std.proofs.Common.{◌≡◌, ◌+◌, ℕ, zero, suc, true, false, List, [], ◌∷◌, ◌++◌, length, length-append, codes, refl, sym, ap, subst, ◌∙◌, arith, append_assoc}
 use Rattle.std.specs.Prelude.{IsTrue}
-use Rattle.std.specs.List.{flat_map}
+use Rattle.std.specs.List.{flat_map, AllByRecursion}
 use Rattle.json.specs.Print.{quoted}
 use Rattle.serde_json.specs.Data.{no_members}
 use Rattle.serde_json.specs.Written.{comma_if, compact_text, members_text}
@@ -15,9 +15,9 @@ use Rattle.machine_model.specs.State.{State}
 use Rattle.machine_model.specs.Chain.{Effect}
 use Rattle.machine_model.specs.Call.{outcome_of}
 use Rattle.machine_model.specs.Consistency.{IsConsistent}
-use Rattle.machine_model.specs.History.{after_step, state_from, opening_state, reply_of, IsLawful, AreLawful}
+use Rattle.machine_model.specs.History.{Charter, IsCharter, after_step, state_from, opening_state, reply_of, IsLawful, AreLawful}
 use Rattle.journal_lines.specs.Entries.{entries_from}
-use Rattle.journal_lines.specs.JournalLines.{call_value, reply_value, journal_line}
+use Rattle.journal_lines.specs.JournalLines.{call_value, reply_value, journal_line, header_line}
 use Rattle.machine_model.specs.Ready.{is_ready}
 use Rattle.machine_model.specs.Step.{at_moment}
 use Rattle.machine_model.proofs.Consistent.BackLemmas.{form_of}
@@ -31,10 +31,12 @@ use Rattle.journal_lines.specs.Stored.{due_steps, entry_steps}
 use Rattle.journal_lines.specs.Due.{behind_dues}
 use Rattle.journal_lines.specs.Entry.{IsRight, behind_entry}
 use Rattle.journal_lines.specs.Line.{HasLine}
-use Rattle.journal_lines.specs.Verdict.{IsVerdictFrom, AtEnd, AtNoLine, AtWrongLine, AfterRightLine}
+use Rattle.journal_lines.specs.Verdict.{IsVerdictFrom, AtEnd, AtNoLine, AtWrongLine, AfterRightLine, Reading, behind_header, without_header, IsReadAs, BehindHeader, WithoutHeader}
+use Rattle.journal_lines.specs.declared.format.Format.{Format}
+use Rattle.journal_lines.specs.declared.format.Format.TheVariants.{First, Second}
 use Rattle.journal_lines.specs.declared.verdict.Verdict.{Verdict}
 use Rattle.journal_lines.specs.declared.verdict.Verdict.TheVariants.{Legal}
-use Rattle.history_replay.specs.Legal.{LegalLaw}
+use Rattle.history_replay.specs.Legal.{LegalLaw, IsJournal}
 use Rattle.history_replay.proofs.EntryLemmas.{lawful_behind}
 use Rattle.history_replay.proofs.RunLemmas.{due_counted}
 
@@ -65,17 +67,17 @@ steps_counted s (x ∷ xs) kept lawful =
 -- ---- lines
 
 -- an entry's line, by the text of its reply
-abbrev line_with : Entry → List ℕ → List ℕ
-line_with e reply = (123 ∷ (comma_if false ++ (quoted (codes "call") ++ 58 ∷ (compact_text (call_value e.call)
+abbrev line_with : Format → Entry → List ℕ → List ℕ
+line_with format e reply = (123 ∷ (comma_if false ++ (quoted (codes "call") ++ 58 ∷ (compact_text (call_value format e.call)
     ++ (comma_if true ++ (quoted (codes "conn") ++ 58 ∷ (compact_text (natural e.conn)
     ++ (comma_if true ++ (quoted (codes "dues") ++ 58 ∷ (compact_text (natural e.dues)
     ++ (comma_if true ++ (quoted (codes "moment") ++ 58 ∷ (compact_text (natural e.moment)
     ++ (comma_if true ++ (quoted (codes "reply") ++ 58 ∷ (reply ++ members_text true no_members)))))))))))))))) ++ 10 ∷ []
 
-same_line : (e : Entry) (r : Reply) → compact_text (reply_value e.call r) ≡ compact_text (reply_value e.call e.reply)
-    → journal_line (record e { reply = r }) ≡ journal_line e
+same_line : (format : Format) (e : Entry) (r : Reply) → compact_text (reply_value e.call r) ≡ compact_text (reply_value e.call e.reply)
+    → journal_line format (record e { reply = r }) ≡ journal_line format e
 unfolding line_text
-same_line e r same = ap (line_with e) same
+same_line format e r same = ap (line_with format e) same
 
 -- due steps are counted in the entry behind them
 entries_behind : (s : State) (k n : ℕ) (xs : List Step) → entries_from s k (due_steps n ++ xs) ≡ entries_from (behind_dues s n) (n + k) xs
@@ -86,20 +88,27 @@ entries_behind s k (suc n) xs =
 
 -- ---- a legal text
 
-record Plays (s : State) (text : List ℕ) (steps : ℕ) : Type 0 where
-  history : List Step
-  lawful : AreLawful s history
-  counted : s.step_count + length history ≡ steps
-  lines : text ≡ flat_map journal_line (entries_from s 0 history)
+-- the entries whose lines in that format it is stand for lawful steps, and their lines are those steps' in each format; in each it is
+-- called legal
+pub record Plays (format : Format) (s : State) (text : List ℕ) (steps : ℕ) : Type 0 where
+  pub entries : List Entry
+  pub history : List Step
+  pub have : AllByRecursion HasLine entries
+  pub lawful : AreLawful s history
+  pub counted : s.step_count + length history ≡ steps
+  pub lines : text ≡ flat_map (journal_line format) entries
+  pub told : (other : Format) → flat_map (journal_line other) entries ≡ flat_map (journal_line other) (entries_from s 0 history)
+  pub again : (other : Format) (m : ℕ) → IsVerdictFrom other s m (flat_map (journal_line other) entries) (Legal steps)
 
 entry_lawful : (s : State) (e : Entry) → HasLine e → IsRight s e → AreLawful s (entry_steps e)
 entry_lawful s e has right =
     lawful_append s (due_steps e.dues) (Step.Call e.conn e.moment e.call ∷ []) right.dues.0
     (lawful_behind s e has right.ticket right.dues right.ready, tt)
 
-entry_lines : (s : State) (e : Entry) (h : List Step) → IsRight s e
-    → flat_map journal_line (entries_from s 0 (entry_steps e ++ h)) ≡ journal_line e ++ flat_map journal_line (entries_from (behind_entry s e) 0 h)
-entry_lines s e h right =
+entry_lines : (format : Format) (s : State) (e : Entry) (h : List Step) → IsRight s e
+    → flat_map (journal_line format) (entries_from s 0 (entry_steps e ++ h))
+    ≡ journal_line format e ++ flat_map (journal_line format) (entries_from (behind_entry s e) 0 h)
+entry_lines format s e h right =
     let x : Step = Step.Call e.conn e.moment e.call in
     let at : State = behind_dues s e.dues in
     let reply : Reply = reply_of at e.conn e.moment e.call in
@@ -107,9 +116,9 @@ entry_lines s e h right =
     let moved : entries_from s 0 (entry_steps e ++ h) ≡ entries_from at e.dues (x ∷ h) =
     ap (entries_from s 0) (append_assoc (due_steps e.dues) (x ∷ []) h) ∙ entries_behind s 0 e.dues (x ∷ h) ∙ ap (λ m. entries_from at m (x ∷ h)) none in
     let behind : after_step at x ≡ behind_entry s e = sym (state_append s (due_steps e.dues) (x ∷ [])) in
-    ap (flat_map journal_line) moved
-    ∙ ap (λ l. l ++ flat_map journal_line (entries_from (after_step at x) 0 h)) (same_line e reply right.reply)
-    ∙ ap (λ y. journal_line e ++ flat_map journal_line (entries_from y 0 h)) behind
+    ap (flat_map (journal_line format)) moved
+    ∙ ap (λ l. l ++ flat_map (journal_line format) (entries_from (after_step at x) 0 h)) (same_line format e reply right.reply)
+    ∙ ap (λ y. journal_line format e ++ flat_map (journal_line format) (entries_from y 0 h)) behind
 
 legal_count : (a b : ℕ) → Legal a ≡ Legal b → a ≡ b
 legal_count a b e = ap count e
@@ -118,27 +127,61 @@ legal_count a b e = ap count e
     count (Legal n) = n
     count _ = 0
 
-plays : (s : State) (n : ℕ) (text : List ℕ) (v : Verdict) (steps : ℕ) → IsConsistent s → IsVerdictFrom s n text v → v ≡ Legal steps → Plays s text steps
-plays _ _ _ _ steps kept (AtEnd s n) e =
+pub plays : (format : Format) (s : State) (n : ℕ) (text : List ℕ) (v : Verdict) (steps : ℕ) → IsConsistent s → IsVerdictFrom format s n text v → v ≡ Legal steps
+    → Plays format s text steps
+plays format _ _ _ _ steps kept (AtEnd s n) e =
     let count = legal_count s.step_count steps e in
-    record { history = []; lawful = tt; counted = omega (arith, count); lines = refl }
-plays _ _ _ _ steps kept (AtNoLine s n text full none) e = let never : ⊥ = cc in absurd never
-plays _ _ _ _ steps kept (AtWrongLine s n x rest old found has wrong) e = let never : ⊥ = cc in absurd never
-plays _ _ _ _ steps kept (AfterRightLine s n x rest v has right more) e =
+    record {
+      entries = [];
+      history = [];
+      have = tt;
+      lawful = tt;
+      counted = omega (arith, count);
+      lines = refl;
+      told = λ other. refl;
+      again = λ other m. subst (λ (v : Verdict). IsVerdictFrom other s m [] v) e (AtEnd s m);
+    }
+plays format _ _ _ _ steps kept (AtNoLine s n text full none) e = let never : ⊥ = cc in absurd never
+plays format _ _ _ _ steps kept (AtWrongLine s n x rest old found has wrong) e = let never : ⊥ = cc in absurd never
+plays format _ _ _ _ steps kept (AfterRightLine s n x rest v has right more) e =
     let lawful = entry_lawful s x has right in
     let behind = steps_counted s (entry_steps x) kept lawful in
-    let on : Plays (behind_entry s x) rest steps = plays (behind_entry s x) (n + 1) rest v steps behind.0 more e in
+    let on : Plays format (behind_entry s x) rest steps = plays format (behind_entry s x) (n + 1) rest v steps behind.0 more e in
     let count : (behind_entry s x).step_count ≡ s.step_count + length (entry_steps x) = behind.1 in
     record {
+      entries = x ∷ on.entries;
       history = entry_steps x ++ on.history;
+      have = (has, on.have);
       lawful = lawful_append s (entry_steps x) on.history lawful on.lawful;
       counted = omega (arith, on.counted, count, length-append (entry_steps x) on.history);
-      lines = ap (λ l. journal_line x ++ l) on.lines ∙ sym (entry_lines s x on.history right);
+      lines = ap (λ l. journal_line format x ++ l) on.lines;
+      told = λ other. ap (λ l. journal_line other x ++ l) (on.told other) ∙ sym (entry_lines other s x on.history right);
+      again = λ other m. AfterRightLine s m x (flat_map (journal_line other) on.entries) (Legal steps) has right (on.again other (m + 1));
     }
+
+-- how it plays from an opening on
+pub plays_from : (format : Format) (charter : Charter) (n : ℕ) (text : List ℕ) (steps : ℕ) → IsCharter charter
+    → IsVerdictFrom format (opening_state charter) n text (Legal steps) → Plays format (opening_state charter) text steps
+plays_from format charter n text steps is said =
+    plays format (opening_state charter) n text (Legal steps) steps (consistency_law charter [] (is, tt)) said refl
 
 -- so it is a legal history's
 pub legal_law : LegalLaw
-legal_law charter text steps is said =
-    let p : Plays (opening_state charter) text steps = plays (opening_state charter) 1 text (Legal steps) steps (consistency_law charter [] (is, tt)) said refl in
-    let count : 0 + length p.history ≡ steps = p.counted in
-    (p.history, (is, p.lawful), omega (arith, count), p.lines)
+legal_law given text steps is (r, read, said) = go text r read said
+  where
+    go : (text : List ℕ) (r : Reading) → IsReadAs given text r → IsVerdictFrom r.format (opening_state r.charter) r.first r.lines (Legal steps) → IsJournal given text steps
+    go _ _ (BehindHeader seed opening rest h) said =
+        let charter : Charter = record given { seed = seed; opening = opening } in
+        let p : Plays Second (opening_state charter) rest steps = plays_from Second charter 2 rest steps (h.long, h.low) said in
+        let count : 0 + length p.history ≡ steps = p.counted in (
+          behind_header given seed opening rest,
+          p.history,
+          BehindHeader seed opening rest h,
+          ((h.long, h.low), p.lawful),
+          omega (arith, count),
+          ap (λ l. header_line seed opening ++ l) (p.lines ∙ p.told Second),
+        )
+    go _ _ (WithoutHeader text none) said =
+        let p : Plays First (opening_state given) text steps = plays_from First given 1 text steps is said in
+        let count : 0 + length p.history ≡ steps = p.counted in
+        (without_header given text, p.history, WithoutHeader text none, (is, p.lawful), omega (arith, count), p.lines ∙ p.told First)

@@ -7,3 +7,4 @@ mod VerdictLemmas
 mod LegalLemmas
 mod CompleteLemmas
 mod OneVerdictLemmas
+mod UpgradeLemmas

@@ -13,9 +13,11 @@ use Rattle.serde_json.specs.Written.{number_text, comma_if, compact_text, items_
 use Rattle.json_laws.specs.Plain.{IsWhole, IsPlain, ArePlain, AreRising}
 use Rattle.json_laws.specs.Sound.{line_text}
 use Rattle.engine_text.specs.declared.entry.Entry.{Entry}
-use Rattle.journal_lines.specs.JournalLines.{entry_value, journal_line}
-use Rattle.journal_lines.specs.Line.{HasLine, IsJournalLine, BeginsWithLine}
+use Rattle.journal_lines.specs.JournalLines.{entry_value, journal_line, header_value, header_line, IsHeader}
+use Rattle.journal_lines.specs.Line.{HasLine, IsJournalLine, BeginsWithLine, BeginsWithHeader, IsHeaderFault}
 use Rattle.journal_lines.proofs.EntryLemmas.{is_carried}
+use Rattle.journal_lines.proofs.HeaderLemmas as headers
+use Rattle.journal_lines.specs.declared.format.Format.{Format}
 use Rattle.history_replay.specs.Cutting.{HasNoLineEnd, IsFirstLine}
 
 -- ---- texts without a line end
@@ -121,11 +123,16 @@ differ : (xs : List ℕ) → no_end xs ≡ true → AllByRecursion (λ b. b ≢ 
 differ [] h = tt
 differ (x ∷ xs) h = let p = and_parts (not (x == 10)) (no_end xs) h in (λ e. grind (arith, nat_tests, e, p.0), differ xs p.1)
 
--- a journal's line is a first line
-pub line_is_first : (e : Entry) → HasLine e → IsFirstLine (journal_line e)
+text_is_first : (d : Data) → IsPlain d → IsFirstLine (line_text d)
 unfolding line_text
-line_is_first e has =
-    (compact_text (entry_value e), All-from_recursion (λ b. b ≢ 10) (compact_text (entry_value e)) (differ (compact_text (entry_value e)) (data_ends (entry_value e) (is_carried e has).0)), refl)
+text_is_first d plain = (compact_text d, All-from_recursion (λ b. b ≢ 10) (compact_text d) (differ (compact_text d) (data_ends d plain)), refl)
+
+-- a journal's line is a first line, and so is its header
+pub line_is_first : (format : Format) (e : Entry) → HasLine e → IsFirstLine (journal_line format e)
+line_is_first format e has = text_is_first (entry_value format e) (is_carried format e has).0
+
+pub header_is_first : (seed : List ℕ) (opening : ℕ) → IsHeader seed opening → IsFirstLine (header_line seed opening)
+header_is_first seed opening h = text_is_first (header_value seed opening) (headers.is_carried seed opening h).0
 
 same_front : (f g c d : List ℕ) → AllByRecursion (λ b. b ≢ 10) f → AllByRecursion (λ b. b ≢ 10) g → f ++ 10 ∷ c ≡ g ++ 10 ∷ d → f ≡ g
 same_front [] [] c d h k e = refl
@@ -148,18 +155,31 @@ same_line a b c d (f, h, is) (g, k, at) e =
     is ∙ ap (λ l. l ++ 10 ∷ []) same ∙ sym at
 
 -- where the first line is none, the text begins with none
-pub no_first : (text line rest : List ℕ) → IsFirstLine line → line ++ rest ≡ text → (IsJournalLine line → ⊥) → BeginsWithLine text → ⊥
-no_first text line rest first whole none (line', rest', (e, has, is), begins) =
-    let same : journal_line e ≡ line = same_line (journal_line e) line rest' rest (line_is_first e has) first (ap (λ l. l ++ rest') is ∙ begins ∙ sym whole) in
+pub no_first : (format : Format) (text line rest : List ℕ) → IsFirstLine line → line ++ rest ≡ text → (IsJournalLine format line → ⊥) → BeginsWithLine format text → ⊥
+no_first format text line rest first whole none (line', rest', (e, has, is), begins) =
+    let same : journal_line format e ≡ line =
+    same_line (journal_line format e) line rest' rest (line_is_first format e has) first (ap (λ l. l ++ rest') is ∙ begins ∙ sym whole) in
     none (e, has, same)
+
+pub no_head : (text line rest : List ℕ) → IsFirstLine line → line ++ rest ≡ text
+    → ((seed : List ℕ) (opening : ℕ) → IsHeader seed opening → header_line seed opening ≢ line) → BeginsWithHeader text → ⊥
+no_head text line rest first whole none (seed, opening, rest', h, begins) =
+    none seed opening h (same_line (header_line seed opening) line rest' rest (header_is_first seed opening h) first (begins ∙ sym whole))
 
 ends_in : (f c : List ℕ) → AllByRecursion (λ b. b ≢ 10) (f ++ 10 ∷ c) → ⊥
 ends_in [] c h = h.0 refl
 ends_in (x ∷ f) c h = ends_in f c h.1
 
 -- where no line ends, it begins with none
-pub no_end_no_line : (text : List ℕ) → HasNoLineEnd text → BeginsWithLine text → ⊥
-no_end_no_line text none (line, rest, (e, has, is), begins) =
-    let first = line_is_first e has in
-    let whole : text ≡ first.0 ++ 10 ∷ rest = sym begins ∙ ap (λ l. l ++ rest) (sym is ∙ first.2) ∙ joined first.0 rest in
+no_end_no_first : (text line rest : List ℕ) → HasNoLineEnd text → IsFirstLine line → line ++ rest ≡ text → ⊥
+no_end_no_first text line rest none first begins =
+    let whole : text ≡ first.0 ++ 10 ∷ rest = sym begins ∙ ap (λ l. l ++ rest) first.2 ∙ joined first.0 rest in
     ends_in first.0 rest (recursion_from_All (λ b. b ≢ 10) (first.0 ++ 10 ∷ rest) (subst HasNoLineEnd whole none))
+
+pub no_end_no_line : (format : Format) (text : List ℕ) → HasNoLineEnd text → BeginsWithLine format text → ⊥
+no_end_no_line format text none (line, rest, (e, has, is), begins) =
+    no_end_no_first text (journal_line format e) rest none (line_is_first format e has) (ap (λ l. l ++ rest) is ∙ begins)
+
+pub no_end_no_head : (text : List ℕ) → HasNoLineEnd text → BeginsWithHeader text → ⊥
+no_end_no_head text none (seed, opening, rest, h, begins) =
+    no_end_no_first text (header_line seed opening) rest none (header_is_first seed opening h) begins

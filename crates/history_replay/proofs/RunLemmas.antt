@@ -29,7 +29,7 @@ use Rattle.history_replay.specs.Counting.{IsPast}
 -- what was committed is the due step
 pub stepped : (o : Option Effect) (before after : MachineParts) → IsStepped o before after → after.memory.state ≡ (unwrap_or o (still before.memory.state)).state
 stepped None before after h = absurd h
-stepped (Some e) before after h = h
+stepped (Some e) before after h = h.0
 
 counted : (s : State) (o : Option DueAction) → IsTrue (option_map_or (λ (d : DueAction). nat_le d.moment (latest s)) o false)
     → (unwrap_or (step_of o s) (still s)).state.step_count ≡ s.step_count + 1

@@ -7,6 +7,7 @@ use Rattle.journal_lines.specs.Line.{HasLine}
 use Rattle.journal_lines.specs.Due.{IsDueCount, TellsDueCount, behind_dues}
 use Rattle.journal_lines.specs.Entry.{IsWrong, IsRight, behind_entry}
 use Rattle.journal_lines.specs.Verdict.{IsVerdictFrom}
+use Rattle.journal_lines.specs.declared.format.Format.{Format}
 use Rattle.journal_lines.specs.declared.verdict.Verdict.{Verdict}
 use Rattle.engine_text.specs.declared.entry.Entry.{Entry}
 use Rattle.history_replay.specs.declared.dues.Dues.{Dues}
@@ -30,7 +31,7 @@ IsSaid before e after (Wrong kept found) = IsWrong before e kept found
 
 -- What is said of a line: none where it is right, and the machine was brought behind it; or that is said of each text that
 -- begins with it.
-abbrev pub IsLineSaid : State → ℕ → List ℕ → State → Option Verdict → Type 0
-IsLineSaid before n line after None =
-    (e : Entry) × HasLine e × (journal_line e ≡ line) × IsRight before e × (after ≡ behind_entry before e)
-IsLineSaid before n line after (Some v) = (rest : List ℕ) → IsVerdictFrom before n (line ++ rest) v
+abbrev pub IsLineSaid : Format → State → ℕ → List ℕ → State → Option Verdict → Type 0
+IsLineSaid format before n line after None =
+    (e : Entry) × HasLine e × (journal_line format e ≡ line) × IsRight before e × (after ≡ behind_entry before e)
+IsLineSaid format before n line after (Some v) = (rest : List ℕ) → IsVerdictFrom format before n (line ++ rest) v

@@ -2,3 +2,4 @@ pub mod Cutting
 pub mod Counting
 pub mod Checking
 pub mod Legal
+pub mod Upgrading

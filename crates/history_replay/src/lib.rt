@@ -5,9 +5,12 @@ mod checking;
 mod cut;
 mod dues;
 mod entry;
+mod head;
 mod laws;
 mod making;
 mod moments;
+mod upgrading;
 
 pub use checking::check;
 pub use laws::{law_complete, law_legal, law_one_verdict};
+pub use upgrading::{Upgraded, upgrade};

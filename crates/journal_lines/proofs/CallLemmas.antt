@@ -1,16 +1,17 @@
 -- What holds of each call: its soundness by its fields, its keys, and that its value says it.
-use Rattle.std.proofs.Common.{◌≡◌, ◌<◌, ◌^◌, ℕ, ℤ, List, Bool, true, ◌&&◌, ◌||◌, nat_le, Option, Some, None, option_map, refl, sym, ◌∙◌, length, arith}
+use Rattle.std.proofs.Common.{◌≡◌, ◌<◌, ◌^◌, ◌≤◌, ℕ, ℤ, List, Bool, true, false, ◌&&◌, ◌||◌, nat_le, Option, Some, None, option_map, refl, sym, ◌∙◌, length, arith}
 use Rattle.std.specs.Option.{option_map_or}
-use Rattle.std.proofs.lemmas.Bool.{and_parts}
+use Rattle.std.proofs.lemmas.Bool.{and_parts, and_from}
 use Rattle.hex.proofs.HexLemmas.{decode_of-encode_lower}
+use Rattle.json_laws.proofs.Sound.{has_fine_keys}
 use Rattle.serde_json.specs.Data.{null}
 use Rattle.serde_json.specs.Find.{as_str}
 use Rattle.api_json.specs.Values.{text, natural, integer}
-use Rattle.engine_text.specs.Soundness.{IsSound, is_sound, if_given, is_seconds, is_signal, is_full, is_count, is_limit, is_time, is_create, is_log_ask, are_labels, are_mounts, is_list_key, is_event_key, is_volume_key, is_filter}
+use Rattle.engine_text.specs.Soundness.{IsSound, is_sound, if_given, is_seconds, is_signal, is_full, is_count, is_limit, is_time, is_create, is_health, is_policy, allows_auto_remove, is_log_ask, are_labels, are_mounts, is_list_key, is_event_key, is_volume_key, is_filter}
 use Rattle.engine_text.specs.Name.{is_name, is_volume_name}
 use Rattle.api_json.specs.Container.{most_retries}
-use Rattle.journal_lines.specs.CallFields.{create_fields, condition_word, kind_of_owner, fields_of, asks_for_streams}
-use Rattle.journal_lines.specs.Fields.{filter_value, fields_value, are_fields_sound}
+use Rattle.journal_lines.specs.CallFields.{create_fields, condition_word, kind_of_owner, fields_of, do_fields_agree}
+use Rattle.journal_lines.specs.Fields.{check_entry, filter_value, field_members, fields_value, are_fields_sound}
 use Rattle.journal_lines.specs.JournalLines.{call_value}
 use Rattle.machine_model.specs.State.{owner_number}
 use Rattle.engine_text.specs.declared.call.Call.{Call}
@@ -20,17 +21,20 @@ use Rattle.engine_text.specs.declared.call.Until.{Until}
 use Rattle.engine_text.specs.declared.call.Until.TheVariants.{NotRunning, NextExit, Removed}
 use Rattle.engine_text.specs.declared.filter.FilterKey.{FilterKey}
 use Rattle.engine_text.specs.declared.filter.FilterRow.{FilterRow}
+use Rattle.engine_text.specs.declared.health.HealthSpec.{HealthSpec}
 use Rattle.engine_text.specs.declared.owner.Owner.{Owner}
 use Rattle.engine_text.specs.declared.owner.Owner.TheVariants.{Container, Exec}
 use Rattle.engine_text.specs.declared.policy.Policy.{Policy}
 use Rattle.engine_text.specs.declared.signal.Signal.{Signal}
 use Rattle.journal_lines.specs.FitsTypes.{FitsTypes}
+use Rattle.journal_lines.specs.declared.format.Format.{Format}
+use Rattle.journal_lines.specs.declared.format.Format.TheVariants.{First, Second}
 use Rattle.journal_lines.specs.Reading.Parts.{or_null, natural_of, count_of, seconds_of, signal_of}
 use Rattle.journal_lines.specs.Reading.Lists.{filter_in}
-use Rattle.journal_lines.specs.Reading.Calls.{call_in, named_call, looking_call, other_call, own_call, owner_of, until_of}
-use Rattle.journal_lines.proofs.TestLemmas.{lt_of}
-use Rattle.journal_lines.proofs.FieldLemmas.{is_fine}
-use Rattle.journal_lines.proofs.SoundLemmas.{one, two, two_so, stop_order, last_first, feed_order, logs_order, create_order, signal_test, policy_test}
+use Rattle.journal_lines.specs.Reading.Calls.{call_in, check_of, named_call, looking_call, other_call, own_call, owner_of, until_of}
+use Rattle.journal_lines.proofs.TestLemmas.{le_of, lt_of}
+use Rattle.journal_lines.proofs.FieldLemmas.{are_words_plain, is_fine}
+use Rattle.journal_lines.proofs.SoundLemmas.{one, two, two_so, stop_order, last_first, feed_order, logs_order, create_order, signal_test, policy_test, given_test}
 use Rattle.journal_lines.proofs.WordLemmas.{words_back, mounts_back}
 use Rattle.journal_lines.proofs.PartLemmas.{count_back, signal_back, seconds_back, seconds_here, given_back, labels_back, filter_back, most_back, policy_back}
 
@@ -74,24 +78,44 @@ owner_back : (owner : Owner) → owner_of (kind_of_owner owner) (owner_number ow
 owner_back (Container n) = refl
 owner_back (Exec n) = refl
 
-create_back : (spec : CreateSpec) → is_create spec ≡ true → call_in (fields_value (create_fields spec)) ≡ Some (Call.Create spec)
+-- a check is read back
+check_back : (h : HealthSpec) → is_health h ≡ true → check_of (check_entry h) ≡ Some h
+check_back h e =
+    let few : h.retries ≤ 1000 = le_of h.retries 1000 (and_parts _ _ e).1 in
+    rw (words_back h.words, count_back h.retries (omega (arith, few))) refl
+
+-- a create that is removed by itself or not, with such a check
+abbrev with_checks : Bool → Option HealthSpec → CreateSpec → CreateSpec
+with_checks auto health spec = record spec { auto_remove = auto; health = health }
+
+create_by : (format : Format) (auto : Bool) (health : Option HealthSpec) (spec : CreateSpec) → is_policy spec.policy ≡ true → is_signal spec.stop_signal ≡ true → is_seconds spec.stop_after ≡ true
+    → are_labels spec.labels ≡ true → if_given is_health health ≡ true
+    → call_in (fields_value format (create_fields (with_checks auto health spec))) ≡ Some (Call.Create (with_checks auto health spec))
 unfolding named_call
-create_back spec e =
-    let a = and_parts _ _ e in
-    let b = and_parts _ _ a.0 in
-    let c = and_parts _ _ b.0 in
-    let d = and_parts _ _ c.0 in
-    let f = and_parts _ _ d.0 in
-    rw (
-      most_back spec.policy f.1,
-      policy_back spec.policy f.1,
-      signal_back spec.stop_signal d.1,
-      seconds_back spec.stop_after c.1,
-      name_back spec.name,
-      words_back spec.words,
-      labels_back spec.labels b.1,
-      mounts_back spec.mounts,
-    ) refl
+create_by First true None spec p s z l h = rw (most_back spec.policy p, policy_back spec.policy p, signal_back spec.stop_signal s, seconds_back spec.stop_after z, name_back spec.name, words_back spec.words, labels_back spec.labels l, mounts_back spec.mounts) refl
+create_by First false None spec p s z l h = rw (most_back spec.policy p, policy_back spec.policy p, signal_back spec.stop_signal s, seconds_back spec.stop_after z, name_back spec.name, words_back spec.words, labels_back spec.labels l, mounts_back spec.mounts) refl
+create_by First true (Some k) spec p s z l h = rw (most_back spec.policy p, policy_back spec.policy p, signal_back spec.stop_signal s, seconds_back spec.stop_after z, name_back spec.name, words_back spec.words, labels_back spec.labels l, mounts_back spec.mounts, check_back k h) refl
+create_by First false (Some k) spec p s z l h = rw (most_back spec.policy p, policy_back spec.policy p, signal_back spec.stop_signal s, seconds_back spec.stop_after z, name_back spec.name, words_back spec.words, labels_back spec.labels l, mounts_back spec.mounts, check_back k h) refl
+create_by Second auto None spec p s z l h = rw (most_back spec.policy p, policy_back spec.policy p, signal_back spec.stop_signal s, seconds_back spec.stop_after z, name_back spec.name, words_back spec.words, labels_back spec.labels l, mounts_back spec.mounts) refl
+create_by Second auto (Some k) spec p s z l h = rw (most_back spec.policy p, policy_back spec.policy p, signal_back spec.stop_signal s, seconds_back spec.stop_after z, name_back spec.name, words_back spec.words, labels_back spec.labels l, mounts_back spec.mounts, check_back k h) refl
+
+create_back : (format : Format) (spec : CreateSpec) → is_create spec ≡ true → call_in (fields_value format (create_fields spec)) ≡ Some (Call.Create spec)
+create_back format spec e =
+    let checks = and_parts _ _ e in
+    let allows = and_parts _ _ checks.0 in
+    let mounts = and_parts _ _ allows.0 in
+    let labels = and_parts _ _ mounts.0 in
+    let seconds = and_parts _ _ labels.0 in
+    let signals = and_parts _ _ seconds.0 in
+    let policies = and_parts _ _ signals.0 in
+    create_by format spec.auto_remove spec.health spec policies.1 signals.1 seconds.1 labels.1 checks.1
+
+-- an update's policy, if there is one
+update_back : (format : Format) (target : List ℕ) (policy : Option Policy) → if_given is_policy policy ≡ true
+    → call_in (call_value format (Call.Update target policy)) ≡ Some (Call.Update target policy)
+unfolding named_call
+update_back format target None e = refl
+update_back format target (Some p) e = rw (most_back p e, policy_back p e) refl
 
 -- the parts of a stop's value
 stop_back : (full : Bool) (wait : Option ℤ) (signal : Option Signal) → (full && if_given is_seconds wait && if_given is_signal signal) ≡ true
@@ -110,119 +134,143 @@ logs_back ask e =
 
 -- ---- calls
 
-fine_create : (spec : CreateSpec) (p : Policy) → spec.policy ≡ p → is_fine (create_fields spec) ≡ true
-fine_create spec Policy.No e = rw e refl
-fine_create spec Policy.Always e = rw e refl
-fine_create spec Policy.UnlessStopped e = rw e refl
-fine_create spec (Policy.OnFailure most) e = rw e refl
+fine_keys : (format : Format) (auto : Bool) (health : Option HealthSpec) (spec : CreateSpec) → has_fine_keys (field_members format (create_fields (with_checks auto health spec))) ≡ true
+fine_keys First true None spec = refl
+fine_keys First false None spec = refl
+fine_keys First true (Some h) spec = refl
+fine_keys First false (Some h) spec = refl
+fine_keys Second auto None spec = refl
+fine_keys Second auto (Some h) spec = refl
 
-fine_wait : (target : List ℕ) (until : Until) → is_fine (fields_of (Call.Wait target until)) ≡ true
-fine_wait target NotRunning = refl
-fine_wait target NextExit = refl
-fine_wait target Removed = refl
+plain_words : (spec : CreateSpec) (p : Policy) → spec.policy ≡ p → are_words_plain (create_fields spec) ≡ true
+plain_words spec Policy.No e = rw e refl
+plain_words spec Policy.Always e = rw e refl
+plain_words spec Policy.UnlessStopped e = rw e refl
+plain_words spec (Policy.OnFailure most) e = rw e refl
 
-fine_feed : (owner : Owner) (run : ℕ) (bytes : List ℕ) → is_fine (fields_of (Call.Feed owner run bytes)) ≡ true
-fine_feed (Container n) run bytes = refl
-fine_feed (Exec n) run bytes = refl
+fine_create : (format : Format) (spec : CreateSpec) → is_fine format (create_fields spec) ≡ true
+fine_create format spec = and_from _ _ (fine_keys format spec.auto_remove spec.health spec) (plain_words spec spec.policy refl)
 
-fine_end : (owner : Owner) (run : ℕ) → is_fine (fields_of (Call.FeedEnd owner run)) ≡ true
-fine_end (Container n) run = refl
-fine_end (Exec n) run = refl
+fine_update : (format : Format) (target : List ℕ) (policy : Option Policy) → is_fine format (fields_of (Call.Update target policy)) ≡ true
+fine_update format target None = refl
+fine_update format target (Some Policy.No) = refl
+fine_update format target (Some Policy.Always) = refl
+fine_update format target (Some Policy.UnlessStopped) = refl
+fine_update format target (Some (Policy.OnFailure most)) = refl
 
--- A request can make it where it can give each of its fields; its keys are fine; its value says it.
+fine_wait : (format : Format) (target : List ℕ) (until : Until) → is_fine format (fields_of (Call.Wait target until)) ≡ true
+fine_wait format target NotRunning = refl
+fine_wait format target NextExit = refl
+fine_wait format target Removed = refl
+
+fine_feed : (format : Format) (owner : Owner) (run : ℕ) (bytes : List ℕ) → is_fine format (fields_of (Call.Feed owner run bytes)) ≡ true
+fine_feed format (Container n) run bytes = refl
+fine_feed format (Exec n) run bytes = refl
+
+fine_end : (format : Format) (owner : Owner) (run : ℕ) → is_fine format (fields_of (Call.FeedEnd owner run)) ≡ true
+fine_end format (Container n) run = refl
+fine_end format (Exec n) run = refl
+
+-- A request can make it where it can give each of its fields; its keys are fine, and its value says it, in each format.
 abbrev pub IsTold : Call → Type 0
 IsTold c =
-    (is_sound c ≡ (are_fields_sound (fields_of c) && asks_for_streams c)) ×
-    (is_fine (fields_of c) ≡ true) ×
-    (IsSound c → FitsTypes c → call_in (call_value c) ≡ Some c)
+    (is_sound c ≡ (are_fields_sound (fields_of c) && do_fields_agree c)) ×
+    ((format : Format) → is_fine format (fields_of c) ≡ true) ×
+    ((format : Format) → IsSound c → FitsTypes c → call_in (call_value format c) ≡ Some c)
 
 pub told : (c : Call) → IsTold c
 unfolding named_call looking_call other_call own_call
 told (Call.Create spec) = (
   rw (policy_test spec.policy)
-      (create_order (if_given is_name spec.name) (nat_le (most_retries spec.policy) 2147483647) (is_signal spec.stop_signal) (is_seconds spec.stop_after) (are_labels spec.labels) (are_mounts spec.mounts)),
-  fine_create spec spec.policy refl,
-  λ h fits. create_back spec h,
+      (create_order (if_given is_name spec.name) (nat_le (most_retries spec.policy) 2147483647) (is_signal spec.stop_signal) (is_seconds spec.stop_after) (are_labels spec.labels) (are_mounts spec.mounts)
+      (allows_auto_remove spec.policy spec.auto_remove) (if_given is_health spec.health)),
+  λ format. fine_create format spec,
+  λ format h fits. create_back format spec h,
 )
-told (Call.Start target) = (one (is_full target), refl, λ h fits. refl)
-told (Call.Pause target) = (one (is_full target), refl, λ h fits. refl)
-told (Call.Unpause target) = (one (is_full target), refl, λ h fits. refl)
-told (Call.Inspect target) = (one (is_full target), refl, λ h fits. refl)
+told (Call.Start target) = (one (is_full target), λ format. refl, λ format h fits. refl)
+told (Call.Pause target) = (one (is_full target), λ format. refl, λ format h fits. refl)
+told (Call.Unpause target) = (one (is_full target), λ format. refl, λ format h fits. refl)
+told (Call.Inspect target) = (one (is_full target), λ format. refl, λ format h fits. refl)
 told (Call.Stop target wait signal) = (
   rw (signal_test signal)
       (stop_order (is_full target) (if_given is_seconds wait) (if_given (λ n. nat_le 1 n && nat_le n 31) (option_map (λ s. s.number) signal))),
-  refl,
-  λ h fits. let (waits, ends) = stop_back (is_full target) wait signal h in
+  λ format. refl,
+  λ format h fits. let (waits, ends) = stop_back (is_full target) wait signal h in
       rw (waits, ends) refl,
 )
 told (Call.Restart target wait signal) = (
   rw (signal_test signal)
       (stop_order (is_full target) (if_given is_seconds wait) (if_given (λ n. nat_le 1 n && nat_le n 31) (option_map (λ s. s.number) signal))),
-  refl,
-  λ h fits. let (waits, ends) = stop_back (is_full target) wait signal h in
+  λ format. refl,
+  λ format h fits. let (waits, ends) = stop_back (is_full target) wait signal h in
       rw (waits, ends) refl,
 )
 told (Call.Kill target signal) = (
   two_so (is_full target) (is_signal signal),
-  refl,
-  λ h fits. rw (signal_back signal (and_parts (is_full target) (is_signal signal) h).1) refl,
+  λ format. refl,
+  λ format h fits. rw (signal_back signal (and_parts (is_full target) (is_signal signal) h).1) refl,
 )
-told (Call.Rename target name) = (two (is_full target) (is_name name), refl, λ h fits. refl)
-told (Call.Remove target force) = (one (is_full target), refl, λ h fits. refl)
-told (Call.Wait target until) = (one (is_full target), fine_wait target until, λ h fits. rw (until_back until) refl)
+told (Call.Rename target name) = (two (is_full target) (is_name name), λ format. refl, λ format h fits. refl)
+told (Call.Update target policy) = (
+  rw (given_test policy) (two (is_full target) (if_given (λ n. nat_le n 2147483647) (option_map most_retries policy))),
+  λ format. fine_update format target policy,
+  λ format h fits. update_back format target policy (and_parts (is_full target) (if_given is_policy policy) h).1,
+)
+told (Call.Remove target force) = (one (is_full target), λ format. refl, λ format h fits. refl)
+told (Call.Wait target until) = (one (is_full target), λ format. fine_wait format target until, λ format h fits. rw (until_back until) refl)
 told (Call.List all limit filter) = (
   two (if_given is_limit limit) (is_filter is_list_key filter),
-  refl,
-  λ h fits. let p = and_parts (if_given is_limit limit) (is_filter is_list_key filter) h in
+  λ format. refl,
+  λ format h fits. let p = and_parts (if_given is_limit limit) (is_filter is_list_key filter) h in
       rw (limit_back limit p.0, rows_back is_list_key filter p.1) refl,
 )
 told (Call.Logs target ask) = (
   logs_order (is_full target) (ask.out || ask.err) (if_given is_count ask.tail) (is_time ask.least) (is_time ask.greatest),
-  refl,
-  λ h fits. rw (logs_back ask (and_parts (is_full target) (is_log_ask ask) h).1) refl,
+  λ format. refl,
+  λ format h fits. rw (logs_back ask (and_parts (is_full target) (is_log_ask ask) h).1) refl,
 )
-told (Call.Attach target ask) = (one (is_full target), refl, λ h fits. refl)
+told (Call.Attach target ask) = (one (is_full target), λ format. refl, λ format h fits. refl)
 told (Call.ExecCreate target words stdin out err) = (
   two_so (is_full target) (is_full words),
-  refl,
-  λ h fits. rw (words_back words) refl,
+  λ format. refl,
+  λ format h fits. rw (words_back words) refl,
 )
-told (Call.ExecStart id detach) = (one (is_full id), refl, λ h fits. refl)
-told (Call.ExecInspect id) = (one (is_full id), refl, λ h fits. refl)
+told (Call.ExecStart id detach) = (one (is_full id), λ format. refl, λ format h fits. refl)
+told (Call.ExecInspect id) = (one (is_full id), λ format. refl, λ format h fits. refl)
 told (Call.VolumeCreate name labels) = (
   two (is_volume_name name) (are_labels labels),
-  refl,
-  λ h fits. rw (labels_back labels (and_parts (is_volume_name name) (are_labels labels) h).1) refl,
+  λ format. refl,
+  λ format h fits. rw (labels_back labels (and_parts (is_volume_name name) (are_labels labels) h).1) refl,
 )
-told (Call.VolumeInspect name) = (one (is_full name), refl, λ h fits. refl)
-told (Call.VolumeRemove name) = (one (is_full name), refl, λ h fits. refl)
+told (Call.VolumeInspect name) = (one (is_full name), λ format. refl, λ format h fits. refl)
+told (Call.VolumeRemove name) = (one (is_full name), λ format. refl, λ format h fits. refl)
 told (Call.VolumeList filter) = (
   one (is_filter is_volume_key filter),
-  refl,
-  λ h fits. rw (rows_back is_volume_key filter h) refl,
+  λ format. refl,
+  λ format h fits. rw (rows_back is_volume_key filter h) refl,
 )
 told (Call.Events since until filter) = (
   last_first (if_given is_time since) (if_given is_time until) (is_filter is_event_key filter),
-  refl,
-  λ h fits. let p = and_parts (if_given is_time since && if_given is_time until) (is_filter is_event_key filter) h in
+  λ format. refl,
+  λ format h fits. let p = and_parts (if_given is_time since && if_given is_time until) (is_filter is_event_key filter) h in
       rw (time_back since, time_back until, rows_back is_event_key filter p.1) refl,
 )
-told Call.JournalRead = (refl, refl, λ h fits. refl)
+told Call.JournalRead = (refl, λ format. refl, λ format h fits. refl)
 told (Call.Feed owner run bytes) = (
   feed_order (nat_le 1 run) (is_full bytes) (nat_le (length bytes) 32768),
-  fine_feed owner run bytes,
-  λ h fits. rw (owner_back owner, decode_of-encode_lower bytes fits.0) refl,
+  λ format. fine_feed format owner run bytes,
+  λ format h fits. rw (owner_back owner, decode_of-encode_lower bytes fits.0) refl,
 )
-told (Call.FeedEnd owner run) = (one (nat_le 1 run), fine_end owner run, λ h fits. rw (owner_back owner) refl)
-told (Call.Take ticket) = (refl, refl, λ h fits. refl)
-told (Call.Drop ticket) = (refl, refl, λ h fits. refl)
+told (Call.FeedEnd owner run) = (one (nat_le 1 run), λ format. fine_end format owner run, λ format h fits. rw (owner_back owner) refl)
+told (Call.Take ticket) = (refl, λ format. refl, λ format h fits. refl)
+told (Call.Drop ticket) = (refl, λ format. refl, λ format h fits. refl)
 
-pub sound_by_field : (c : Call) → is_sound c ≡ (are_fields_sound (fields_of c) && asks_for_streams c)
+pub sound_by_field : (c : Call) → is_sound c ≡ (are_fields_sound (fields_of c) && do_fields_agree c)
 sound_by_field c = (told c).0
 
 -- so where a request can make it, it can give each field
 pub sound_fields : (c : Call) → IsSound c → are_fields_sound (fields_of c) ≡ true
-sound_fields c h = (and_parts (are_fields_sound (fields_of c)) (asks_for_streams c) (sym (sound_by_field c) ∙ h)).0
+sound_fields c h = (and_parts (are_fields_sound (fields_of c)) (do_fields_agree c) (sym (sound_by_field c) ∙ h)).0
 
-pub call_back : (c : Call) → IsSound c → FitsTypes c → call_in (call_value c) ≡ Some c
-call_back c = (told c).2
+pub call_back : (format : Format) (c : Call) → IsSound c → FitsTypes c → call_in (call_value format c) ≡ Some c
+call_back format c = (told c).2 format

@@ -1,5 +1,5 @@
 -- The value of a call that a request can make is carried by a line, with what its types give.
-use Rattle.std.proofs.Common.{◌≡◌, ◌<◌, ◌^◌, ℕ, List, [], ◌∷◌, codes, Bool, true, ◌&&◌, Option, Some, None, refl, arith}
+use Rattle.std.proofs.Common.{◌≡◌, ◌<◌, ◌^◌, ℕ, List, [], ◌∷◌, codes, Bool, true, false, ◌&&◌, Option, Some, None, refl, arith}
 use Rattle.std.specs.List.{AllByRecursion}
 use Rattle.std.specs.Str.{IsAscii}
 use Rattle.std.proofs.lemmas.Bool.{and_parts}
@@ -7,13 +7,15 @@ use Rattle.std.proofs.lemmas.Str.{IsUtf8-from_ascii}
 use Rattle.std.proofs.lemmas.Str.Ascii.{IsAscii-nil, IsAscii-cons}
 use Rattle.hex.specs.Hex.{lower_digits, encode_lower}
 use Rattle.hex.proofs.HexLemmas.{IsAscii-encode_with}
+use Rattle.serde_json.specs.Data.{Members}
 use Rattle.json_laws.specs.Sound as fit
 use Rattle.json_laws.proofs.Sound.{has_fine_keys, object-sound, string-sound, ascii-sound, unsigned-sound, boolean-sound, null-sound}
 use Rattle.api_json.specs.Values.{text}
 use Rattle.engine_text.specs.Soundness.{IsSound}
 use Rattle.journal_lines.specs.CallFields.{fields_of}
-use Rattle.journal_lines.specs.Fields.{Field, Word, TextOrNone, NumberOrNone, SecondsOrNone, Flag, TextList, LabelPairs, MountList, FilterRows, HexBytes, KeyedField, field_value, is_field_sound, FieldFitsType, field_members, are_fields_sound, FieldsFitTypes, IsWord}
+use Rattle.journal_lines.specs.Fields.{Field, Word, TextOrNone, NumberOrNone, SecondsOrNone, Flag, TextList, LabelPairs, MountList, FilterRows, HexBytes, WordOrNone, FlagIfSet, CheckIfGiven, KeyedField, is_written, before_members, field_value, is_field_sound, FieldFitsType, field_members, are_fields_sound, FieldsFitTypes, IsWord}
 use Rattle.journal_lines.specs.FitsTypes.{FitsTypes, ReplyFitsTypes}
+use Rattle.journal_lines.specs.declared.format.Format.{Format}
 use Rattle.journal_lines.specs.JournalLines.{call_value, from_value, one_number, answer_value, fed_value, reply_value, ended_ticket}
 use Rattle.engine_text.specs.declared.call.Call.{Call}
 use Rattle.engine_text.specs.declared.reply.Reply.{Reply}
@@ -21,7 +23,7 @@ use Rattle.engine_text.specs.declared.reply.Reply.TheVariants.{Answer, Begun, Lo
 use Rattle.journal_lines.proofs.MemberLemmas.{members}
 use Rattle.journal_lines.proofs.FieldLemmas.{is_plain_word, are_words_plain}
 use Rattle.journal_lines.proofs.CallLemmas.{told, sound_fields}
-use Rattle.journal_lines.proofs.WordLemmas.{words_sound, mounts_sound}
+use Rattle.journal_lines.proofs.WordLemmas.{words_sound, mounts_sound, check_sound}
 use Rattle.journal_lines.proofs.PartLemmas.{seconds_sound, given_sound, labels_sound, filter_sound}
 
 -- ---- fields
@@ -34,8 +36,8 @@ digits : IsAscii lower_digits
 digits = ascii lower_digits
     (omega arith, (omega arith, (omega arith, (omega arith, (omega arith, (omega arith, (omega arith, (omega arith, (omega arith, (omega arith, (omega arith, (omega arith, (omega arith, (omega arith, (omega arith, (omega arith, tt))))))))))))))))
 
-bytes_sound : (bytes : List ℕ) → fit.IsSound 125 (text (encode_lower bytes))
-bytes_sound bytes = string-sound 125 (encode_lower bytes) (IsUtf8-from_ascii (encode_lower bytes) (IsAscii-encode_with lower_digits bytes digits))
+pub bytes_sound : (n : ℕ) (bytes : List ℕ) → fit.IsSound n (text (encode_lower bytes))
+bytes_sound n bytes = string-sound n (encode_lower bytes) (IsUtf8-from_ascii (encode_lower bytes) (IsAscii-encode_with lower_digits bytes digits))
 
 field_sound : (f : Field) → is_field_sound f ≡ true → FieldFitsType f → is_plain_word f ≡ true → fit.IsSound 125 (field_value f)
 field_sound (Word w) e u a = ascii-sound 125 w a
@@ -50,23 +52,32 @@ field_sound (TextList test ws) e u a = words_sound 124 ws u
 field_sound (LabelPairs ps) e u a = labels_sound 124 ps e u
 field_sound (MountList ms) e u a = mounts_sound 123 ms u
 field_sound (FilterRows is_key rows) e u a = filter_sound 123 rows (and_parts _ _ e).0 u
-field_sound (HexBytes bs) e u a = bytes_sound bs
+field_sound (HexBytes bs) e u a = bytes_sound 125 bs
+field_sound (WordOrNone None) e u a = null-sound 125
+field_sound (WordOrNone (Some w)) e u a = ascii-sound 125 w a
+field_sound (FlagIfSet b) e u a = boolean-sound 125 b
+field_sound (CheckIfGiven None) e u a = null-sound 125
+field_sound (CheckIfGiven (Some h)) e u a = check_sound 123 h u
 
-fields_sound : (fs : List KeyedField) → are_fields_sound fs ≡ true → FieldsFitTypes fs → are_words_plain fs ≡ true
-    → fit.HasSound 125 (field_members fs)
-fields_sound [] e u a = tt
-fields_sound (f ∷ fs) e u a =
+before_sound : (stands : Bool) (f : KeyedField) (ms : Members) → fit.IsSound 125 (field_value f.1) → fit.HasSound 125 ms → fit.HasSound 125 (before_members stands f ms)
+before_sound false f ms h rest = rest
+before_sound true f ms h rest = (h, rest)
+
+fields_sound : (format : Format) (fs : List KeyedField) → are_fields_sound fs ≡ true → FieldsFitTypes fs → are_words_plain fs ≡ true
+    → fit.HasSound 125 (field_members format fs)
+fields_sound format [] e u a = tt
+fields_sound format (f ∷ fs) e u a =
     let sound = and_parts (is_field_sound f.1) (are_fields_sound fs) e in
     let plain = and_parts (is_plain_word f.1) (are_words_plain fs) a in
-    (field_sound f.1 sound.0 u.0 plain.0, fields_sound fs sound.1 u.1 plain.1)
+    before_sound (is_written format f.1) f (field_members format fs) (field_sound f.1 sound.0 u.0 plain.0) (fields_sound format fs sound.1 u.1 plain.1)
 
 -- ---- calls
 
-pub call_sound : (c : Call) → IsSound c → FitsTypes c → fit.IsSound 126 (call_value c)
-call_sound c h u =
+pub call_sound : (format : Format) (c : Call) → IsSound c → FitsTypes c → fit.IsSound 126 (call_value format c)
+call_sound format c h u =
     let fs : List KeyedField = fields_of c in
-    let keys = and_parts (has_fine_keys (field_members fs)) (are_words_plain fs) (told c).1 in
-    object-sound 125 (field_members fs) keys.0 (fields_sound fs (sound_fields c h) u keys.1)
+    let keys = and_parts (has_fine_keys (field_members format fs)) (are_words_plain fs) ((told c).1 format) in
+    object-sound 125 (field_members format fs) keys.0 (fields_sound format fs (sound_fields c h) u keys.1)
 
 -- ---- replies
 

@@ -15,6 +15,7 @@ use Rattle.engine_text.specs.declared.entry.Entry.{Entry}
 use Rattle.engine_text.specs.declared.reply.Reply.{Reply}
 use Rattle.engine_text.specs.declared.reply.Reply.TheVariants.{Answer, Begun, LogStream, EventStream, JournalStream, Fed, Dropped}
 use Rattle.journal_lines.specs.Line.{HasLine, IsLineFault, told_reply, told_entry}
+use Rattle.journal_lines.specs.declared.format.Format.{Format}
 use Rattle.journal_lines.specs.declared.fault.LineFault.{LineFault}
 use Rattle.journal_lines.specs.declared.fault.LineFault.TheVariants.{BadLine, NoMemory}
 use Rattle.journal_lines.specs.Reading.Parts.{IsRefusal, and_then, text_at, flag_at, natural_at, count_at, status_at}
@@ -38,14 +39,14 @@ reply_back c (JournalStream count) fits told = refl
 reply_back c (Fed taken) fits told = refl
 reply_back c Dropped fits told = rw (told.1 refl) refl
 
-pub entry_back : (e : Entry) → HasLine e → entry_in (entry_value e) ≡ Some e
-entry_back e h =
-    rw (call_back e.call h.sound h.types.call, count_back e.conn h.types.conn, reply_back e.call e.reply h.types.reply (h.told, h.dropped)) refl
+pub entry_back : (format : Format) (e : Entry) → HasLine e → entry_in (entry_value format e) ≡ Some e
+entry_back format e h =
+    rw (call_back format e.call h.sound h.types.call, count_back e.conn h.types.conn, reply_back e.call e.reply h.types.reply (h.told, h.dropped)) refl
 
 -- an entry that has a line is carried by it
-pub is_carried : (e : Entry) → HasLine e → IsCarried (entry_value e)
-is_carried e h = object-sound 126 (members (entry_value e)) refl (
-  call_sound e.call h.sound h.types.call,
+pub is_carried : (format : Format) (e : Entry) → HasLine e → IsCarried (entry_value format e)
+is_carried format e h = object-sound 126 (members (entry_value format e)) refl (
+  call_sound format e.call h.sound h.types.call,
   (
     unsigned-sound 126 e.conn (let low : e.conn < 2 ^ 32 = h.types.conn in omega (arith, low)),
     (
@@ -56,21 +57,24 @@ is_carried e h = object-sound 126 (members (entry_value e)) refl (
 )
 
 -- two entries with one line are the same
-pub one_line : (e f : Entry) → HasLine e → HasLine f → journal_line e ≡ journal_line f → e ≡ f
-one_line e f h k same =
-    some_same (sym (entry_back e h) ∙ ap entry_in (line_text-injective (entry_value e) (entry_value f) (is_carried e h) (is_carried f k) same) ∙ entry_back f k)
+pub one_line : (format : Format) (e f : Entry) → HasLine e → HasLine f → journal_line format e ≡ journal_line format f → e ≡ f
+one_line format e f h k same =
+    some_same
+    (sym (entry_back format e h)
+    ∙ ap entry_in (line_text-injective (entry_value format e) (entry_value format f) (is_carried format e h) (is_carried format f k) same)
+    ∙ entry_back format f k)
 
 -- the entry that was read is that of the line
-pub entry_same : (d : Data) (x e : Entry) → entry_in d ≡ Some x → d ≡ entry_value e → HasLine e → x ≡ e
-entry_same d x e read same h = some_same (sym read ∙ ap entry_in same ∙ entry_back e h)
+pub entry_same : (format : Format) (d : Data) (x e : Entry) → entry_in d ≡ Some x → d ≡ entry_value format e → HasLine e → x ≡ e
+entry_same format d x e read same h = some_same (sym read ∙ ap entry_in same ∙ entry_back format e h)
 
 -- where nothing is read there is no line
-pub not_read : (line : List ℕ) (d : Data) (fault : LineFault) → ((e : Entry) → HasLine e → journal_line e ≡ line → d ≡ entry_value e)
-    → IsRefusal (entry_in d) fault → IsLineFault line fault
-not_read line d BadLine is none = λ w.
-    let read = sym none ∙ ap entry_in (is w.0 w.1 w.2) ∙ entry_back w.0 w.1 in
+pub not_read : (format : Format) (line : List ℕ) (d : Data) (fault : LineFault) → ((e : Entry) → HasLine e → journal_line format e ≡ line → d ≡ entry_value format e)
+    → IsRefusal (entry_in d) fault → IsLineFault format line fault
+not_read format line d BadLine is none = λ w.
+    let read = sym none ∙ ap entry_in (is w.0 w.1 w.2) ∙ entry_back format w.0 w.1 in
     cc read
-not_read line d NoMemory is none = tt
+not_read format line d NoMemory is none = tt
 
 -- ---- what is read is told by a line
 
@@ -141,15 +145,15 @@ told_value c (JournalStream count) = refl
 told_value c (Fed taken) = refl
 told_value c Dropped = refl
 
-pub told_line : (e : Entry) → journal_line (told_entry e) ≡ journal_line e
-told_line e = rw (told_value e.call e.reply) refl
+pub told_line : (format : Format) (e : Entry) → journal_line format (told_entry e) ≡ journal_line format e
+told_line format e = rw (told_value e.call e.reply) refl
 
 -- whatever is read of an entry's line is that entry, and a refusal of it is want of memory
-pub reads_back : (e : Entry) (line : List ℕ) (r : Result Entry LineFault) → HasLine (told_entry e) → line ≡ journal_line e
-    → IfOk r (λ x. HasLine x × (journal_line x ≡ line)) → IfErr r (λ fault. IsLineFault line fault)
+pub reads_back : (format : Format) (e : Entry) (line : List ℕ) (r : Result Entry LineFault) → HasLine (told_entry e) → line ≡ journal_line format e
+    → IfOk r (λ x. HasLine x × (journal_line format x ≡ line)) → IfErr r (λ fault. IsLineFault format line fault)
     → IfOk r (λ x. x ≡ told_entry e) × IfErr r (λ fault. fault ≡ NoMemory)
-reads_back e line (Ok x) h is taken refused =
-    let same : journal_line x ≡ journal_line (told_entry e) = taken.1 ∙ is ∙ sym (told_line e) in
-    (one_line x (told_entry e) taken.0 h same, tt)
-reads_back e line (Err BadLine) h is taken refused = absurd (refused (told_entry e, h, told_line e ∙ sym is))
-reads_back e line (Err NoMemory) h is taken refused = (tt, refl)
+reads_back format e line (Ok x) h is taken refused =
+    let same : journal_line format x ≡ journal_line format (told_entry e) = taken.1 ∙ is ∙ sym (told_line format e) in
+    (one_line format x (told_entry e) taken.0 h same, tt)
+reads_back format e line (Err BadLine) h is taken refused = absurd (refused (told_entry e, h, told_line format e ∙ sym is))
+reads_back format e line (Err NoMemory) h is taken refused = (tt, refl)

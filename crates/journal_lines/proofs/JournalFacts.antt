@@ -1,5 +1,5 @@
 -- The journal's line of each kind of call and reply, written out by hand.
-use Rattle.std.specs.Prelude.{◌≡◌, ℕ, pos, negsuc, List, [], ◌∷◌, true, false, Some, None, codes, refl, map, drop}
+use Rattle.std.specs.Prelude.{◌≡◌, ℕ, pos, negsuc, List, [], ◌∷◌, true, false, Some, None, codes, refl, map, drop, replicate}
 use Rattle.std.specs.Fmt.{digits}
 use Rattle.rand_chacha.specs.Block.{quarter_round, column_round, diagonal_round, double_rounds, block_word}
 use Rattle.rand_core.specs.Steps.{u32_at}
@@ -10,7 +10,8 @@ use Rattle.proc_kernel.specs.Processes.{meet_waiting, meeting_order}
 use Rattle.engine_text.specs.Id.{id_of, key_bytes}
 use Rattle.machine_model.proofs.Scenes as scenes
 use Rattle.journal_lines.specs.Entries.{history_entries}
-use Rattle.journal_lines.specs.JournalLines.{journal_line}
+use Rattle.journal_lines.specs.JournalLines.{journal_line, header_line, lines_of}
+use Rattle.journal_lines.specs.declared.format.Format.TheVariants.{First, Second}
 use Rattle.engine_text.specs.declared.call.Call.{Call}
 use Rattle.engine_text.specs.declared.call.CreateSpec.{CreateSpec}
 use Rattle.engine_text.specs.declared.call.Until.TheVariants as Until
@@ -23,7 +24,7 @@ use Rattle.engine_text.specs.declared.step.Step.{Step}
 
 -- the line of a call of connection 1 at the moment 5, two due steps behind the call before
 abbrev pub line : Call → Reply → List ℕ
-line c reply = journal_line (record { dues = 2; conn = 1; moment = 5; call = c; reply = reply })
+line c reply = journal_line First (record { dues = 2; conn = 1; moment = 5; call = c; reply = reply })
 
 abbrev pub ref : List ℕ
 ref = codes "web"
@@ -44,6 +45,8 @@ spec = record {
   stdin_once = false;
   labels = record { key = codes "a"; value = codes "b" } ∷ [];
   mounts = record { volume = codes "data"; target = codes "/d"; read_only = true } ∷ [];
+  auto_remove = false;
+  health = None;
 }
 
 pub line_of_create : line (Call.Create spec) (Reply.Answer 201 (codes "{}"))
@@ -55,6 +58,12 @@ pub line_of_named_create : line (Call.Create (record spec { name = Some (codes "
     ≡ codes "{\"call\":{\"after\":10,\"image\":\"engine/tools\",\"labels\":{},\"maximum\":0,\"mounts\":[],\"name\":\"/ab\",\"once\":false,\"op\":\"create\",\"policy\":\"unless-stopped\",\"signal\":15,\"stdin\":true,\"words\":[]},\"conn\":1,\"dues\":2,\"moment\":5,\"reply\":{\"body\":\"\",\"status\":204}}\n"
 unfolding digits escape_byte encode_with line_text
 line_of_named_create = refl
+
+-- one that is removed by itself, with a health check
+pub line_of_checked_create : line (Call.Create (record spec { policy = Policy.No; labels = []; mounts = []; auto_remove = true; health = Some (record { words = codes "flaky" ∷ []; interval = 30000; timeout = 1; retries = 3; start_period = 0 }) })) (empty)
+    ≡ codes "{\"call\":{\"after\":-1,\"auto\":true,\"health\":{\"interval\":30000,\"retries\":3,\"start\":0,\"timeout\":1,\"words\":[\"flaky\"]},\"image\":\"engine/tools\",\"labels\":{},\"maximum\":0,\"mounts\":[],\"name\":null,\"once\":false,\"op\":\"create\",\"policy\":\"no\",\"signal\":15,\"stdin\":true,\"words\":[\"exit\",\"1\"]},\"conn\":1,\"dues\":2,\"moment\":5,\"reply\":{\"body\":\"\",\"status\":204}}\n"
+unfolding digits escape_byte encode_with line_text
+line_of_checked_create = refl
 
 pub line_of_start : line (Call.Start ref) (empty)
     ≡ codes "{\"call\":{\"op\":\"start\",\"ref\":\"web\"},\"conn\":1,\"dues\":2,\"moment\":5,\"reply\":{\"body\":\"\",\"status\":204}}\n"
@@ -95,6 +104,16 @@ pub line_of_rename : line (Call.Rename ref (codes "new")) (empty)
     ≡ codes "{\"call\":{\"name\":\"new\",\"op\":\"rename\",\"ref\":\"web\"},\"conn\":1,\"dues\":2,\"moment\":5,\"reply\":{\"body\":\"\",\"status\":204}}\n"
 unfolding digits escape_byte encode_with line_text
 line_of_rename = refl
+
+pub line_of_update : line (Call.Update ref (Some (Policy.OnFailure 3))) (Reply.Answer 200 (codes "{\"Warnings\":[]}"))
+    ≡ codes "{\"call\":{\"maximum\":3,\"op\":\"update\",\"policy\":\"on-failure\",\"ref\":\"web\"},\"conn\":1,\"dues\":2,\"moment\":5,\"reply\":{\"body\":\"{\\\"Warnings\\\":[]}\",\"status\":200}}\n"
+unfolding digits escape_byte encode_with line_text
+line_of_update = refl
+
+pub line_of_empty_update : line (Call.Update ref None) (empty)
+    ≡ codes "{\"call\":{\"maximum\":null,\"op\":\"update\",\"policy\":null,\"ref\":\"web\"},\"conn\":1,\"dues\":2,\"moment\":5,\"reply\":{\"body\":\"\",\"status\":204}}\n"
+unfolding digits escape_byte encode_with line_text
+line_of_empty_update = refl
 
 pub line_of_remove : line (Call.Remove ref true) (empty)
     ≡ codes "{\"call\":{\"force\":true,\"op\":\"remove\",\"ref\":\"web\"},\"conn\":1,\"dues\":2,\"moment\":5,\"reply\":{\"body\":\"\",\"status\":204}}\n"
@@ -195,8 +214,29 @@ line_of_drop = refl
 -- ---- of a history
 
 -- create, start, the due step between, and the start of a running container
-pub journal_of_starts : map journal_line (drop 1 (history_entries scenes.charter (scenes.create (codes "deaf" ∷ []) ∷ scenes.start 0 ∷ Step.Due ∷ scenes.start 0 ∷ [])))
+pub journal_of_starts : map (journal_line First) (drop 1 (history_entries scenes.charter (scenes.create (codes "deaf" ∷ []) ∷ scenes.start 0 ∷ Step.Due ∷ scenes.start 0 ∷ [])))
     ≡ codes "{\"call\":{\"op\":\"start\",\"ref\":\"web\"},\"conn\":0,\"dues\":0,\"moment\":1700000000000,\"reply\":{\"body\":\"\",\"status\":204}}\n"
     ∷ codes "{\"call\":{\"op\":\"start\",\"ref\":\"web\"},\"conn\":0,\"dues\":1,\"moment\":1700000000000,\"reply\":{\"body\":\"\",\"status\":304}}\n" ∷ []
 unfolding digits escape_byte id_of key_bytes encode_with quarter_round column_round diagonal_round double_rounds block_word u32_at meet_waiting meeting_order line_text
 journal_of_starts = refl
+
+-- ---- format 2
+
+-- a create has all its keys
+pub second_line_of_create : journal_line Second (record { dues = 0; conn = 0; moment = 5; call = Call.Create (record spec { policy = Policy.No; labels = []; mounts = [] }); reply = empty })
+    ≡ codes "{\"call\":{\"after\":-1,\"auto\":false,\"health\":null,\"image\":\"engine/tools\",\"labels\":{},\"maximum\":0,\"mounts\":[],\"name\":null,\"once\":false,\"op\":\"create\",\"policy\":\"no\",\"signal\":15,\"stdin\":true,\"words\":[\"exit\",\"1\"]},\"conn\":0,\"dues\":0,\"moment\":5,\"reply\":{\"body\":\"\",\"status\":204}}\n"
+unfolding digits escape_byte encode_with line_text
+second_line_of_create = refl
+
+-- the header of the zero seed
+pub header_of_zero : header_line (replicate 32 0) 1700000000000
+    ≡ codes "{\"format\":2,\"moment\":1700000000000,\"seed\":\"0000000000000000000000000000000000000000000000000000000000000000\"}\n"
+unfolding digits escape_byte encode_with line_text
+header_of_zero = refl
+
+-- a daemon's journal begins with it, and goes on with a line for each call
+pub lines_of_starts : drop 2 (lines_of scenes.charter (scenes.create (codes "deaf" ∷ []) ∷ scenes.start 0 ∷ Step.Due ∷ scenes.start 0 ∷ []))
+    ≡ codes "{\"call\":{\"op\":\"start\",\"ref\":\"web\"},\"conn\":0,\"dues\":0,\"moment\":1700000000000,\"reply\":{\"body\":\"\",\"status\":204}}\n"
+    ∷ codes "{\"call\":{\"op\":\"start\",\"ref\":\"web\"},\"conn\":0,\"dues\":1,\"moment\":1700000000000,\"reply\":{\"body\":\"\",\"status\":304}}\n" ∷ []
+unfolding digits escape_byte id_of key_bytes encode_with quarter_round column_round diagonal_round double_rounds block_word u32_at meet_waiting meeting_order line_text
+lines_of_starts = refl

@@ -13,4 +13,6 @@ mod SoundLemmas
 mod CarriedLemmas
 mod CallLemmas
 pub mod EntryLemmas
+pub mod HeaderLemmas
+pub mod LineLemmas
 mod JournalLemmas

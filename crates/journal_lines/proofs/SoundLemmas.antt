@@ -61,15 +61,17 @@ logs_order true false t l g = rw (none (g && (l && (true && (t && true))))) refl
 logs_order false o t l true = rw (none l) refl
 logs_order false o t l false = refl
 
--- of a create: a name, a policy, a signal, seconds, labels and mounts
-pub create_order : (n p s w l m : Bool) → (n && p && s && w && l && m) ≡ ((w && (l && (p && (m && (n && (s && true)))))) && true)
-create_order true true true true true true = refl
-create_order true true true true true false = refl
-create_order true true true true false m = refl
-create_order true true true false l m = refl
-create_order true true false w l m = rw (none m, none l, none w) refl
-create_order true false s w l m = rw (none l, none w) refl
-create_order false p s w l m = rw (none m, none p, none l, none w) refl
+-- of a create: a name, a policy, a signal, seconds, labels, mounts, whether it may be removed by itself, and a check
+pub create_order : (n p s w l m a h : Bool) → (n && p && s && w && l && m && a && h) ≡ ((w && (h && (l && (p && (m && (n && (s && true))))))) && a)
+create_order n p s false l m a h = rw (none (n && p && s)) refl
+create_order n p s true l m a false = rw (none (n && p && s && true && l && m && a)) refl
+create_order n p s true false m a true = rw (none (n && p && s && true)) refl
+create_order n false s true true m a true = rw (none n) refl
+create_order n true s true true false a true = rw (none (n && true && s && true && true)) refl
+create_order false true s true true true a true = refl
+create_order true true false true true true a true = refl
+create_order true true true true true true true true = refl
+create_order true true true true true true false true = refl
 
 -- ---- tests of parts
 
@@ -82,3 +84,7 @@ policy_test Policy.No = refl
 policy_test Policy.Always = refl
 policy_test Policy.UnlessStopped = refl
 policy_test (Policy.OnFailure most) = refl
+
+pub given_test : (policy : Option Policy) → if_given is_policy policy ≡ if_given (λ n. nat_le n 2147483647) (option_map most_retries policy)
+given_test None = refl
+given_test (Some p) = policy_test p

@@ -4,10 +4,11 @@ use Rattle.serde_json.specs.View.{items_of}
 use Rattle.json_laws.specs.Plain.{IsPlain, ArePlain}
 use Rattle.json_laws.specs.Pairs.{words_of}
 use Rattle.json_laws.specs.Sound as fit
-use Rattle.json_laws.proofs.Sound.{object-sound, array-sound, string-sound, boolean-sound}
+use Rattle.json_laws.proofs.Sound.{object-sound, array-sound, string-sound, boolean-sound, unsigned-sound}
 use Rattle.api_json.specs.Values.{text, list_of}
 use Rattle.api_json.specs.Lists.{texts_in}
-use Rattle.journal_lines.specs.Fields.{mount_entry}
+use Rattle.journal_lines.specs.Fields.{check_entry, mount_entry, CheckFitsType}
+use Rattle.engine_text.specs.declared.health.HealthSpec.{HealthSpec}
 use Rattle.engine_text.specs.Words.{AreUtf8}
 use Rattle.engine_text.specs.Mounts.{AreMountsUtf8}
 use Rattle.engine_text.specs.declared.mounts.Mount.{Mount}
@@ -58,3 +59,10 @@ each_back (m ∷ ms) = ap (option_map (λ (rest : List Mount). m ∷ rest)) (eac
 
 pub mounts_back : (ms : List Mount) → mounts_in (list_of mount_entry ms) ≡ Some ms
 mounts_back ms = each_back ms
+
+-- ---- health checks
+
+pub check_sound : (n : ℕ) (h : HealthSpec) → CheckFitsType h → fit.IsSound (suc (suc n)) (check_entry h)
+check_sound n h u =
+    object-sound (suc n) (members (check_entry h)) refl
+    (unsigned-sound (suc n) h.interval u.0, (unsigned-sound (suc n) h.retries u.1, (unsigned-sound (suc n) h.start_period u.2, (unsigned-sound (suc n) h.timeout u.3, (words_sound n h.words u.4, tt)))))

@@ -1,9 +1,9 @@
--- The journal's calls, each told by its fields in the order of their keys (own: format 1).
+-- The journal's calls, each told by its fields in the order of their keys (own).
 use Rattle.std.specs.Prelude.{ℕ, ℤ, ◌&&◌, ◌||◌, nat_le, Bool, true, List, [], ◌∷◌, Option, Some, option_map, codes}
 use Rattle.machine_model.specs.State.{owner_number}
 use Rattle.api_json.specs.Container.{policy_word, most_retries}
 use Rattle.engine_text.specs.Name.{is_name, is_volume_name}
-use Rattle.engine_text.specs.Soundness.{is_full, is_time, is_count, is_limit, is_list_key, is_event_key, is_volume_key}
+use Rattle.engine_text.specs.Soundness.{is_full, is_time, is_count, is_limit, is_list_key, is_event_key, is_volume_key, allows_auto_remove}
 use Rattle.engine_text.specs.declared.call.Call.{Call}
 use Rattle.engine_text.specs.declared.call.CreateSpec.{CreateSpec}
 use Rattle.engine_text.specs.declared.call.LogAsk.{LogAsk}
@@ -12,8 +12,9 @@ use Rattle.engine_text.specs.declared.call.Until.{Until}
 use Rattle.engine_text.specs.declared.call.Until.TheVariants.{NotRunning, NextExit, Removed}
 use Rattle.engine_text.specs.declared.owner.Owner.{Owner}
 use Rattle.engine_text.specs.declared.owner.Owner.TheVariants.{Container as OfContainer, Exec as OfExec}
+use Rattle.engine_text.specs.declared.policy.Policy.{Policy}
 use Rattle.engine_text.specs.declared.signal.Signal.{Signal}
-use Rattle.journal_lines.specs.Fields.{Field, Word, TextOrNone, NumberOrNone, SecondsOrNone, Flag, TextList, LabelPairs, MountList, FilterRows, HexBytes, KeyedField}
+use Rattle.journal_lines.specs.Fields.{Field, Word, WordOrNone, TextOrNone, NumberOrNone, SecondsOrNone, Flag, TextList, LabelPairs, MountList, FilterRows, HexBytes, FlagIfSet, CheckIfGiven, KeyedField}
 
 -- ---- fields
 
@@ -38,8 +39,8 @@ abbrev pub run_field : ℕ → Field
 run_field n = NumberOrNone (nat_le 1) (Some n)
 
 -- A greatest number of restarts: at most 2,147,483,647.
-abbrev pub retries_field : ℕ → Field
-retries_field n = NumberOrNone (λ n. nat_le n 2147483647) (Some n)
+abbrev pub retries_field : Option Policy → Field
+retries_field policy = NumberOrNone (λ n. nat_le n 2147483647) (option_map most_retries policy)
 
 -- A moment that a request can write, in milliseconds.
 abbrev pub moment_field : Option ℕ → Field
@@ -89,9 +90,11 @@ stop_fields word target wait signal =
 abbrev pub create_fields : CreateSpec → List KeyedField
 create_fields spec =
     (codes "after", SecondsOrNone (Some spec.stop_after))
+    ∷ (codes "auto", FlagIfSet spec.auto_remove)
+    ∷ (codes "health", CheckIfGiven spec.health)
     ∷ (codes "image", TextOrNone (λ t. true) (Some spec.image))
     ∷ (codes "labels", LabelPairs spec.labels)
-    ∷ (codes "maximum", retries_field (most_retries spec.policy))
+    ∷ (codes "maximum", retries_field (Some spec.policy))
     ∷ (codes "mounts", MountList spec.mounts)
     ∷ (codes "name", name_field spec.name)
     ∷ (codes "once", Flag spec.stdin_once)
@@ -128,6 +131,9 @@ fields_of (Call.Kill target signal) =
     op_field (codes "kill") ∷ (codes "ref", reference_field target) ∷ (codes "signal", signal_field (Some signal)) ∷ []
 fields_of (Call.Rename target new) =
     (codes "name", name_field (Some new)) ∷ op_field (codes "rename") ∷ (codes "ref", reference_field target) ∷ []
+fields_of (Call.Update target policy) =
+    (codes "maximum", retries_field policy) ∷ op_field (codes "update") ∷ (codes "policy", WordOrNone (option_map policy_word policy))
+    ∷ (codes "ref", reference_field target) ∷ []
 fields_of (Call.Remove target force) =
     (codes "force", Flag force) ∷ op_field (codes "remove") ∷ (codes "ref", reference_field target) ∷ []
 fields_of (Call.Wait target until) =
@@ -156,7 +162,8 @@ fields_of (Call.FeedEnd owner run) = feed_fields (codes "feed_end") owner run
 fields_of (Call.Take ticket) = ticket_fields (codes "take") ticket
 fields_of (Call.Drop ticket) = ticket_fields (codes "drop") ticket
 
--- What no field tells alone: logs ask for at least one stream.
-abbrev pub asks_for_streams : Call → Bool
-asks_for_streams (Call.Logs target ask) = ask.out || ask.err
-asks_for_streams c = true
+-- What no field tells alone: what is removed by itself is never restarted, and logs ask for at least one stream.
+abbrev pub do_fields_agree : Call → Bool
+do_fields_agree (Call.Create spec) = allows_auto_remove spec.policy spec.auto_remove
+do_fields_agree (Call.Logs target ask) = ask.out || ask.err
+do_fields_agree c = true

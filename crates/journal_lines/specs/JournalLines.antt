@@ -1,10 +1,11 @@
--- The lines of the journal, format 1 (own: one entry a line, so that a history can be replayed).
-use Rattle.std.specs.Prelude.{ℕ, Bool, List, codes, take}
+-- The lines of the journal in its two formats (own: one entry a line, so that a history can be replayed).
+use Rattle.std.specs.Prelude.{◌≡◌, ◌≤◌, ℕ, ◌==◌, Bool, List, ◌∷◌, ◌++◌, if◌then◌else◌, length, codes, map, take}
 use Rattle.std.specs.List.{flat_map}
 use Rattle.serde_json.specs.Data.{Data, boolean, object, no_members, member}
 use Rattle.api_json.specs.Values.{text, natural}
 use Rattle.json_laws.specs.Sound.{line_text}
-use Rattle.machine_model.specs.History.{Charter}
+use Rattle.hex.specs.Hex.{encode_lower, IsBytes}
+use Rattle.machine_model.specs.History.{Charter, greatest_moment}
 use Rattle.engine_text.specs.declared.call.Call.{Call}
 use Rattle.engine_text.specs.declared.entry.Entry.{Entry}
 use Rattle.engine_text.specs.declared.reply.Reply.{Reply}
@@ -13,10 +14,19 @@ use Rattle.engine_text.specs.declared.step.Step.{Step}
 use Rattle.journal_lines.specs.Entries.{history_entries}
 use Rattle.journal_lines.specs.CallFields.{fields_of}
 use Rattle.journal_lines.specs.Fields.{fields_value}
+use Rattle.journal_lines.specs.declared.format.Format.{Format}
+use Rattle.journal_lines.specs.declared.format.Format.TheVariants.{First, Second}
+
+-- A format is told by its number: 1 or 2.
+abbrev pub IsFormat : ℕ → Type 0
+IsFormat n = (1 ≤ n) × (n ≤ 2)
+
+abbrev pub format_of : ℕ → Format
+format_of n = if n == 1 then First else Second
 
 -- A call's value, its keys in byte order.
-abbrev pub call_value : Call → Data
-call_value c = fields_value (fields_of c)
+abbrev pub call_value : Format → Call → Data
+call_value format c = fields_value format (fields_of c)
 
 -- ---- replies and lines
 
@@ -53,18 +63,48 @@ reply_value c (Fed taken) = fed_value taken
 reply_value c Dropped = one_number (codes "dropped") (ended_ticket c)
 
 -- An entry's value.
-abbrev pub entry_value : Entry → Data
-entry_value e = object (
-    member (codes "call") (call_value e.call) (
+abbrev pub entry_value : Format → Entry → Data
+entry_value format e = object (
+    member (codes "call") (call_value format e.call) (
     member (codes "conn") (natural e.conn) (
     member (codes "dues") (natural e.dues) (
     member (codes "moment") (natural e.moment) (
     member (codes "reply") (reply_value e.call e.reply) no_members)))))
 
 -- An entry's line.
-abbrev pub journal_line : Entry → List ℕ
-journal_line e = line_text (entry_value e)
+abbrev pub journal_line : Format → Entry → List ℕ
+journal_line format e = line_text (entry_value format e)
 
--- The lines of the first n calls of a history.
+-- ---- the header
+
+-- It tells the seed, in hexadecimal, and the moment of the opening.
+abbrev pub header_value : List ℕ → ℕ → Data
+header_value seed opening = object (
+    member (codes "format") (natural 2) (
+    member (codes "moment") (natural opening) (
+    member (codes "seed") (text (encode_lower seed)) no_members)))
+
+-- Its line, before all others.
+abbrev pub header_line : List ℕ → ℕ → List ℕ
+header_line seed opening = line_text (header_value seed opening)
+
+-- Its seed has 32 bytes, and its moment is at most the greatest.
+pub record IsHeader (seed : List ℕ) (opening : ℕ) : Type 0 where
+  pub bytes : IsBytes seed
+  pub long : length seed ≡ 32
+  pub low : opening ≤ greatest_moment
+
+-- ---- journals
+
+-- The text of these entries: format 2 begins with the header of the opening, and format 1 has none.
+abbrev pub journal_text : Format → Charter → List Entry → List ℕ
+journal_text First charter es = flat_map (journal_line First) es
+journal_text Second charter es = header_line charter.seed charter.opening ++ flat_map (journal_line Second) es
+
+-- A daemon's journal is of format 2: the header of its opening, and the lines of the first n calls of its history.
 abbrev pub journal_lines : Charter → List Step → ℕ → List ℕ
-journal_lines charter h n = flat_map journal_line (take n (history_entries charter h))
+journal_lines charter h n = journal_text Second charter (take n (history_entries charter h))
+
+-- The same, line by line: line 0 is the header.
+abbrev pub lines_of : Charter → List Step → List (List ℕ)
+lines_of charter h = header_line charter.seed charter.opening ∷ map (journal_line Second) (history_entries charter h)

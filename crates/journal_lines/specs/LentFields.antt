@@ -1,5 +1,5 @@
--- A call's fields as the code lends them, told as fields (own: format 1).
-use Rattle.std.specs.Prelude.{ℕ, Bool, true, List, map, nat_le, Some}
+-- A call's fields as the code lends them, told as fields (own).
+use Rattle.std.specs.Prelude.{ℕ, Bool, true, List, map, nat_le, Some, option_copied}
 use denote.Ref.{Bor}
 use Rattle.engine_text.specs.Name.{is_name, is_volume_name}
 use Rattle.engine_text.specs.Soundness.{is_full, is_time, is_count, is_limit, is_list_key, is_event_key, is_volume_key}
@@ -52,6 +52,9 @@ told_field (Field.LabelPairs ps) = told.LabelPairs ps.now
 told_field (Field.MountList ms) = told.MountList ms.now
 told_field (Field.FilterRows test rows) = told.FilterRows (key_test test) rows.now
 told_field (Field.HexBytes bs) = told.HexBytes bs.now
+told_field (Field.WordOrNone word) = told.WordOrNone (option_copied word)
+told_field (Field.FlagIfSet b) = told.FlagIfSet b
+told_field (Field.CheckIfGiven check) = told.CheckIfGiven check.now
 
 -- Fields behind their keys.
 abbrev pub told_list : List (Bor (List ℕ) × Field) → List KeyedField

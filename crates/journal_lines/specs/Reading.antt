@@ -3,3 +3,4 @@ pub mod Parts
 pub mod Lists
 pub mod Calls
 pub mod Entries
+pub mod Headers

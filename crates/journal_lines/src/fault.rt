@@ -1,4 +1,4 @@
-// Why a line is refused (own: format 1).
+// Why a line is refused (own).
 use engine_text::NoMemory;
 use std::alloc::AllocError;
 

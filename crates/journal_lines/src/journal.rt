@@ -114,9 +114,10 @@ impl Journal {
         self.since
     }
 
-    /// How many entries there are.
+    /// How many entries there are: fewer than 2^63.
     pub fn len(&self) -> u64
-        ensures { result ≡ length self.now.entries }
+        ensures count { result ≡ length self.now.entries }
+        ensures small { result < 2 ^ 63 }
     {
         self.items.len() as u64
     }

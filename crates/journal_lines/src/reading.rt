@@ -5,6 +5,7 @@ mod create;
 mod execs;
 mod feeds;
 mod filter;
+mod header;
 mod line;
 mod lists;
 mod logs;
@@ -12,5 +13,6 @@ mod options;
 mod parts;
 mod replies;
 
-pub use carried::entries_texts;
+pub use carried::{entries_texts, seed_bytes};
+pub use header::read_header;
 pub use line::{law_line_reads_back, read_line};

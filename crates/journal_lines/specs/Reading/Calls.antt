@@ -1,8 +1,8 @@
--- The call that a line's value says (own: format 1; Docker Engine API v1.43, its operations).
-use Rattle.std.specs.Prelude.{ℕ, ℤ, List, codes, if◌then◌else◌, Option, Some, None, option_map}
+-- The call that a line's value says (own; Docker Engine API v1.43, its operations).
+use Rattle.std.specs.Prelude.{ℕ, ℤ, Bool, false, List, codes, if◌then◌else◌, Option, Some, None, option_map}
 use Rattle.std.specs.Result.{result_ok}
 use Rattle.serde_json.specs.Data.{Data}
-use Rattle.serde_json.specs.Find.{get, as_str}
+use Rattle.serde_json.specs.Find.{get, as_bool, as_str}
 use Rattle.hex.specs.Hex.{decode_of}
 use Rattle.engine_text.specs.Policy.{read_policy}
 use Rattle.engine_text.specs.Texts.{same_bytes}
@@ -11,11 +11,12 @@ use Rattle.engine_text.specs.declared.call.LogAsk.{LogAsk}
 use Rattle.engine_text.specs.declared.call.AttachAsk.{AttachAsk}
 use Rattle.engine_text.specs.declared.call.Until.{Until}
 use Rattle.engine_text.specs.declared.call.Until.TheVariants.{NotRunning, NextExit, Removed}
+use Rattle.engine_text.specs.declared.health.HealthSpec.{HealthSpec}
 use Rattle.engine_text.specs.declared.owner.Owner.{Owner}
 use Rattle.engine_text.specs.declared.owner.Owner.TheVariants.{Container as OfContainer, Exec as OfExec}
 use Rattle.engine_text.specs.declared.policy.Policy.{Policy}
 use Rattle.engine_text.specs.declared.signal.Signal.{Signal}
-use Rattle.journal_lines.specs.Reading.Parts.{and_then, text_at, flag_at, natural_of, natural_at, count_of, signal_of, signal_at, integer_of, seconds_of, seconds_at, optional_at}
+use Rattle.journal_lines.specs.Reading.Parts.{and_then, text_at, flag_at, natural_of, natural_at, count_of, count_at, signal_of, signal_at, integer_of, seconds_of, seconds_at, or_null, optional_at}
 use Rattle.journal_lines.specs.Reading.Lists.{words_at, pairs_at, mounts_at, filter_at}
 use Rattle.journal_lines.specs.declared.reading.create.Settings.{Settings}
 
@@ -37,6 +38,30 @@ settings_in d =
     and_then (flag_at (codes "stdin") d) (λ stdin.
     and_then (flag_at (codes "once") d) (λ once.
     Some (record { policy = policy; signal = signal; after = after; stdin = stdin; once = once }))))))
+
+-- A policy, or none where the name of one is null.
+abbrev pub policy_if_given : Data → Option (Option Policy)
+policy_if_given d = optional_at (λ name. policy_in d) (codes "policy") d
+
+-- A flag, or false where there is no key.
+abbrev pub flag_if_there : Option Data → Option Bool
+flag_if_there None = Some false
+flag_if_there (Some d) = as_bool d
+
+-- A health check.
+abbrev pub check_of : Data → Option HealthSpec
+check_of d =
+    and_then (words_at (codes "words") d) (λ words.
+    and_then (natural_at (codes "interval") d) (λ interval.
+    and_then (natural_at (codes "timeout") d) (λ timeout.
+    and_then (count_at (codes "retries") d) (λ retries.
+    and_then (natural_at (codes "start") d) (λ start.
+    Some (record { words = words; interval = interval; timeout = timeout; retries = retries; start_period = start }))))))
+
+-- A check, or none where there is no key, or null.
+abbrev pub check_if_there : Option Data → Option (Option HealthSpec)
+check_if_there None = Some None
+check_if_there (Some d) = or_null check_of d
 
 -- What a wait waits for.
 abbrev pub until_of : List ℕ → Option Until
@@ -103,6 +128,8 @@ create_in d =
     and_then (words_at (codes "words") d) (λ words.
     and_then (pairs_at (codes "labels") d) (λ labels.
     and_then (mounts_at (codes "mounts") d) (λ mounts.
+    and_then (flag_if_there (get (codes "auto") d)) (λ auto.
+    and_then (check_if_there (get (codes "health") d)) (λ health.
     Some (Call.Create (record {
       name = name;
       image = image;
@@ -114,7 +141,9 @@ create_in d =
       stdin_once = settings.once;
       labels = labels;
       mounts = mounts;
-    }))))))))
+      auto_remove = auto;
+      health = health;
+    }))))))))))
 
 -- Of a reference alone.
 abbrev pub named_in : (List ℕ → Call) → Data → Option Call
@@ -139,6 +168,12 @@ rename_in d =
     and_then (text_at (codes "ref") d) (λ target.
     and_then (text_at (codes "name") d) (λ name.
     Some (Call.Rename target name)))
+
+abbrev pub update_in : Data → Option Call
+update_in d =
+    and_then (text_at (codes "ref") d) (λ target.
+    and_then (policy_if_given d) (λ policy.
+    Some (Call.Update target policy)))
 
 abbrev pub remove_in : Data → Option Call
 remove_in d =
@@ -273,6 +308,7 @@ named_call op d =
     if same_bytes op (codes "pause") then named_in Call.Pause d else
     if same_bytes op (codes "unpause") then named_in Call.Unpause d else
     if same_bytes op (codes "rename") then rename_in d else
+    if same_bytes op (codes "update") then update_in d else
     if same_bytes op (codes "remove") then remove_in d else
     looking_call op d
 

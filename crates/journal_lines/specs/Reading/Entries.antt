@@ -1,7 +1,8 @@
--- The entry that a line's value says (own: format 1).
-use Rattle.std.specs.Prelude.{ℕ, Bool, List, is_some, codes, if◌then◌else◌, Option, Some, None, option_map}
+-- The entry that a line's value says (own).
+use Rattle.std.specs.Prelude.{◌≡◌, ℕ, Bool, List, is_some, codes, if◌then◌else◌, Option, Some, None, option_map}
 use Rattle.serde_json.specs.Data.{Data}
 use Rattle.serde_json.specs.Find.{get}
+use Rattle.json_laws.specs.Sound.{IsCarried, line_text}
 use Rattle.machine_model.specs.History.{is_drop}
 use Rattle.engine_text.specs.declared.call.Call.{Call}
 use Rattle.engine_text.specs.declared.entry.Entry.{Entry}
@@ -67,3 +68,10 @@ entry_in d =
     and_then (natural_at (codes "moment") d) (λ moment.
     and_then (call_at d) (λ call.
     entry_with conn dues moment call d))))
+
+-- ---- lines
+
+-- The bytes are the line of data that say the entry, and of no others.
+abbrev pub IsSaidBy : List ℕ → Entry → Type 0
+IsSaidBy line e =
+    (d : Data) × (entry_in d ≡ Some e) × ((other : Data) → IsCarried other → line_text other ≡ line → d ≡ other)

@@ -1,4 +1,4 @@
--- Words, labels, mounts and filters of a line's value (own: format 1; RFC 8259, sections 4 and 5).
+-- Words, labels, mounts and filters of a line's value (own; RFC 8259, sections 4 and 5).
 use Rattle.std.specs.Prelude.{ℕ, List, [], ◌∷◌, codes, Option, Some, option_map}
 use Rattle.serde_json.specs.Data.{Data, Items, no_items, item, Members, no_members, member}
 use Rattle.serde_json.specs.Find.{get, as_array, as_object}

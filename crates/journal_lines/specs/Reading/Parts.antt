@@ -1,4 +1,4 @@
--- What a line's value says at its keys (own: format 1; RFC 8259, sections 3 to 7).
+-- What a line's value says at its keys (own; RFC 8259, sections 3 to 7).
 use Rattle.std.specs.Prelude.{◌≡◌, ℕ, ℤ, List, nat_le, Bool, is_some, if◌then◌else◌, Option, Some, None, Result, Ok, Err, option_map, option_and_then, ⊤}
 use Rattle.serde_json.specs.Data.{Data}
 use Rattle.serde_json.specs.Find.{get, as_null, as_bool, as_number, as_str, as_u64, as_i64}

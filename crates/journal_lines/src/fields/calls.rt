@@ -6,9 +6,13 @@ ghost use Rattle.journal_lines.specs.Fields.{KeyedField};
 ghost use Rattle.journal_lines.specs.LentFields.{told_list};
 
 use super::kinds::{Field, FilterTest, KeyedField, NumberTest, TextListTest, TextTest};
-use super::words::{condition_word, kind_of_owner, most_retries, owner_number, policy_word};
+use super::words::{
+    condition_word, kind_of_owner, most_retries, owner_number, policy_if_given, policy_word,
+    retries_if_given,
+};
 use engine_text::{
-    AttachAsk, Bytes, Call, CreateSpec, Filter, LogAsk, Owner, Pairs, Signal, Text, Until, Words,
+    AttachAsk, Bytes, Call, CreateSpec, Filter, LogAsk, Owner, Pairs, Policy, Signal, Text, Until,
+    Words,
 };
 
 /// What is made of the fields of a call.
@@ -79,6 +83,8 @@ fn create_fields<U: FieldsUse>(create: &CreateSpec, how: &U) -> U::Answer
     let policy = policy_word(create.policy);
     how.of(&[
         ("after", Field::SecondsOrNone(Some(create.stop_after))),
+        ("auto", Field::FlagIfSet(create.auto_remove)),
+        ("health", Field::CheckIfGiven(&create.health)),
         ("image", Field::Text(TextTest::Any, &create.image)),
         ("labels", Field::LabelPairs(&create.labels)),
         ("maximum", Field::NumberOrNone(NumberTest::Retries, most)),
@@ -149,6 +155,20 @@ fn rename_fields<'c, U: FieldsUse>(target: &'c Text, name: &'c Text, how: &U) ->
     how.of(&[
         ("name", Field::Text(TextTest::Name, name)),
         ("op", Field::Word("rename")),
+        ("ref", Field::Text(TextTest::Full, target)),
+    ])
+}
+
+// Those of an update.
+fn update_fields<U: FieldsUse>(target: &Text, policy: Option<Policy>, how: &U) -> U::Answer
+    ensures { U.gives how.now (table.fields_of (variant.Update target.now policy)) result }
+{
+    let most = retries_if_given(policy);
+    let word = policy_if_given(policy);
+    how.of(&[
+        ("maximum", Field::NumberOrNone(NumberTest::Retries, most)),
+        ("op", Field::Word("update")),
+        ("policy", Field::WordOrNone(word)),
         ("ref", Field::Text(TextTest::Full, target)),
     ])
 }
@@ -321,6 +341,7 @@ pub fn of_fields<U: FieldsUse>(call: &Call, how: &U) -> U::Answer
         } => stop_fields("restart", target, *wait, *signal, how),
         Call::Kill { target, signal } => kill_fields(target, *signal, how),
         Call::Rename { target, name } => rename_fields(target, name, how),
+        Call::Update { target, policy } => update_fields(target, *policy, how),
         Call::Remove { target, force } => remove_fields(target, *force, how),
         Call::Wait { target, until } => wait_fields(target, *until, how),
         Call::List { all, limit, filter } => list_fields(*all, *limit, filter, how),

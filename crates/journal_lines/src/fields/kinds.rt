@@ -1,5 +1,5 @@
 // The kinds of fields, lent by a call.
-use engine_text::{Bytes, Filter, Mounts, Pairs, Signal, Text, Words};
+use engine_text::{Bytes, Filter, HealthSpec, Mounts, Pairs, Signal, Text, Words};
 
 /// Which texts a request can give.
 #[derive(Clone, Copy, Drop)]
@@ -40,6 +40,7 @@ pub enum FilterTest {
 #[derive(Clone, Copy, Drop)]
 pub enum Field<'c> {
     Word(&'static str),
+    WordOrNone(Option<&'static str>),
     Text(TextTest, &'c Text),
     TextOrNone(TextTest, &'c Option<Text>),
     NumberOrNone(NumberTest, Option<u64>),
@@ -52,6 +53,8 @@ pub enum Field<'c> {
     MountList(&'c Mounts),
     FilterRows(FilterTest, &'c Filter),
     HexBytes(&'c Bytes),
+    FlagIfSet(bool),
+    CheckIfGiven(&'c Option<HealthSpec>),
 }
 
 /// A field behind its key.

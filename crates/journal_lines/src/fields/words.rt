@@ -1,5 +1,5 @@
 // The words and numbers of a field's own.
-ghost use Rattle.std.specs.Prelude.{◌≡◌};
+ghost use Rattle.std.specs.Prelude.{◌≡◌, option_copied, option_map};
 ghost use Rattle.machine_model.specs.State as machine;
 ghost use Rattle.api_json.specs.Container as container;
 ghost use Rattle.journal_lines.specs.CallFields as table;
@@ -25,6 +25,26 @@ pub fn most_retries(policy: Policy) -> u64
     match policy {
         Policy::OnFailure(most) => most as u64,
         Policy::No | Policy::Always | Policy::UnlessStopped => 0,
+    }
+}
+
+/// The name of a policy, if one is given.
+pub fn policy_if_given(policy: Option<Policy>) -> Option<&'static str>
+    ensures { option_copied result ≡ option_map container.policy_word policy }
+{
+    match policy {
+        None => None,
+        Some(policy) => Some(policy_word(policy)),
+    }
+}
+
+/// How often it is tried again at most, if one is given.
+pub fn retries_if_given(policy: Option<Policy>) -> Option<u64>
+    ensures { result ≡ option_map container.most_retries policy }
+{
+    match policy {
+        None => None,
+        Some(policy) => Some(most_retries(policy)),
     }
 }
 

@@ -5,7 +5,7 @@ ghost use Rattle.engine_text.specs.declared.call.Call.TheVariants as call;
 ghost use Rattle.journal_lines.specs.Reading.Parts.{Reads};
 ghost use Rattle.journal_lines.specs.Reading.Calls as spec;
 
-use super::create::create_in;
+use super::create::{create_in, policy_if_given};
 use super::execs::other_call;
 use super::filter::filter_at;
 use super::logs::{attach_in, logs_in};
@@ -94,6 +94,15 @@ fn rename_in(alloc: Global, value: &Value) -> Result<Call, LineFault>
     Ok(Call::Rename { target, name })
 }
 
+// An update.
+fn update_in(alloc: Global, value: &Value) -> Result<Call, LineFault>
+    ensures { Reads (spec.update_in (view value.now)) result }
+{
+    let target = text_at(alloc, value, "ref")?;
+    let policy = policy_if_given(value)?;
+    Ok(Call::Update { target, policy })
+}
+
 // A removal.
 fn remove_in(alloc: Global, value: &Value) -> Result<Call, LineFault>
     ensures { Reads (spec.remove_in (view value.now)) result }
@@ -164,6 +173,7 @@ fn named_call(alloc: Global, op: &str, value: &Value) -> Result<Call, LineFault>
         "pause" => pause_in(alloc, value),
         "unpause" => unpause_in(alloc, value),
         "rename" => rename_in(alloc, value),
+        "update" => update_in(alloc, value),
         "remove" => remove_in(alloc, value),
         _ => looking_call(alloc, op, value),
     }

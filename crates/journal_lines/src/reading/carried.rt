@@ -1,5 +1,5 @@
 // What the types of a call and a reply give: texts of UTF-8, numbers of 64 bits, bytes.
-ghost use Rattle.std.specs.Prelude.{◌≡◌, All, IfSome, IsUtf8};
+ghost use Rattle.std.specs.Prelude.{◌≡◌, All, IfSome, IsUtf8, length};
 ghost use Rattle.hex.specs.Hex.{IsBytes};
 ghost use Rattle.journal_lines.specs.CallFields as table;
 ghost use Rattle.journal_lines.specs.Fields as kind;
@@ -7,7 +7,7 @@ ghost use Rattle.journal_lines.specs.FitsTypes as spec;
 ghost use Rattle.journal_lines.specs.LentFields.{told_field, told_list};
 
 use crate::fields::{Field, FieldsUse, KeyedField, of_fields};
-use engine_text::{Bytes, Call, Entry, Reply, Signal, Text};
+use engine_text::{Bytes, Call, Entry, HealthSpec, Reply, Signal, Text};
 
 // Does nothing: its clause says that a number has 64 bits.
 fn word(number: u64)
@@ -35,6 +35,14 @@ fn each_byte(bytes: &[u8])
     ensures { IsBytes bytes.now }
 {
     let _ = bytes;
+}
+
+/// Does nothing: its clauses say what the type of a seed gives.
+pub fn seed_bytes(seed: &[u8; 32])
+    ensures bytes { IsBytes seed.now }
+    ensures long { length seed.now ≡ 32 }
+{
+    each_byte(seed.as_slice());
 }
 
 // Does nothing: its clause says that each is a byte.
@@ -84,6 +92,27 @@ fn signal_if_given(signal: Option<Signal>)
     }
 }
 
+// Does nothing: its clause says what the type of a health check gives.
+fn check_texts(check: &HealthSpec)
+    ensures { kind.CheckFitsType check.now }
+{
+    word(check.interval);
+    word(check.retries as u64);
+    word(check.start_period);
+    word(check.timeout);
+    check.words.utf8();
+}
+
+// Does nothing: its clause says what the type of a check, if it is given, gives.
+fn check_if_given(check: &Option<HealthSpec>)
+    ensures { IfSome check.now kind.CheckFitsType }
+{
+    match check {
+        None => {}
+        Some(check) => check_texts(check),
+    }
+}
+
 // Does nothing: its clause says what the type of a field gives.
 fn field_texts(field: &Field<'_>)
     ensures { kind.FieldFitsType (told_field field.now) }
@@ -102,6 +131,9 @@ fn field_texts(field: &Field<'_>)
         Field::MountList(mounts) => mounts.utf8(),
         Field::FilterRows(_, filter) => filter.utf8(),
         Field::HexBytes(fed) => bytes(fed),
+        Field::WordOrNone(_) => {}
+        Field::FlagIfSet(_) => {}
+        Field::CheckIfGiven(check) => check_if_given(check),
     }
 }
 

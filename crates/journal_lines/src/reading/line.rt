@@ -1,10 +1,11 @@
 // The entry of a line (own: one entry a line, so that a history can be replayed).
 ghost use Rattle.std.specs.Prelude.{◌≡◌, IfOk, IfErr};
 ghost use Rattle.serde_json.specs.View.{view};
-ghost use Rattle.journal_lines.specs.JournalLines.{journal_line};
+ghost use Rattle.journal_lines.specs.JournalLines.{IsFormat, format_of, journal_line};
 ghost use Rattle.journal_lines.specs.Line.{HasLine, IsLineFault, told_entry};
 ghost use Rattle.journal_lines.specs.Reading.Parts.{Reads};
 ghost use Rattle.journal_lines.specs.Reading.Entries as spec;
+ghost use Rattle.journal_lines.specs.declared.format.Format.{Format};
 ghost use Rattle.journal_lines.specs.declared.fault.LineFault.TheVariants as fault;
 
 use super::calls::call_in;
@@ -67,21 +68,31 @@ fn entry_in(alloc: Global, value: &Value) -> Result<Entry, LineFault>
     entry_with(alloc, conn, dues, moment, call, value)
 }
 
-/// Reads a line, with its line end: exactly what `write_line` writes is taken. A stream's reply is
-/// read as a journal's, since a line tells no more than where it begins.
-pub fn read_line(alloc: Global, line: &[u8]) -> Result<Entry, LineFault>
-    ensures taken { IfOk result (λ e. HasLine e × (journal_line e ≡ line.now)) }
-    ensures refused { IfErr result (λ e. IsLineFault line.now e) }
+// The entry that a line's bytes say.
+fn entry_of(alloc: Global, line: &[u8]) -> Result<Entry, LineFault>
+    ensures taken { IfOk result (λ e. spec.IsSaidBy line.now e) }
+    ensures refused { IfErr result (λ e. (format : Format) → IsLineFault format line.now e) }
 {
     let Some(value) = value_of_line(alloc, line)? else {
         return Err(LineFault::BadLine);
     };
-    let entry = entry_in(alloc, &value)?;
+    entry_in(alloc, &value)
+}
+
+/// Reads a line of format 1 or 2, with its line end: exactly what `write_line` writes is taken. A
+/// stream's reply is read as a journal's, since a line tells no more than where it begins.
+pub fn read_line(alloc: Global, line: &[u8], format: u8) -> Result<Entry, LineFault>
+    requires { IsFormat format }
+    ensures taken { IfOk result
+        (λ e. HasLine e × (journal_line (format_of format) e ≡ line.now)) }
+    ensures refused { IfErr result (λ e. IsLineFault (format_of format) line.now e) }
+{
+    let entry = entry_of(alloc, line)?;
     if !is_sound(&entry.call) {
         return Err(LineFault::BadLine);
     }
     entry_texts(&entry);
-    let again = line_of(alloc, &entry)?;
+    let again = line_of(alloc, &entry, format)?;
     if again.as_slice() != line {
         return Err(LineFault::BadLine);
     }
@@ -89,11 +100,12 @@ pub fn read_line(alloc: Global, line: &[u8]) -> Result<Entry, LineFault>
 }
 
 /// A law: an entry's line is read back as that entry; only memory can be wanting.
-pub fn law_line_reads_back(alloc: Global, entry: &Entry) -> Result<Entry, LineFault>
-    requires { HasLine (told_entry entry.now) }
+pub fn law_line_reads_back(alloc: Global, entry: &Entry, format: u8) -> Result<Entry, LineFault>
+    requires line { HasLine (told_entry entry.now) }
+    requires format { IsFormat format }
     ensures same { IfOk result (λ e. e ≡ told_entry entry.now) }
     ensures refused { IfErr result (λ e. e ≡ fault.NoMemory) }
 {
-    let line = write_line(alloc, entry)?;
-    read_line(alloc, line.as_slice())
+    let line = write_line(alloc, entry, format)?;
+    read_line(alloc, line.as_slice(), format)
 }

@@ -6,7 +6,7 @@ ghost use Rattle.journal_lines.specs.Fields.{is_field_sound};
 ghost use Rattle.journal_lines.specs.LentFields as lent;
 
 use crate::fields::{NumberTest, TextListTest, TextTest};
-use engine_text::{Bytes, Signal, Text, Words, is_name, is_volume_name};
+use engine_text::{Bytes, HealthSpec, Signal, Text, Words, is_name, is_volume_name};
 
 /// The greatest moment that a request can write, in milliseconds.
 const FAR: u64 = 9_999_999_999_999;
@@ -16,6 +16,9 @@ const MOST_RETRIES: u64 = 2_147_483_647;
 
 /// Counts are below this: they have at most nine digits.
 const TOO_MANY: u64 = 1_000_000_000;
+
+/// The longest time of a health check, in milliseconds.
+const HOUR: u64 = 3_600_000;
 
 /// The most bytes that a feed has.
 const MOST_BYTES: usize = 32_768;
@@ -123,6 +126,37 @@ pub fn are_words(test: TextListTest, words: &Words) -> bool
             [] => false,
             [_, ..] => true,
         },
+    }
+}
+
+// Whether it is a health check's time, which may be 0.
+fn is_span(milliseconds: u64) -> bool
+    ensures { result ≡ spec.is_span milliseconds }
+{
+    milliseconds <= HOUR
+}
+
+// Whether a request can give the check.
+fn is_health(check: &HealthSpec) -> bool
+    ensures { result ≡ spec.is_health check.now }
+{
+    are_words(TextListTest::Full, &check.words)
+        && 1 <= check.interval
+        && is_span(check.interval)
+        && 1 <= check.timeout
+        && is_span(check.timeout)
+        && is_span(check.start_period)
+        && 1 <= check.retries
+        && check.retries <= 1_000
+}
+
+/// Whether it can give the check, or none.
+pub fn is_health_if_given(check: &Option<HealthSpec>) -> bool
+    ensures { result ≡ spec.if_given spec.is_health check.now }
+{
+    match check {
+        None => true,
+        Some(check) => is_health(check),
     }
 }
 

@@ -6,8 +6,8 @@ ghost use Rattle.journal_lines.specs.Fields as spec;
 ghost use Rattle.journal_lines.specs.LentFields.{told_field, told_list};
 
 use super::bounds::{
-    are_fed, are_words, is_count_if_given, is_number_if_given, is_seconds_if_given,
-    is_signal_if_given, is_text, is_text_if_given,
+    are_fed, are_words, is_count_if_given, is_health_if_given, is_number_if_given,
+    is_seconds_if_given, is_signal_if_given, is_text, is_text_if_given,
 };
 use super::filters::is_filter;
 use super::mounts::are_mounts;
@@ -33,6 +33,9 @@ fn is_field_sound(field: &Field<'_>) -> bool
         Field::MountList(mounts) => are_mounts(mounts.as_slice()),
         Field::FilterRows(test, filter) => is_filter(test, filter.as_slice()),
         Field::HexBytes(bytes) => are_fed(bytes),
+        Field::WordOrNone(_) => true,
+        Field::FlagIfSet(_) => true,
+        Field::CheckIfGiven(check) => is_health_if_given(check),
     }
 }
 

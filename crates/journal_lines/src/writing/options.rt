@@ -1,13 +1,14 @@
 // Values that may be absent: null, where they are.
-ghost use Rattle.std.specs.Prelude.{◌≡◌, IfOk};
+ghost use Rattle.std.specs.Prelude.{◌≡◌, IfOk, option_copied};
 ghost use Rattle.std.specs.Option.{option_map_or};
 ghost use Rattle.serde_json.specs.Data.{null};
 ghost use Rattle.serde_json.specs.View.{view};
 ghost use Rattle.api_json.specs.Values.{text, natural, integer};
 ghost use Rattle.journal_lines.specs.CallFields.{signal_field};
-ghost use Rattle.journal_lines.specs.Fields.{field_value};
+ghost use Rattle.journal_lines.specs.Fields.{check_entry, field_value};
 
-use engine_text::{Signal, Text};
+use super::values::check_value;
+use engine_text::{HealthSpec, Signal, Text};
 use serde_json::Value;
 use std::alloc::{AllocError, Global};
 
@@ -18,6 +19,26 @@ pub fn text_or_null(alloc: Global, words: &Option<Text>) -> Result<Value, AllocE
     match words {
         None => Ok(Value::Null),
         Some(word) => Value::try_from_str(alloc, word.as_str()),
+    }
+}
+
+/// A word of the format's own, or null.
+pub fn word_or_null(alloc: Global, word: Option<&'static str>) -> Result<Value, AllocError>
+    ensures { IfOk result (λ v. view v ≡ option_map_or text (option_copied word.entry) null) }
+{
+    match word {
+        None => Ok(Value::Null),
+        Some(word) => Value::try_from_str(alloc, word),
+    }
+}
+
+/// A health check, or null.
+pub fn check_or_null(alloc: Global, check: &Option<HealthSpec>) -> Result<Value, AllocError>
+    ensures { IfOk result (λ v. view v ≡ option_map_or check_entry check.now null) }
+{
+    match check {
+        None => Ok(Value::Null),
+        Some(check) => check_value(alloc, check),
     }
 }
 

@@ -1,10 +1,10 @@
-// Texts, pairs and mounts as values.
+// Texts, pairs, mounts and health checks as values.
 ghost use Rattle.std.specs.Prelude.{◌≡◌, IfOk};
 ghost use Rattle.serde_json.specs.View.{view};
 ghost use Rattle.api_json.specs.Values.{text, list_of, pairs_object};
 ghost use Rattle.journal_lines.specs.Fields as spec;
 
-use engine_text::{Mount, Pair, Text};
+use engine_text::{HealthSpec, Mount, Pair, Text};
 use json_objects::Object;
 use serde_json::Value;
 use std::alloc::{AllocError, Global};
@@ -48,4 +48,18 @@ pub fn mounts_value(alloc: Global, mounts: &[Mount]) -> Result<Value, AllocError
         items.push(mount_value(alloc, mount)?)?;
     }
     Ok(Value::Array(items))
+}
+
+/// A health check.
+pub fn check_value(alloc: Global, check: &HealthSpec) -> Result<Value, AllocError>
+    ensures { IfOk result (λ v. view v ≡ spec.check_entry check.now) }
+{
+    let words = words_value(alloc, check.words.as_slice())?;
+    let object = Object::new(alloc)
+        .number(alloc, "interval", check.interval)?
+        .number(alloc, "retries", u64::from(check.retries))?
+        .number(alloc, "start", check.start_period)?
+        .number(alloc, "timeout", check.timeout)?
+        .with(alloc, "words", words)?;
+    Ok(object.value())
 }

@@ -1,6 +1,8 @@
 use Rattle.std.proofs.Common.{◌≡◌, ◌<◌, ◌+◌, ◌++◌, ℕ, List, length, length-append, None, sym, ap, subst, ◌∙◌, arith}
 use Rattle.machine_model.specs.State.{State}
+use Rattle.journal_lines.specs.JournalLines.{format_of}
 use Rattle.journal_lines.specs.Verdict.{IsVerdictFrom}
+use Rattle.journal_lines.specs.declared.format.Format.{Format}
 use Rattle.journal_lines.specs.declared.verdict.Verdict.TheVariants.{Legal, BadLine}
 use Rattle.history_replay.specs.Checking.{IsLineSaid}
 use Rattle.history_replay.proofs.VerdictLemmas.{said_on, no_line, first_some, some_text, at_end}
@@ -11,21 +13,22 @@ returns-in_default c =
     let s : State = c.lines.machine.memory.state in
     let text : List ℕ = c.lines.rest.now in
     c.lines.invariant.said (BadLine c.lines.line)
-    (no_line s c.lines.line text (some_text text (sym c.is_empty.ensures ∙ c.lines-test.true)) c.in_default.ensures.none)
+    (no_line (format_of c.args.format) s c.lines.line text (some_text text (sym c.is_empty.ensures ∙ c.lines-test.true)) c.in_default.ensures.none)
 
 pub lines-preserved : goal.lines-preserved
 lines-preserved c =
     let s : State = c.lines.machine.memory.state in
     let after : State = c.check_line.new.machine.memory.state in
     let n : ℕ = c.lines.line in
+    let format : Format = format_of c.args.format in
     let line : List ℕ = c.in-Some.bytes.now in
     let behind : List ℕ = c.in-Some.behind.now in
     let whole : line ++ behind ≡ c.lines.rest.now = c.in-Some.ensures.whole in
-    let said : IsLineSaid s n line after None = subst (IsLineSaid s n line after) c.in_default-2.is c.in_ok-verdict.ensures in
+    let said : IsLineSaid format s n line after None = subst (IsLineSaid format s n line after) c.in_default-2.is c.in_ok-verdict.ensures in
     let long : 0 < length line = first_some line c.in-Some.ensures.line in
     let all : length line + length behind ≡ length c.lines.rest.now = sym (length-append line behind) ∙ ap length whole in
     record {
-      said = λ v h. c.lines.invariant.said v (subst (λ l. IsVerdictFrom s n l v) whole (said_on s after n line behind v said h));
+      said = λ v h. c.lines.invariant.said v (subst (λ l. IsVerdictFrom format s n l v) whole (said_on format s after n line behind v said h));
       counted = omega (arith, c.lines.invariant.counted, long, all);
     }
 
@@ -34,4 +37,4 @@ returns c =
     let s : State = c.lines.machine.memory.state in
     let steps : ℕ = c.steps-steps.result in
     c.lines.invariant.said (Legal steps)
-    (at_end s c.lines.line c.lines.rest.now steps (sym c.is_empty.ensures ∙ c.lines-test.false) c.steps-steps.ensures)
+    (at_end (format_of c.args.format) s c.lines.line c.lines.rest.now steps (sym c.is_empty.ensures ∙ c.lines-test.false) c.steps-steps.ensures)

@@ -11,4 +11,4 @@ returns-in-Wrong c =
     let s : State = c.args.machine.now.memory.state in
     let e : Entry = c.args.entry.now in
     let wrong = subst (IsSaid s e c.check_entry.new.machine.memory.state) c.in-Wrong.is c.in_ok-check_entry.ensures in
-    λ rest. wrong_line s c.args.line e (journal_line e) rest c.in-Wrong.kept c.in-Wrong.found c.requires refl wrong
+    λ format rest. wrong_line format s c.args.line e (journal_line format e) rest c.in-Wrong.kept c.in-Wrong.found c.requires refl wrong

@@ -1,19 +1,21 @@
-use Rattle.std.proofs.Common.{ℕ, ℤ, List, [], ◌∷◌, codes, Some, true, subst, rules}
+use Rattle.std.proofs.Common.{ℕ, ℤ, List, [], ◌∷◌, codes, Some, true, nat_le, subst, rules}
 use Rattle.std.specs.Int.{w32}
 use Rattle.std.proofs.lemmas.Int.{to_z-of_z}
 use Rattle.api_json.specs.Container.{policy_word}
 use Rattle.engine_text.specs.declared.call.CreateSpec.{CreateSpec}
-use Rattle.journal_lines.specs.CallFields.{op_field, name_field, signal_field, retries_field}
-use Rattle.journal_lines.specs.Fields.{KeyedField, Word, TextOrNone, SecondsOrNone, Flag, TextList, LabelPairs, MountList}
+use Rattle.journal_lines.specs.CallFields.{op_field, name_field, signal_field}
+use Rattle.journal_lines.specs.Fields.{KeyedField, Word, TextOrNone, NumberOrNone, SecondsOrNone, Flag, TextList, LabelPairs, MountList, FlagIfSet, CheckIfGiven}
 use Rattle.journal_lines.proofs.fields.calls.create_fields.Goals as goal
 
 -- the fields of a create with these seconds, this greatest number of restarts and this name of its policy
 abbrev fields_with : CreateSpec → ℤ → ℕ → List ℕ → List KeyedField
 fields_with spec after most word =
     (codes "after", SecondsOrNone (Some after))
+    ∷ (codes "auto", FlagIfSet spec.auto_remove)
+    ∷ (codes "health", CheckIfGiven spec.health)
     ∷ (codes "image", TextOrNone (λ t. true) (Some spec.image))
     ∷ (codes "labels", LabelPairs spec.labels)
-    ∷ (codes "maximum", retries_field most)
+    ∷ (codes "maximum", NumberOrNone (λ n. nat_le n 2147483647) (Some most))
     ∷ (codes "mounts", MountList spec.mounts)
     ∷ (codes "name", name_field spec.name)
     ∷ (codes "once", Flag spec.stdin_once)

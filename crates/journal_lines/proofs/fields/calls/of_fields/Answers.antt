@@ -14,3 +14,7 @@ returns-in-VolumeInspect g c =
 pub returns-in-VolumeRemove : goal.returns-in-VolumeRemove
 returns-in-VolumeRemove g c =
     subst (λ (call : Call). g.U.FieldsUse.gives c.args.how.now (fields_of call) c.volume_fields-in-VolumeRemove.result) (sym c.in-VolumeRemove.is) c.volume_fields-in-VolumeRemove.ensures
+
+pub returns-in-Create : goal.returns-in-Create
+returns-in-Create g c =
+    subst (λ (call : Call). g.U.FieldsUse.gives c.args.how.now (fields_of call) c.create_fields.result) (sym c.in-Create.is) c.create_fields.ensures

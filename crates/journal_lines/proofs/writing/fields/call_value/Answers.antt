@@ -8,4 +8,4 @@ use Rattle.journal_lines.proofs.writing.fields.call_value.Goals as goal
 pub returns : goal.returns
 returns c =
     let call = c.args.call.now in
-    c.in_ok-value.ensures ∙ ap object (placed (fields_of call) (told call).1)
+    c.in_ok-value.ensures ∙ ap object (placed c.args.format (fields_of call) ((told call).1 c.args.format))
