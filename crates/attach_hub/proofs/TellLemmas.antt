@@ -1,5 +1,5 @@
 -- What was told of a stream, by the reply that gives it.
-use Rattle.std.proofs.Common.{◌≡◌, ◌<◌, ℕ, Bool, List, [], ◌++◌, true, false, if◌then◌else◌, Some, None, arith, refl}
+use Rattle.std.proofs.Common.{◌≡◌, ◌≤◌, ◌<◌, ℕ, Bool, List, [], ◌++◌, true, false, if◌then◌else◌, Some, None, arith, refl}
 use Rattle.std.specs.List.{last_or}
 use Rattle.engine_ports.specs.Clock.{ClockView}
 use Rattle.engine_text.specs.declared.reply.Reply.{Reply}
@@ -15,6 +15,7 @@ use Rattle.attach_hub.specs.Following.{CanFollow, IsTimed}
 use Rattle.attach_hub.specs.Streams.{PartSays, StandsIn, first_of}
 use Rattle.attach_hub.proofs.LogTellLemmas.{TellsLog, log_first, log_later, log_more, log_broken, log_told, log_gone, log_whole}
 use Rattle.attach_hub.proofs.EventTellLemmas.{TellsEvents, events_first, events_later, events_more, events_broken, events_gone, events_whole, events_came, events_told, events_wait}
+use Rattle.journal_lines.proofs.LineLemmas.{lines_count}
 use Rattle.attach_hub.proofs.JournalTellLemmas.{JournalSaid, TellsJournal, journal_broken, journal_either, journal_first, journal_later, journal_more, journal_whole}
 
 -- between two histories a body is what the stream had to that place
@@ -72,7 +73,9 @@ told_stands r ch a b body place t = absurd t
 pub told_timed : (r : Reply) (ch : Charter) (a b : List Step) (body old new ms : List ℕ) (place : ℕ) (v v' : ClockView) → Told r ch a b body place
     → Said r place P.UpToDate old new ms ch b → IsTimed r v v'
 told_timed (reply.JournalStream count) ch a b body old new ms place v v' t (below, (none, same)) =
-    let counted = t.counted in absurd (omega (arith, below, none, counted))
+    let counted = t.counted in
+    let many = lines_count ch b in
+    absurd (omega (arith, below, none, counted, many))
 told_timed r ch a b body old new ms place v v' t said = tt
 
 pub timed_same : (r : Reply) (v : ClockView) → IsTimed r v v
@@ -83,7 +86,7 @@ timed_same r v = tt
 
 -- a journal that isn't whole lacks a line
 abbrev pub IsShort : Reply → ℕ → Type 0
-IsShort (reply.JournalStream count) place = place < count
+IsShort (reply.JournalStream count) place = place ≤ count
 IsShort r place = Unit {0}
 
 abbrev NotWhole : Part → Type 0
@@ -186,7 +189,9 @@ ends_stopped (reply.LogStream spec) ch a b body old new ms place t said = log_to
 ends_stopped (reply.EventStream first until filters) ch a b body old new ms place t said =
     events_told ch first until filters a b said.handed body old new place t said.says
 ends_stopped (reply.JournalStream count) ch a b body old new ms place t (below, (none, same)) =
-    let counted = t.counted in absurd (omega (arith, below, none, counted))
+    let counted = t.counted in
+    let many = lines_count ch b in
+    absurd (omega (arith, below, none, counted, many))
 ends_stopped r ch a b body old new ms place t said = absurd t
 
 pub ends_failed : (r : Reply) (ch : Charter) (body : List ℕ) (a b : List Step) → EndsSo ch r F.WriteFault body a b

@@ -20,7 +20,7 @@ reply_of (Stream.Log spec) = LogStream spec.now
 reply_of (Stream.Events first until filter) = EventStream first until filter.now
 reply_of (Stream.Journal count) = JournalStream count
 
--- its first place: of a record of the log, or the number of an event or of an entry
+-- its first place: of a record of the log, the number of an event, or that of the journal's line
 abbrev pub first_of : Reply → ℕ
 first_of (LogStream spec) = spec.first
 first_of (EventStream first until filter) = first
@@ -37,10 +37,11 @@ PartSays (LogStream spec) handed place part old new ch h = LogSays (state_after 
 PartSays (EventStream first until filter) handed place part old new ch h = EventsSay ch h handed filter until place part old new
 PartSays reply handed place part old new ch h = ⊥
 
--- the stream of so many entries is whole behind the last of them, without a turn; before it the line of the next one is asked for
+-- the journal of so many entries has a line more, its header: it is whole behind the last, without a turn; before it the next line is
+-- asked for
 abbrev pub JournalPart : ℕ → ℕ → ℕ → Part → List ℕ → List ℕ → PassView → PassView → Type 0
-JournalPart k count place Whole old new p q = (count ≤ place) × (new ≡ old) × (q ≡ p)
-JournalPart k count place part old new p q = (place < count) × JournalTurn k place part old new p q
+JournalPart k count place Whole old new p q = (count < place) × (new ≡ old) × (q ≡ p)
+JournalPart k count place part old new p q = (place ≤ count) × JournalTurn k place part old new p q
 
 -- a part of it from a place on was asked for, and appended; no call was made. Of a log and of events the clock tells the moment, of the
 -- journal it isn't asked

@@ -42,7 +42,7 @@ fn first_of(stream: &Stream<'_>) -> u64
     }
 }
 
-/// The line of the journal's next entry, of so many; whole behind the last.
+/// The journal's next line, of the header and so many entries; whole behind the last.
 fn line_from<T: Turns>(
     turns: &mut T,
     alloc: Global,
@@ -55,7 +55,7 @@ fn line_from<T: Turns>(
     ensures { JournalPart conn count place result out.old.items out.new.items
         (T.pass turns.old) (T.pass turns.new) }
 {
-    if count <= place {
+    if count < place {
         return Part::Whole;
     }
     turns.journal_from(alloc, conn, place, out)
@@ -236,7 +236,7 @@ pub fn follow_events<W: Wait, T: Turns, K: Sink, C: Clock>(
     follow(rt, turns, alloc, conn, &stream, chunked, sink, clock)
 }
 
-/// Writes the lines of the journal's first entries, so many of them. The clock isn't asked for them.
+/// Writes the journal's header and the lines of its first entries, so many of them. The clock isn't asked for them.
 pub fn follow_journal<W: Wait, T: Turns, K: Sink, C: Clock>(
     rt: &W,
     turns: &mut T,

@@ -41,7 +41,7 @@ steps_left s u acts = let both = and_both (is_due s u) (has_steps s) acts in gri
 -- what was committed is the due step
 pub stepped : (o : Option Effect) (before after : MachineParts) → IsStepped o before after → after.memory.state ≡ (unwrap_or o (still before.memory.state)).state
 stepped None before after h = absurd h
-stepped (Some e) before after h = h
+stepped (Some e) before after h = h.0
 
 -- it lies at the clock or later
 pub due_later : (s s' : State) → IsConsistent s → IsLawful s Step.Due → s' ≡ after_step s Step.Due → s.clock ≤ s'.clock

@@ -1,51 +1,86 @@
--- The line of an entry of the journal, as it is told.
-use Rattle.std.proofs.Common.{◌≡◌, ◌≤◌, ◌<◌, ◌+◌, ℕ, zero, suc, List, [], ◌∷◌, ◌++◌, Some, None, refl, sym, ◌∙◌, ap, append-nil, arith, length, drop, take, subst}
-use Rattle.std.specs.Prelude.{All, slice_get}
+-- The lines of the journal, as they are told.
+use Rattle.std.proofs.Common.{◌≡◌, ◌≤◌, ◌<◌, ◌+◌, ◌-◌, ℕ, zero, suc, map, List, [], ◌∷◌, ◌++◌, Some, None, Result, Ok, Err, refl, sym, ◌∙◌, ap, append-nil, arith, length, drop, take, subst}
+use Rattle.std.specs.Prelude.{All, OnOk, slice_get}
 use Rattle.std.specs.List.{filter, flat_map}
 use Rattle.std.proofs.lemmas.Bool.{false≢true}
 use Rattle.std.proofs.lemmas.Option.{slice_get_within}
 use Rattle.engine_text.specs.declared.entry.Entry.{Entry}
+use Rattle.engine_text.specs.declared.memory.NoMemory.{NoMemory}
 use Rattle.engine_text.specs.declared.step.Step.{Step}
 use Rattle.journal_lines.specs.KeptJournal.{KeptJournal}
 use Rattle.journal_lines.specs.FitsTypes.{EntryFitsTypes}
 use Rattle.machine_model.specs.History.{Charter, IsLegal}
 use Rattle.journal_lines.specs.Entries.{history_entries}
-use Rattle.journal_lines.specs.JournalLines.{journal_line}
+use Rattle.journal_lines.specs.JournalLines.{header_line, journal_line, lines_of}
+use Rattle.journal_lines.specs.declared.format.Format.TheVariants.{Second}
+use Rattle.journal_lines.proofs.LineLemmas.{joined, lines_count}
 use Rattle.session_model.specs.declared.turned.Part.{Part}
 use Rattle.session_model.specs.declared.turned.Part.TheVariants as P
-use Rattle.daemon_core.specs.JournalTurns.{JournalSays, JournalTurn, entry_lines}
+use Rattle.daemon_core.specs.JournalTurns.{JournalSays, JournalTurn, told_lines}
 use Rattle.daemon_core.specs.Keeping.{history_of, told_entries}
 use Rattle.daemon_core.specs.Storing.{is_call, pass_of}
 use Rattle.daemon_core.proofs.KeepLemmas.{HasEntries}
 
--- ---- one entry
+-- ---- one line
 
-one_at : (es : List Entry) (n : ℕ) (e : Entry) → slice_get es n ≡ Some e → drop n (take (suc n) es) ≡ e ∷ []
-one_at [] n e is = let never : ⊥ = cc in absurd never
-one_at (x ∷ es) zero e is = let same : x ≡ e = cc in ap (λ y. y ∷ []) same
-one_at (x ∷ es) (suc n) e is = one_at es n e is
+one_at : {A : Type 0} (xs : List A) (n : ℕ) (x : A) → slice_get xs n ≡ Some x → drop n (take (suc n) xs) ≡ x ∷ []
+one_at [] n x is = let never : ⊥ = cc in absurd never
+one_at (y ∷ xs) zero x is = let same : y ≡ x = cc in ap (λ z. z ∷ []) same
+one_at (y ∷ xs) (suc n) x is = one_at xs n x is
 
--- its line
+line_of : (es : List Entry) (n : ℕ) (e : Entry) → slice_get es n ≡ Some e → slice_get (map (journal_line Second) es) n ≡ Some (journal_line Second e)
+line_of [] n e is = let never : ⊥ = cc in absurd never
+line_of (x ∷ es) zero e is = let same : x ≡ e = cc in ap (λ y. Some (journal_line Second y)) same
+line_of (x ∷ es) (suc n) e is = line_of es n e is
+
+-- the header is line 0
+told_header : (ch : Charter) (h : List Step) → header_line ch.seed ch.opening ≡ told_lines ch h 0 (0 + 1)
+told_header ch h = sym (append-nil (header_line ch.seed ch.opening))
+
+-- and the line behind a number that of the entry of that number
 line_at : (ch : Charter) (h : List Step) (n : ℕ) (e : Entry) → slice_get (history_entries ch h) n ≡ Some e
-    → entry_lines ch h n (n + 1) ≡ journal_line e
+    → journal_line Second e ≡ told_lines ch h (suc n) (suc (suc n))
 line_at ch h n e is =
-    let next : n + 1 ≡ suc n = omega arith in
-    ap (λ m. entry_lines ch h n m) next ∙ ap (flat_map journal_line) (one_at (history_entries ch h) n e is) ∙ append-nil (journal_line e)
+    sym (ap joined (one_at (map (journal_line Second) (history_entries ch h)) n (journal_line Second e) (line_of (history_entries ch h) n e is))
+    ∙ append-nil (journal_line Second e))
 
--- it was appended
-pub told_line : (ch : Charter) (j : KeptJournal) (n : ℕ) (e : Entry) (old new : List ℕ) → HasEntries ch j → slice_get j.entries n ≡ Some e
-    → new ≡ old ++ journal_line e → JournalSays ch (history_of j) n (P.More (n + 1)) old new
+told_line : (ch : Charter) (j : KeptJournal) (number : ℕ) (e : Entry) → HasEntries ch j → 0 < number → slice_get j.entries (number - 1) ≡ Some e
+    → journal_line Second e ≡ told_lines ch (history_of j) number (number + 1)
 unfolding told_entries
-told_line ch j n e old new has is told =
-    let at : slice_get (history_entries ch (history_of j)) n ≡ Some e = ap (λ es. slice_get es n) (sym has) ∙ is in
-    let below = slice_get_within (history_entries ch (history_of j)) n e at in
-    (refl, omega (arith, below), told ∙ ap (λ y. old ++ y) (sym (line_at ch (history_of j) n e at)))
+told_line ch j number e has some is =
+    let at : slice_get (history_entries ch (history_of j)) (number - 1) ≡ Some e = ap (λ es. slice_get es (number - 1)) (sym has) ∙ is in
+    let here : suc (number - 1) ≡ number = omega (arith, some) in
+    let next : suc number ≡ number + 1 = omega arith in
+    line_at ch (history_of j) (number - 1) e at ∙ ap (λ m. told_lines ch (history_of j) m (suc m)) here
+    ∙ ap (λ m. told_lines ch (history_of j) number m) next
+
+-- so it is appended
+pub header_told : (ch : Charter) (h : List Step) (number : ℕ) (old new : List ℕ) (r : Result (Unit {0}) NoMemory) → number ≡ 0
+    → OnOk r (new ≡ old ++ header_line ch.seed ch.opening) → OnOk r (new ≡ old ++ told_lines ch h number (number + 1))
+header_told ch h number old new (Ok x) is grown =
+    grown ∙ ap (λ y. old ++ y) (told_header ch h) ∙ ap (λ n. old ++ told_lines ch h n (n + 1)) (sym is)
+header_told ch h number old new (Err e) is grown = tt
+
+pub line_told : (ch : Charter) (j : KeptJournal) (number : ℕ) (e : Entry) (old new : List ℕ) (r : Result (Unit {0}) NoMemory) → HasEntries ch j
+    → (number ≡ 0 → ⊥) → slice_get j.entries (number - 1) ≡ Some e → OnOk r (new ≡ old ++ journal_line Second e)
+    → OnOk r (new ≡ old ++ told_lines ch (history_of j) number (number + 1))
+line_told ch j number e old new (Ok x) has some is grown = grown ∙ ap (λ y. old ++ y) (told_line ch j number e has (omega (arith, some)) is)
+line_told ch j number e old new (Err x) has some is grown = tt
+
+-- there are as many, and the header
+lines_kept : (ch : Charter) (j : KeptJournal) → HasEntries ch j → length (lines_of ch (history_of j)) ≡ length j.entries + 1
+unfolding told_entries
+lines_kept ch j has = lines_count ch (history_of j) ∙ ap (λ es. length es + 1) (sym has)
+
+-- one was appended
+pub told_more : (ch : Charter) (j : KeptJournal) (n : ℕ) (old new : List ℕ) → HasEntries ch j → n ≤ length j.entries
+    → new ≡ old ++ told_lines ch (history_of j) n (n + 1) → JournalSays ch (history_of j) n (P.More (n + 1)) old new
+told_more ch j n old new has le told = let count = lines_kept ch j has in (refl, omega (arith, count, le), told)
 
 -- there is none of that number
-pub told_last : (ch : Charter) (j : KeptJournal) (n : ℕ) (out : List ℕ) → HasEntries ch j → length j.entries ≤ n
+pub told_last : (ch : Charter) (j : KeptJournal) (n : ℕ) (out : List ℕ) → HasEntries ch j → length j.entries < n
     → JournalSays ch (history_of j) n P.UpToDate out out
-unfolding told_entries
-told_last ch j n out has le = let count = ap length has in (omega (arith, count, le), refl)
+told_last ch j n out has below = let count = lines_kept ch j has in (omega (arith, count, below), refl)
 
 -- there is one of each number below their count
 found_by : (es : List Entry) (n : ℕ) → slice_get es n ≡ None → length es ≤ n

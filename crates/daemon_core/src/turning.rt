@@ -59,7 +59,7 @@ pub trait Turns: Sized {
         ensures { EventTurn conn handed filter.now until number result out.old.items out.new.items
             (pass self.old) (pass self.new) };
 
-    /// A part of the journal, as the history stands: the line of the entry of that number, counted from 0, is
+    /// A part of the journal, as the history stands: the line of that number, the header being line 0, is
     /// appended. No step is made, and no moment counts. At every other answer `out` is as before.
     fn journal_from(&mut self, alloc: Global, conn: u32, number: u64, out: &mut Vec<u8>) -> Part
         requires number { IsNumber (pass self.old).number conn }

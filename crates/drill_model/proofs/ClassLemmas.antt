@@ -59,6 +59,7 @@ by_route to.Kill a none = by_ask _
 by_route to.Pause a none = tt
 by_route to.Unpause a none = tt
 by_route to.Rename a none = by_ask _
+by_route to.Update a none = by_ask _
 by_route to.Wait a none = by_ask _
 by_route to.Remove a none = by_ask _
 by_route to.Logs a none = let never : ⊥ = cc in absurd never

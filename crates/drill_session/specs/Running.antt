@@ -7,6 +7,7 @@ use Rattle.engine_text.specs.declared.memory.NoMemory.{NoMemory}
 use Rattle.engine_text.specs.declared.step.Step.{Step}
 use Rattle.machine_model.specs.History.{Charter, events_of, state_after}
 use Rattle.journal_lines.specs.Verdict.{IsVerdict}
+use Rattle.journal_lines.specs.declared.format.Format.TheVariants.{Second}
 use Rattle.journal_lines.specs.declared.verdict.Verdict.{Verdict}
 use Rattle.journal_lines.specs.declared.verdict.Verdict.TheVariants.{Legal}
 use Rattle.history_replay.specs.Legal.{journal_of, steps_told}
@@ -43,7 +44,7 @@ pub record IsReport (ch : Charter) (requests : ℕ) (written : List ℕ) (h : Li
   pub answered : HaveStatuses written statuses
   -- what is said of the history's whole journal: it is legal, with the steps up to the last call
   pub verdict : Verdict
-  pub judged : IsVerdict ch (journal_of ch h) verdict
+  pub judged : IsVerdict ch (journal_of Second ch h) verdict
   pub legal : verdict ≡ Legal (steps_told ch h)
   pub text_is : text ≡ report_by requests (counts_of statuses) (length (events_of ch h)) (length (state_after ch h).containers) verdict
 

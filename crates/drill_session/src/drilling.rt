@@ -15,6 +15,7 @@ use engine_ports::{Clock, MemSink, Sink};
 use engine_serve::{Ending, serve};
 use engine_text::{NoMemory, Text};
 use history_replay::{check, law_complete, law_one_verdict};
+use journal_lines::seed_bytes;
 use std::alloc::Global;
 use std::sync::Wait;
 use std::thread::Threads;
@@ -29,6 +30,7 @@ fn report_of(alloc: Global, daemon: &Daemon, drill: Drill, written: &[u8]) -> Re
     law_complete();
     law_one_verdict();
     daemon.texts();
+    seed_bytes(&drill.seed);
     let journal = journal_text(alloc, daemon)?;
     let verdict = check(alloc, &journal, drill.seed, drill.opening)?;
     let counts = tally(alloc, written)?;

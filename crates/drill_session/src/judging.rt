@@ -1,6 +1,7 @@
 // The journal of a drill, judged.
 ghost use Rattle.std.specs.Prelude.{◌≡◌, IfOk};
 ghost use Rattle.history_replay.specs.Legal.{journal_of};
+ghost use Rattle.journal_lines.specs.declared.format.Format.TheVariants.{Second};
 ghost use Rattle.daemon_core.specs.Keeping.{history_of};
 ghost use Rattle.daemon_core.specs.Passing.{charter};
 
@@ -12,7 +13,8 @@ use std::alloc::Global;
 /// The whole journal of a daemon.
 pub fn journal_text(alloc: Global, daemon: &Daemon) -> Result<Vec<u8>, NoMemory>
     ensures { IfOk result
-        (λ v. v.items ≡ journal_of (charter daemon.now) (history_of daemon.now.stored.journal)) }
+        (λ v. v.items
+        ≡ journal_of Second (charter daemon.now) (history_of daemon.now.stored.journal)) }
 {
     let mut text = Vec::new(alloc);
     let mut number = 0;

@@ -1,7 +1,6 @@
 use Rattle.std.proofs.Common.{arith, ◌≡◌, ◌⊎◌, inl, inr, ◌++◌, ◌∙◌, ℕ, List, take, drop, subst, sym}
-use Rattle.std.specs.List.{flat_map}
-use Rattle.journal_lines.specs.Entries.{history_entries}
-use Rattle.journal_lines.specs.JournalLines.{journal_line}
+use Rattle.journal_lines.specs.JournalLines.{lines_of}
+use Rattle.journal_lines.proofs.LineLemmas.{joined, all_lines as joined_all}
 use Rattle.session_model.specs.declared.turned.Part.{Part}
 use Rattle.session_model.specs.declared.turned.Part.TheVariants.{Whole, Gone}
 use Rattle.daemon_core.specs.JournalTurns.{JournalSays}
@@ -15,13 +14,13 @@ lines-init c = (c.new-text.ensures.items, omega arith)
 
 pub lines-preserved : goal.lines-preserved
 lines-preserved c =
-    let entries = history_entries (charter c.args.daemon.now) (history_of c.args.daemon.now.stored.journal) in
+    let lines = lines_of (charter c.args.daemon.now) (history_of c.args.daemon.now.stored.journal) in
     let n : ℕ = c.lines.number in
     let old : List ℕ = c.lines.text.items in
     let new : List ℕ = c.journal_from.new.out.items in
     let says = (c.in-More.ensures 0).says in (
-      subst (λ (m : ℕ). new ≡ flat_map journal_line (take m entries)) (sym says.0)
-          (one_line entries n old new c.lines.invariant.0 (subst (λ (m : ℕ). new ≡ old ++ flat_map journal_line (drop n (take m entries))) says.0 says.2)),
+      subst (λ (m : ℕ). new ≡ joined (take m lines)) (sym says.0)
+          (one_line lines n old new c.lines.invariant.0 (subst (λ (m : ℕ). new ≡ old ++ joined (drop n (take m lines))) says.0 says.2)),
       says.1,
     )
 
@@ -30,9 +29,10 @@ lines-smaller c = let says = (c.in-More.ensures 0).says in omega (arith, says.0,
 
 pub returns-in-UpToDate : goal.returns-in-UpToDate
 returns-in-UpToDate c =
-    let entries = history_entries (charter c.args.daemon.now) (history_of c.args.daemon.now.stored.journal) in
+    let lines = lines_of (charter c.args.daemon.now) (history_of c.args.daemon.now.stored.journal) in
     let says = (c.in-UpToDate.ensures 0).says in
-    says.1 ∙ all_lines entries c.lines.number c.lines.text.items c.lines.invariant.0 says.0
+    says.1 ∙ all_lines lines c.lines.number c.lines.text.items c.lines.invariant.0 says.0
+    ∙ joined_all (charter c.args.daemon.now) (history_of c.args.daemon.now.stored.journal)
 
 -- a part of the journal is never whole, and never gone
 pub unreachable-requires : goal.unreachable-requires
