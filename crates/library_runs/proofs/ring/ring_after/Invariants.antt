@@ -1,5 +1,0 @@
-use Rattle.std.proofs.Common.{◌≡◌}
-use Rattle.library_runs.proofs.ring.ring_after.Given as goal
-
-abbrev pub invariant-events : goal.invariant-events
-invariant-events l = l.ring.count ≡ l.moment
