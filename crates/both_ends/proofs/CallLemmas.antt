@@ -16,6 +16,7 @@ use Rattle.engine_text.specs.declared.mounts.Mount.{Mount}
 use Rattle.engine_text.specs.declared.owner.Owner.{Owner}
 use Rattle.engine_text.specs.declared.owner.Owner.TheVariants.{Container as OfContainer, Exec as OfExec}
 use Rattle.engine_text.specs.declared.pairs.Pair.{Pair}
+use Rattle.engine_text.specs.declared.policy.Policy.{Policy}
 use Rattle.engine_text.specs.declared.signal.Signal.{Signal}
 use Rattle.engine_text.specs.declared.status.Status.{Status}
 use Rattle.engine_text.specs.declared.ticket.Asked.{Asked}
@@ -44,6 +45,7 @@ use Rattle.machine_model.specs.Calls.Kill as kill
 use Rattle.machine_model.specs.Calls.Pause as pause
 use Rattle.machine_model.specs.Calls.Unpause as unpause
 use Rattle.machine_model.specs.Calls.Rename as rename
+use Rattle.machine_model.specs.Calls.Update as update
 use Rattle.machine_model.specs.Calls.Remove as remove
 use Rattle.machine_model.specs.Calls.ExecCreate as exec_create
 use Rattle.machine_model.specs.Calls.ExecCreate.{if_running}
@@ -107,6 +109,10 @@ module _ {n : ℕ} where
       (keeps_change (change_container c.number (rename.named name))
       (λ s h. (h.0, all_updated IsLow (λ d. d.number == c.number) (rename.named name) (λ d k. k) s.containers h.1, h.2, h.3)))
       (keeps_tell (rename_event c.name) c.number)
+
+  keeps_update : (policy : Option Policy) (c : Container) → Keeps n (update.update policy c)
+  keeps_update policy c =
+      keeps_then (keeps_renew c.number (update.governed policy) (λ l k. k)) (keeps_tell (plain_event action.Update) c.number)
 
   lives_by : (b : Bool) (m : ℕ) → Keeps n (remove.if_it_lives b m)
   lives_by false m = keeps_still
@@ -264,6 +270,19 @@ module _ (n : ℕ) (s : State) (h : Holds n s) (lives : AllByRecursion LifeInRan
   rename_by name Status.Removing c = idle
   rename_by name Status.Dead c = idle
 
+  update_excluded : (b : Bool) (policy : Option Policy) (c : Container) → Leaves (update.by_excluded b policy c s)
+  update_excluded true policy c = idle
+  update_excluded false policy c = does (keeps_update policy c)
+
+  update_by : (policy : Option Policy) (u : Status) (c : Container) → Leaves (update.by_status u policy c s)
+  update_by policy Status.Created c = update_excluded (update.is_excluded c.life.auto_remove policy) policy c
+  update_by policy Status.Running c = update_excluded (update.is_excluded c.life.auto_remove policy) policy c
+  update_by policy Status.Paused c = update_excluded (update.is_excluded c.life.auto_remove policy) policy c
+  update_by policy Status.Restarting c = update_excluded (update.is_excluded c.life.auto_remove policy) policy c
+  update_by policy Status.Exited c = update_excluded (update.is_excluded c.life.auto_remove policy) policy c
+  update_by policy Status.Removing c = idle
+  update_by policy Status.Dead c = idle
+
   removes : (force : Bool) (connection : ℕ) (c : Container) → Leaves (remove.remove_running force connection c s)
   removes true connection c = ticketed connection c Asked.Remove (keeps_removal c.number)
   removes false connection c = idle
@@ -357,6 +376,8 @@ module _ (n : ℕ) (s : State) (h : Holds n s) (lives : AllByRecursion LifeInRan
   call_leaves (Call.Unpause target) connection sound = at target (λ c. unpause.by_status c.life.status c) (λ c found. unpause_by c.life.status c)
   call_leaves (Call.Rename target name) connection sound =
       at target (λ c. rename.by_status c.life.status (without_slash name) c) (λ c found. rename_by (without_slash name) c.life.status c)
+  call_leaves (Call.Update target policy) connection sound =
+      at target (λ c. update.by_status c.life.status policy c) (λ c found. update_by policy c.life.status c)
   call_leaves (Call.Remove target force) connection sound =
       at target (λ c. remove.by_status c.life.status force connection c) (λ c found. remove_by connection force c.life.status c)
   call_leaves (Call.Wait target until) connection sound =

@@ -35,7 +35,7 @@ use Rattle.machine_model.specs.Effects.Launch.{launch_program, launch, launch_by
 use Rattle.machine_model.specs.Effects.Destroy.{waited, last_reply, answered, answer, last_answer, destroy, without}
 use Rattle.machine_model.specs.Effects.Cancel.{cancel_restart, cancelled}
 use Rattle.machine_model.specs.Effects.Halt.{set_deadline, halt}
-use Rattle.machine_model.specs.Effects.EndMain.{end_exec, end_execs, exec_ended, ended, die, clear_deadlines, exited, no_goal, restarting, follow, decision_at, by_goal, by_status, end_main}
+use Rattle.machine_model.specs.Effects.EndMain.{end_exec, end_execs, exec_ended, ended, die, clear_deadlines, exited, no_goal, restarting, removed_if, follow, decision_at, by_goal, by_status, end_main}
 use Rattle.machine_model.specs.Effects.Meet.{by_effect, stepped, step_process, put_output, logged, running, thaw_execs, wake_parts, thaw_container, send, woken, meet_signal}
 use Rattle.machine_model.proofs.ListLemmas.{all_append}
 use Rattle.machine_model.proofs.ChangeLemmas.{all_updated, all_removed}
@@ -217,18 +217,26 @@ module _ {n : ℕ} where
     );
   }
 
-  keeps_follow : (d : Decision) (m : ℕ) → Keeps n (follow d m)
-  keeps_follow Stay m = keeps_renew m exited (λ l k. k)
-  keeps_follow (Again delay) m =
+  keeps_removed_if : (auto : Bool) (m : ℕ) → Keeps n (removed_if auto m)
+  keeps_removed_if true m = keeps_destroy m
+  keeps_removed_if false m = keeps_still
+
+  keeps_follow : (d : Decision) (auto : Bool) (m : ℕ) → Keeps n (follow d auto m)
+  keeps_follow Stay auto m = keeps_then (keeps_renew m exited (λ l k. k)) (keeps_removed_if auto m)
+  keeps_follow (Again delay) auto m =
       keeps_then (keeps_renew m (restarting delay) (λ l k. k)) (keeps_change (λ s. set_timer 3 m (s.clock + delay) s) (λ s h. h))
 
   keeps_goal : (g : Goal) (c : Container) → Keeps n (by_goal g c)
   keeps_goal Goal.Remove c = keeps_destroy c.number
-  keeps_goal Goal.Stop c = keeps_then (keeps_renew c.number exited (λ l k. k)) (keeps_tell (plain_event action.Stop) c.number)
+  keeps_goal Goal.Stop c =
+      keeps_then (keeps_renew c.number exited (λ l k. k))
+      (keeps_then (keeps_tell (plain_event action.Stop) c.number) (keeps_removed_if c.life.auto_remove c.number))
   keeps_goal Goal.Restart c =
       keeps_then (keeps_tell (plain_event action.Stop) c.number)
       (keeps_then (keeps_launch_by_call c.number) (keeps_tell (plain_event action.Restart) c.number))
-  keeps_goal Goal.None c = keeps_at (λ s. follow (decision_at s.clock c.life) c.number) (λ s. keeps_follow (decision_at s.clock c.life) c.number)
+  keeps_goal Goal.None c =
+      keeps_at (λ s. follow (decision_at s.clock c.life) c.life.auto_remove c.number)
+      (λ s. keeps_follow (decision_at s.clock c.life) c.life.auto_remove c.number)
 
   keeps_status : (u : Status) (c : Container) → Keeps n (by_status u c)
   keeps_status Status.Dead c = keeps_still

@@ -24,17 +24,19 @@ use Rattle.api_routes.specs.declared.fault.Fault.{Fault}
 use Rattle.api_routes.specs.declared.route.Route.TheVariants as to
 use Rattle.client_model.specs.declared.manner.Manner.TheVariants.{Closes}
 use Rattle.client_model.specs.declared.command.NewContainer.{NewContainer}
+use Rattle.client_model.specs.declared.command.Restart.{Restart}
 use Rattle.client_model.specs.Requests.{key_if}
 use Rattle.client_model.specs.Commands.Container.{container_data, create_request}
 use Rattle.client_model.specs.Commands.Exec.{exec_data, exec_create_request}
 use Rattle.client_model.specs.Commands.VolumeCreate.{volume_data, volume_create_request}
+use Rattle.client_model.specs.Commands.Update.{update_data, update_request}
 use Rattle.client_laws.specs.Classes as class
 use Rattle.client_laws.specs.Classes.{Meaning, by_name, policy_in, container_spec}
-use Rattle.client_laws.proofs.CommandTexts.{IsContainer}
+use Rattle.client_laws.proofs.CommandTexts.{IsRestart, IsContainer}
 use Rattle.client_laws.proofs.FormLemmas.{given}
-use Rattle.client_laws.proofs.RowLemmas.{named-class, worded-class, exec-create-row}
+use Rattle.client_laws.proofs.RowLemmas.{named-class, worded-class, exec-create-row, update-row}
 use Rattle.client_laws.proofs.ClassLemmas.{looked-up, literal, key-if-texts}
-use Rattle.client_laws.proofs.BodyLemmas.{volume-read, exec-read, create-read}
+use Rattle.client_laws.proofs.BodyLemmas.{volume-read, exec-read, create-read, update-read}
 
 -- what a body says, read a step further
 body-then : {A B C : Type 0} (r : Result A BodyFault) (f : A → B) (g : B → Result C Fault)
@@ -52,6 +54,14 @@ volume-create-class name utf8 =
     worded-class (codes "POST") Closes (codes "volumes") (codes "create") [] (compact_text (volume_data name)) to.VolumeCreate refl (literal (codes "create") refl)
     ∙ ap (λ r. or_refusal (ask (and_then (of_body r) (λ volume. Ok (call.VolumeCreate volume.name volume.labels))))) (volume-read name utf8)
     ∙ ap (λ r. or_refusal (ask r)) (body-then (volume_named name) named_volume (λ volume. Ok (call.VolumeCreate volume.name volume.labels)))
+
+-- ---- update
+
+pub update-class : (target : List ℕ) (restart : Restart) → All IsByte target → IsRestart restart
+    → class_of (update_request target restart) ≡ or_refusal (class.update target restart)
+update-class target restart bytes h =
+    named-class (codes "POST") Closes (codes "containers") (codes "update" ∷ []) [] (compact_text (update_data restart)) to.Update target update-row bytes
+    ∙ ap (λ r. or_refusal (by_name target (ask (and_then (of_body r) (λ policy. Ok (call.Update target policy)))))) (update-read restart h)
 
 -- ---- exec create
 

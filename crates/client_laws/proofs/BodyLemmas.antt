@@ -1,5 +1,5 @@
 -- What the daemon reads of the client's bodies (RFC 8259; Docker Engine API v1.43, ContainerCreate, ContainerExec, VolumeCreate).
-use Rattle.std.proofs.Common.{◌≡◌, ℕ, ◌^◌, Bool, true, false, List, [], cond, codes, IsUtf8, Option, Some, None, Result, Ok, Err, refl, ap, ◌∙◌, arith}
+use Rattle.std.proofs.Common.{◌≡◌, ℕ, suc, ◌^◌, Bool, true, false, List, [], cond, codes, IsUtf8, Option, Some, None, Result, Ok, Err, refl, ap, ◌∙◌, arith}
 use Rattle.std.specs.Prelude.{pos, unwrap_or, IfSome}
 use Rattle.std.proofs.lemmas.Bool.{lt-ltb}
 use Rattle.serde_json.specs.Data.{Data, object, Members, no_members}
@@ -23,6 +23,7 @@ use Rattle.api_json.specs.HostConfig.{policy_in as policy_read}
 use Rattle.api_json.specs.MountForms.{add_binds, mounts_of}
 use Rattle.api_json.specs.ExecCreate.{exec_of, exec_in, exec_start_of, not_empty}
 use Rattle.api_json.specs.VolumeCreate.{volume_of, volume_in, volume_named}
+use Rattle.api_json.specs.Update.{update_of, update_in, given_policy}
 use Rattle.api_json.specs.declared.host_config.Host.{Host}
 use Rattle.api_json.specs.declared.fault.BodyKey.TheVariants as Key
 use Rattle.api_json.specs.declared.fault.BodyFault.{BodyFault}
@@ -30,6 +31,7 @@ use Rattle.api_json.specs.declared.fault.BodyFault.TheVariants.{BadField}
 use Rattle.client_model.specs.Commands.Container.{container_data, host_data, policy_data, restart_of}
 use Rattle.client_model.specs.Commands.Exec.{exec_data}
 use Rattle.client_model.specs.Commands.VolumeCreate.{volume_data}
+use Rattle.client_model.specs.Commands.Update.{update_data}
 use Rattle.client_model.specs.declared.command.NewContainer.{NewContainer}
 use Rattle.client_model.specs.declared.command.Restart.{Restart}
 use Rattle.client_laws.specs.Classes.{policy_in, container_spec}
@@ -86,9 +88,13 @@ exec-start-read = refl
 abbrev no_restart : Restart
 no_restart = restart_of (codes "no") 0
 
+restart-sound : (n : ℕ) (restart : Restart) → IsRestart restart → IsSound (suc n) (policy_data restart)
+restart-sound n restart h =
+    object-sound n (inside (policy_data restart)) refl (unsigned-sound n restart.most (omega (arith, h.1)), (string-sound n restart.policy h.0, tt))
+
 policy-sound : (restart : Option Restart) → IfSome restart IsRestart → IsSound 125 (policy_data (unwrap_or restart no_restart))
 policy-sound None h = object-sound 124 (inside (policy_data no_restart)) refl (unsigned-sound 124 0 (omega arith), (ascii-sound 124 _ refl, tt))
-policy-sound (Some restart) h = object-sound 124 (inside (policy_data restart)) refl (unsigned-sound 124 restart.most (omega (arith, h.1)), (string-sound 124 restart.policy h.0, tt))
+policy-sound (Some restart) h = restart-sound 124 restart h
 
 host-sound : (c : NewContainer) → IsContainer c → IsSound 126 (host_data c)
 host-sound c h = object-sound 125 (inside (host_data c)) refl (words-sound 124 c.binds h.2, (policy-sound c.restart h.1, tt))
@@ -110,8 +116,9 @@ policy-told None h = refl
 policy-told (Some restart) h =
     ap (λ b. policy_or_fault (read_policy restart.policy (pos (cond b restart.most 9223372036854775807)))) (lt-ltb restart.most (2 ^ 63) (omega (arith, h.1)))
 
+-- it isn't removed by itself
 abbrev told_host : List Mount → Policy → Host
-told_host mounts policy = record { mounts = mounts; policy = policy }
+told_host mounts policy = record { mounts = mounts; policy = policy; auto_remove = false }
 
 host-read : (c : NewContainer) → IsContainer c
     → host_of (container_data c) ≡ and_then (add_binds [] c.binds) (λ mounts. and_then (policy_in c.restart) (λ policy. Ok (told_host mounts policy)))
@@ -126,7 +133,7 @@ both-told (Ok x) (Err fault) f g = refl
 both-told (Err fault) b f g = refl
 
 abbrev with_words : NewContainer → List (List ℕ) → Host → CreateSpec
-with_words c words host = record (container_spec c host.mounts host.policy None) { words = words }
+with_words c words host = record (container_spec c host.mounts host.policy None) { words = words; auto_remove = host.auto_remove }
 
 pub create-read : (c : NewContainer) → IsContainer c
     → create_of None (compact_text (container_data c))
@@ -138,3 +145,15 @@ create-read c h =
     ∙ ap (λ ws. and_then ws (λ words. and_then (host_of d) (λ host. Ok (with_words c words host)))) (container-words c)
     ∙ ap (λ r. and_then r (λ host. Ok (with_words c c.words host))) (host-read c h)
     ∙ both-told (add_binds [] c.binds) (policy_in c.restart) told_host (with_words c c.words)
+
+-- ---- update
+
+update-carried : (restart : Restart) → IsRestart restart → IsCarried (update_data restart)
+update-carried restart h = object-sound 126 (inside (update_data restart)) refl (restart-sound 125 restart h, tt)
+
+pub update-read : (restart : Restart) → IsRestart restart
+    → update_of (compact_text (update_data restart)) ≡ given_policy restart.policy (pos restart.most)
+unfolding update_of
+update-read restart h =
+    ap (λ b. and_then b update_in) (body-read (inside (update_data restart)) (update-carried restart h))
+    ∙ ap (λ b. given_policy restart.policy (pos (cond b restart.most 9223372036854775807))) (lt-ltb restart.most (2 ^ 63) (omega (arith, h.1)))

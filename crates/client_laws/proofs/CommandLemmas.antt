@@ -24,6 +24,7 @@ use Rattle.client_model.specs.Commands.Restart.{restart_request}
 use Rattle.client_model.specs.Commands.Kill.{kill_request}
 use Rattle.client_model.specs.Commands.Remove.{remove_request}
 use Rattle.client_model.specs.Commands.Rename.{rename_request}
+use Rattle.client_model.specs.Commands.Update.{update_request}
 use Rattle.client_model.specs.Commands.List.{list_request}
 use Rattle.client_model.specs.Commands.Inspect.{inspect_request}
 use Rattle.client_model.specs.Commands.Version.{version_request}
@@ -50,7 +51,7 @@ use Rattle.client_laws.proofs.ByteLemmas.{utf8-bytes}
 use Rattle.client_laws.proofs.IdLemmas.{id-bytes}
 use Rattle.client_laws.proofs.ClassLemmas.{literal, start-class, pause-class, unpause-class, stop-class, restart-class, kill-class, remove-class, rename-class, inspect-class, wait-class}
 use Rattle.client_laws.proofs.StreamClassLemmas.{logs-class, attach-class, exec-start-class, exec-inspect-class, events-class, journal-class, list-class, version-class, volume-inspect-class, volume-remove-class, volume-list-class}
-use Rattle.client_laws.proofs.BodyClassLemmas.{create-class, exec-create-class, volume-create-class}
+use Rattle.client_laws.proofs.BodyClassLemmas.{create-class, update-class, exec-create-class, volume-create-class}
 use Rattle.client_laws.proofs.PlanLemmas.{entries, AsksNone, all-printed, asked-first, asks-calls, streams-calls, none-behind, asks-once, streams-once, read-goes, none-read, refused, same-entry}
 
 -- ---- run
@@ -207,6 +208,9 @@ plan-calls (command.Remove target force) h verdict =
 plan-calls (command.Rename target name) h verdict =
     asks-once (rename_request target name) Some (λ body. prints target done) verdict (class.rename target name)
     (rename-class target name (utf8-bytes target h.0) h.1) (λ body v a. refl)
+plan-calls (command.Update target restart) h verdict =
+    asks-once (update_request target restart) Some (λ body. prints target done) verdict (class.update target restart)
+    (update-class target restart (utf8-bytes target h.0) h.1) (λ body v a. refl)
 plan-calls (command.List all) h verdict =
     asks-once (list_request all) container_lines_in (λ lines. prints_all lines done) verdict (class.containers all) (list-class all) all-printed
 plan-calls (command.Inspect target) h verdict =

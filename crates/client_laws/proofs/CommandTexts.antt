@@ -24,6 +24,7 @@ HasTexts (command.Restart target seconds) = IsUtf8 target × IfSome seconds IsUt
 HasTexts (command.Kill target signal) = IsUtf8 target × IfSome signal IsUtf8
 HasTexts (command.Remove target force) = IsUtf8 target
 HasTexts (command.Rename target name) = IsUtf8 target × IsUtf8 name
+HasTexts (command.Update target restart) = IsUtf8 target × IsRestart restart
 HasTexts (command.List all) = ⊤
 HasTexts (command.Inspect target) = IsUtf8 target
 HasTexts command.Version = ⊤

@@ -8,7 +8,7 @@ use Rattle.engine_text.specs.declared.pairs.Pair.{Pair}
 use Rattle.journal_lines.specs.declared.verdict.Verdict.{Verdict}
 use Rattle.json_laws.specs.Pairs.{AreWordsUtf8}
 use Rattle.response_reader.specs.Answers.{Answer}
-use Rattle.client_model.specs.Words.{has_flag, value_of}
+use Rattle.client_model.specs.Words.{one_word, has_flag, value_of}
 use Rattle.client_model.specs.Plans.{fails}
 use Rattle.client_model.specs.Lines.{Table, read_by, volume_commands, commands, line_with, line_of}
 use Rattle.client_model.specs.Client.{plan_of, plan_for}
@@ -19,6 +19,7 @@ use Rattle.client_model.specs.Commands.Stop.{stop_options, stop_in}
 use Rattle.client_model.specs.Commands.Restart.{restart_options, restart_in}
 use Rattle.client_model.specs.Commands.Kill.{kill_options, kill_in}
 use Rattle.client_model.specs.Commands.Remove.{remove_options, remove_in}
+use Rattle.client_model.specs.Commands.Update.{update_options, policy_given, update_in}
 use Rattle.client_model.specs.Commands.List.{list_options, list_in}
 use Rattle.client_model.specs.Commands.Logs.{logs_options, logs_in}
 use Rattle.client_model.specs.Commands.Exec.{exec_options, exec_in}
@@ -28,12 +29,12 @@ use Rattle.client_model.specs.declared.command.Command.TheVariants as command
 use Rattle.client_model.specs.declared.command.Line.{Line}
 use Rattle.client_model.specs.declared.fault.Fault.TheVariants as F
 use Rattle.client_laws.specs.Table.{calls_of, calls_for}
-use Rattle.client_laws.proofs.CommandTexts.{IsContainer, HasTexts}
+use Rattle.client_laws.proofs.CommandTexts.{IsRestart, IsContainer, HasTexts}
 use Rattle.client_model.specs.Runs.{Exchange, AreAnswered, LacksVerdict, BreaksBehind, BreaksWithin}
 use Rattle.client_laws.specs.Asked.{entries_of, AsksCalls, EndsByCalls, AreAnsweredFirst, AreToldSoFar, BreaksOffByCalls}
 use Rattle.engine_text.specs.Words.{AreUtf8}
-use Rattle.client_laws.proofs.JsonByteLemmas.{map-good}
-use Rattle.client_laws.proofs.WordLemmas.{Gives, gives-none, gives-one, gives-two, gives-behind, AreValues, value-good, container-good}
+use Rattle.client_laws.proofs.JsonByteLemmas.{then-good, map-good}
+use Rattle.client_laws.proofs.WordLemmas.{Gives, gives-none, gives-one, gives-two, gives-behind, AreValues, value-good, given-policy-good, container-good}
 use Rattle.client_laws.proofs.PlanLemmas.{entries}
 use Rattle.client_laws.proofs.CommandLemmas.{plan-calls}
 
@@ -45,6 +46,11 @@ create-gives given h words w = map-good IsContainer HasTexts (container_of given
 run-gives : (given : List Pair) → AreValues given → Gives (run_in given)
 run-gives given h words w =
     map-good IsContainer HasTexts (container_of given words) (λ c. command.Run c (has_flag (codes "--rm") given)) (container-good given words h w) (λ c i. i)
+
+update-gives : (given : List Pair) → AreValues given → Gives (update_in given)
+update-gives given h words w =
+    then-good IsRestart HasTexts (policy_given given) (λ restart. one_word (λ target. command.Update target restart) words)
+    (given-policy-good given h) (λ restart i. gives-one (λ target. command.Update target restart) (λ word u. (u, i)) words w)
 
 exec-gives : (given : List Pair) → AreValues given → Gives (exec_in given)
 exec-gives given h [] w = tt
@@ -65,7 +71,7 @@ any-replay given word = by-seed (seed_of (value_of (codes "--seed") given))
     by-seed (Some seed) = by-moment seed (moment_in word)
 
 replay-gives : (given : List Pair) → AreValues given → Gives (replay_in given)
-replay-gives given h [] w = tt
+replay-gives given h [] w = any-replay given (codes "0")
 replay-gives given h (word ∷ []) w = any-replay given word
 replay-gives given h (word ∷ other ∷ words) w = tt
 
@@ -126,28 +132,31 @@ commands-give = (
                   (
                     gives-two command.Rename (λ word other u v. (u, v)),
                     (
-                      gives-behind list_options list_in (λ given h. gives-none (command.List (has_flag (codes "-a") given)) tt),
+                      gives-behind update_options update_in update-gives,
                       (
-                        gives-one command.Inspect (λ word u. u),
+                        gives-behind list_options list_in (λ given h. gives-none (command.List (has_flag (codes "-a") given)) tt),
                         (
-                          gives-none command.Version tt,
+                          gives-one command.Inspect (λ word u. u),
                           (
-                            gives-behind logs_options logs_in (λ given h. gives-one (λ target. command.Logs target (has_flag (codes "-f") given)) (λ word u. u)),
+                            gives-none command.Version tt,
                             (
-                              gives-one command.Attach (λ word u. u),
+                              gives-behind logs_options logs_in (λ given h. gives-one (λ target. command.Logs target (has_flag (codes "-f") given)) (λ word u. u)),
                               (
-                                gives-behind exec_options exec_in exec-gives,
+                                gives-one command.Attach (λ word u. u),
                                 (
-                                  gives-one command.Wait (λ word u. u),
+                                  gives-behind exec_options exec_in exec-gives,
                                   (
-                                    gives-two command.Events (λ word other u v. (u, v)),
+                                    gives-one command.Wait (λ word u. u),
                                     (
-                                      gives-one command.Watch (λ word u. u),
+                                      gives-two command.Events (λ word other u v. (u, v)),
                                       (
-                                        table-gives volume_commands volumes-give,
+                                        gives-one command.Watch (λ word u. u),
                                         (
-                                          gives-none command.Journal tt,
-                                          (gives-behind replay_options replay_in replay-gives, tt),
+                                          table-gives volume_commands volumes-give,
+                                          (
+                                            gives-none command.Journal tt,
+                                            (gives-behind replay_options replay_in replay-gives, tt),
+                                          ),
                                         ),
                                       ),
                                     ),

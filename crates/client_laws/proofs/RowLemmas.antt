@@ -71,6 +71,9 @@ unpause-row = record { none = refl; some = λ c rest. shorter (create_word c res
 pub rename-row : IsRow (Some Post) containers (codes "rename" ∷ []) to.Rename
 rename-row = record { none = refl; some = λ c rest. shorter (create_word c rest) to.Create (Some to.Rename) }
 
+pub update-row : IsRow (Some Post) containers (codes "update" ∷ []) to.Update
+update-row = record { none = refl; some = λ c rest. shorter (create_word c rest) to.Create (Some to.Update) }
+
 pub wait-row : IsRow (Some Post) containers (codes "wait" ∷ []) to.Wait
 wait-row = record { none = refl; some = λ c rest. shorter (create_word c rest) to.Create (Some to.Wait) }
 

@@ -19,6 +19,7 @@ use Rattle.engine_text.specs.declared.policy.Policy.TheVariants.{No, OnFailure}
 use Rattle.http_edge.specs.declared.head.Form.{Form}
 use Rattle.http_edge.specs.declared.head.Form.TheVariants.{Json, Empty, Takeover}
 use Rattle.response_reader.specs.Answers.{Answer, Answered}
+use Rattle.api_json.specs.Update.{given_policy}
 use Rattle.api_json.specs.declared.fault.BodyFault.TheVariants.{BadMount, BadVolumeName, BadRestartPolicy}
 use Rattle.api_routes.specs.Class.{refusal}
 use Rattle.api_routes.specs.declared.class.Class.{Class}
@@ -59,6 +60,8 @@ restarting = record {
   stdin_once = false;
   labels = [];
   mounts = record { volume = codes "data"; target = codes "/d"; read_only = false } ∷ record { volume = codes "logs"; target = codes "/l"; read_only = true } ∷ [];
+  auto_remove = false;
+  health = None;
 }
 
 create : first_calls (codes "create --name web --restart on-failure:5 -v data:/d -v logs:/l:ro engine/tools exit 7") ≡ only (Ask (call.Create restarting))
@@ -109,6 +112,19 @@ nameless = refl
 rename : by_words (codes "rename" ∷ codes "web" ∷ codes "a&b" ∷ []) [] ≡ only (refusal (InvalidName (codes "a&b")))
 unfolding is_utf8 chars encode
 rename = refl
+
+update : first_calls (codes "update --restart on-failure:5 web") ≡ only (Ask (call.Update (codes "web") (Some (OnFailure 5))))
+unfolding is_utf8 chars encode given_policy
+update = refl
+
+-- a name that is none is refused, and the empty one leaves the policy
+no_policy : first_calls (codes "update --restart sometimes web") ≡ only (refusal (Body BadRestartPolicy))
+unfolding is_utf8 chars encode given_policy
+no_policy = refl
+
+left : by_words (codes "update" ∷ codes "--restart" ∷ [] ∷ codes "web" ∷ []) [] ≡ only (Ask (call.Update (codes "web") None))
+unfolding is_utf8 chars encode given_policy
+left = refl
 
 remove : first_calls (codes "rm -f web") ≡ only (Ask (call.Remove (codes "web") true))
 unfolding is_utf8 chars encode
@@ -171,6 +187,8 @@ reading = record {
   stdin_once = true;
   labels = [];
   mounts = [];
+  auto_remove = false;
+  health = None;
 }
 
 abbrev run_words : List (List ℕ)

@@ -13,6 +13,7 @@ use Rattle.api_routes.specs.Numeral.{number_of}
 use Rattle.api_routes.proofs.NumeralLemmas.{number-small}
 use Rattle.client_model.specs.Words.{no_word, one_word, two_words, Options, kind_of, given_first, with_option, split_word, split_behind, is_sound_option, if_sound, split_options, behind_options, value_of, values_of}
 use Rattle.client_model.specs.Commands.Container.{restart_of, read_policy, restart_in, container_with, container_of}
+use Rattle.client_model.specs.Commands.Update.{policy_given}
 use Rattle.client_model.specs.declared.words.Split.{Split}
 use Rattle.client_model.specs.declared.words.Kind.{Kind}
 use Rattle.client_model.specs.declared.words.Kind.TheVariants.{Flag, Valued, Repeated}
@@ -128,6 +129,11 @@ policy-good word u = by (list_any is_colon word)
 
 abbrev IsPolicy : Option Restart → Type 0
 IsPolicy restart = IfSome restart IsRestart
+
+-- the policy that is needed
+pub given-policy-good : (given : List Pair) → AreValues given → IfSome (policy_given given) IsRestart
+given-policy-good given h =
+    then-good IsUtf8 IsRestart (value_of (codes "--restart") given) read_policy (value-good (codes "--restart") given h) policy-good
 
 restart-good : (word : Option (List ℕ)) → IfSome word IsUtf8 → IfSome (restart_in word) IsPolicy
 restart-good None h = tt

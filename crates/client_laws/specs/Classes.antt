@@ -16,6 +16,7 @@ use Rattle.api_json.specs.Create.{sigterm}
 use Rattle.api_json.specs.ExecCreate.{not_empty}
 use Rattle.api_json.specs.HostConfig.{policy_or_fault}
 use Rattle.api_json.specs.MountForms.{add_binds}
+use Rattle.api_json.specs.Update.{given_policy}
 use Rattle.api_json.specs.VolumeCreate.{volume_named}
 use Rattle.api_json.specs.declared.fault.BodyFault.{BodyFault}
 use Rattle.engine_text.specs.Soundness.{far}
@@ -61,6 +62,8 @@ container_spec c mounts policy name = record {
   stdin_once = c.input;
   labels = [];
   mounts = mounts;
+  auto_remove = false;
+  health = None;
 }
 
 -- the volumes, then the policy, then the name must be ones that are taken
@@ -103,6 +106,12 @@ remove target force = by_name target (Ok (Ask (call.Remove target force)))
 abbrev pub rename : List ℕ → List ℕ → Meaning
 rename target name =
     by_name target (if is_name name then Ok (Ask (call.Rename target name)) else Err (InvalidName name))
+
+-- POLICY and MAX are a policy, which the container is given; the empty name without a maximum leaves it its own
+abbrev pub update : List ℕ → Restart → Meaning
+update target restart =
+    by_name target (ask (and_then (of_body (given_policy restart.policy (pos restart.most))) (λ policy.
+    Ok (call.Update target policy))))
 
 abbrev pub inspect : List ℕ → Meaning
 inspect target = by_name target (Ok (Ask (call.Inspect target)))

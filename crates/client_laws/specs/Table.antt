@@ -84,6 +84,7 @@ calls_of (command.Restart target seconds) answers = once (class.restart target s
 calls_of (command.Kill target signal) answers = once (class.kill target signal)
 calls_of (command.Remove target force) answers = once (class.remove target force)
 calls_of (command.Rename target name) answers = once (class.rename target name)
+calls_of (command.Update target restart) answers = once (class.update target restart)
 calls_of (command.List all) answers = once (class.containers all)
 calls_of (command.Inspect target) answers = once (class.inspect target)
 calls_of command.Version answers = once class.version

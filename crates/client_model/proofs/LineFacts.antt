@@ -27,6 +27,10 @@ run : line_of (words_of (codes "127.0.0.1:2375 run --rm -v d:/d:ro -i -v e:/e --
     }) true))
 run = refl
 
+update : line_of (words_of (codes "127.0.0.1:2375 update --restart on-failure:5 web"))
+    ≡ Some (line_with address (command.Update (codes "web") (record { policy = codes "on-failure"; most = 5 })))
+update = refl
+
 -- what isn't an option of its command is its first other word
 other_word : line_of (words_of (codes "127.0.0.1:2375 start -f")) ≡ Some (line_with address (command.Start (codes "-f")))
 other_word = refl
@@ -37,6 +41,9 @@ doubled = refl
 
 no_value : line_of (words_of (codes "127.0.0.1:2375 stop -t")) ≡ None
 no_value = refl
+
+no_policy : line_of (words_of (codes "127.0.0.1:2375 update web")) ≡ None
+no_policy = refl
 
 too_many : line_of (words_of (codes "127.0.0.1:2375 start web db")) ≡ None
 too_many = refl
@@ -61,3 +68,7 @@ too_late = refl
 replay : line_of (words_of (codes "127.0.0.1:1 replay 1700000000000"))
     ≡ Some (line_with (codes "127.0.0.1:1") (command.Replay (replicate 32 0) 1_700_000_000_000))
 replay = refl
+
+-- and without MOMENT it is 0
+replay_headed : line_of (words_of (codes "127.0.0.1:1 replay")) ≡ Some (line_with (codes "127.0.0.1:1") (command.Replay (replicate 32 0) 0))
+replay_headed = refl

@@ -72,6 +72,11 @@ rename : first_of (plan_for (address ∷ codes "rename" ∷ codes "web" ∷ code
 unfolding first_of byte_serialize percent_encode_byte
 rename = refl
 
+update : asked (codes "update --restart on-failure:5 web")
+    ≡ codes "POST /v1.43/containers/web/update HTTP/1.1\r\nHost: engine\r\nConnection: close\r\nContent-Length: 61\r\nContent-Type: application/json\r\n\r\n{\"RestartPolicy\":{\"MaximumRetryCount\":5,\"Name\":\"on-failure\"}}"
+unfolding first_of digits escape_byte byte_serialize percent_encode_byte
+update = refl
+
 ps : asked (codes "ps -a") ≡ closing (codes "GET /v1.43/containers/json?all=1")
 unfolding first_of byte_serialize percent_encode_byte
 ps = refl

@@ -24,7 +24,7 @@ use Rattle.client_model.specs.Lines.{command_names}
 use Rattle.client_model.specs.Plans.{cut_fault}
 use Rattle.client_model.specs.Streams.{is_unfit}
 use Rattle.client_model.specs.declared.showing.Showing.TheVariants.{Demuxed}
-use Rattle.client_model.specs.Usage.{usages}
+use Rattle.client_model.specs.Lines.{usages}
 use Rattle.client_model.specs.Faults.{status_of, fault_line}
 use Rattle.client_model.specs.declared.fault.Fault.TheVariants as F
 use Rattle.client_model.proofs.LineFacts.{words_of, address}
@@ -102,7 +102,7 @@ link_failed = refl
 
 -- words that are no line
 no_line : result_of (codes "top web") []
-    ≡ ended [] (codes "usage: dockc ADDR create|run|start|pause|unpause|stop|restart|kill|rm|rename|ps|inspect|version|logs|attach|exec|wait|events|watch|volume|journal|replay [OPTIONS] [WORD..] (ADDR is 127.0.0.1:PORT)\n") 2
+    ≡ ended [] (codes "usage: dockc ADDR create|run|start|pause|unpause|stop|restart|kill|rm|rename|update|ps|inspect|version|logs|attach|exec|wait|events|watch|volume|journal|replay [OPTIONS] [WORD..] (ADDR is 127.0.0.1:PORT)\n") 2
 no_line = refl
 
 -- no line of a command that there is

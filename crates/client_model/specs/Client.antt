@@ -17,6 +17,7 @@ use Rattle.client_model.specs.Commands.Restart.{restart_plan}
 use Rattle.client_model.specs.Commands.Kill.{kill_plan}
 use Rattle.client_model.specs.Commands.Remove.{remove_plan}
 use Rattle.client_model.specs.Commands.Rename.{rename_plan}
+use Rattle.client_model.specs.Commands.Update.{update_plan}
 use Rattle.client_model.specs.Commands.List.{list_plan}
 use Rattle.client_model.specs.Commands.Inspect.{inspect_plan}
 use Rattle.client_model.specs.Commands.Version.{version_plan}
@@ -49,6 +50,7 @@ plan_of (command.Restart target seconds) = restart_plan target seconds
 plan_of (command.Kill target signal) = kill_plan target signal
 plan_of (command.Remove target force) = remove_plan target force
 plan_of (command.Rename target name) = rename_plan target name
+plan_of (command.Update target restart) = update_plan target restart
 plan_of (command.List all) = list_plan all
 plan_of (command.Inspect target) = inspect_plan target
 plan_of command.Version = version_plan

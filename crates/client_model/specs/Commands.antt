@@ -9,6 +9,7 @@ pub mod Restart
 pub mod Kill
 pub mod Remove
 pub mod Rename
+pub mod Update
 pub mod List
 pub mod Inspect
 pub mod Version

@@ -1,5 +1,5 @@
 -- The table of commands (own: `dockc ADDR COMMAND ..`).
-use Rattle.std.specs.Prelude.{ℕ, List, [], ◌∷◌, map, codes, Option, None, option_and_then, option_map, find}
+use Rattle.std.specs.Prelude.{ℕ, List, [], ◌∷◌, ◌++◌, map, codes, Option, None, option_and_then, option_map, find}
 use Rattle.engine_text.specs.Texts.{same_bytes}
 use Rattle.engine_line.specs.Lines.{port_in}
 use Rattle.client_model.specs.Commands.Create.{read_create}
@@ -12,6 +12,7 @@ use Rattle.client_model.specs.Commands.Restart.{read_restart}
 use Rattle.client_model.specs.Commands.Kill.{read_kill}
 use Rattle.client_model.specs.Commands.Remove.{read_remove}
 use Rattle.client_model.specs.Commands.Rename.{read_rename}
+use Rattle.client_model.specs.Commands.Update.{read_update}
 use Rattle.client_model.specs.Commands.List.{read_list}
 use Rattle.client_model.specs.Commands.Inspect.{read_inspect}
 use Rattle.client_model.specs.Commands.Version.{read_version}
@@ -58,6 +59,7 @@ commands =
     ∷ (codes "kill", read_kill)
     ∷ (codes "rm", read_remove)
     ∷ (codes "rename", read_rename)
+    ∷ (codes "update", read_update)
     ∷ (codes "ps", read_list)
     ∷ (codes "inspect", read_inspect)
     ∷ (codes "version", read_version)
@@ -70,6 +72,41 @@ commands =
     ∷ (codes "volume", read_by volume_commands)
     ∷ (codes "journal", read_journal)
     ∷ (codes "replay", read_replay) ∷ []
+
+-- the names of the commands that change a container, each with what stands behind ADDR
+abbrev pub usages_of_changes : List (List ℕ × List ℕ)
+usages_of_changes =
+    (codes "create", codes "create [--name NAME] [--restart POLICY[:MAX]] [-i] [-v VOLUME:PATH[:ro]].. IMAGE [WORD..]")
+    ∷ (codes "run", codes "run [--rm] [--name NAME] [--restart POLICY[:MAX]] [-i] [-v VOLUME:PATH[:ro]].. IMAGE [WORD..]")
+    ∷ (codes "start", codes "start REF")
+    ∷ (codes "pause", codes "pause REF")
+    ∷ (codes "unpause", codes "unpause REF")
+    ∷ (codes "stop", codes "stop [-t N] REF")
+    ∷ (codes "restart", codes "restart [-t N] REF")
+    ∷ (codes "kill", codes "kill [-s SIG] REF")
+    ∷ (codes "rm", codes "rm [-f] REF")
+    ∷ (codes "rename", codes "rename REF NAME")
+    ∷ (codes "update", codes "update --restart POLICY[:MAX] REF") ∷ []
+
+-- the same of the others
+abbrev pub usages_of_others : List (List ℕ × List ℕ)
+usages_of_others =
+    (codes "ps", codes "ps [-a]")
+    ∷ (codes "inspect", codes "inspect REF")
+    ∷ (codes "version", codes "version")
+    ∷ (codes "logs", codes "logs [-f] REF")
+    ∷ (codes "attach", codes "attach REF")
+    ∷ (codes "exec", codes "exec [-i] REF WORD..")
+    ∷ (codes "wait", codes "wait REF")
+    ∷ (codes "events", codes "events SINCE UNTIL")
+    ∷ (codes "watch", codes "watch UNTIL")
+    ∷ (codes "volume", codes "volume create|inspect|rm NAME, or volume ls")
+    ∷ (codes "journal", codes "journal")
+    ∷ (codes "replay", codes "replay [--seed HEX] [MOMENT]") ∷ []
+
+-- of all, in the table's order
+abbrev pub usages : List (List ℕ × List ℕ)
+usages = usages_of_changes ++ usages_of_others
 
 -- the names of the table
 abbrev pub command_names : List (List ℕ)

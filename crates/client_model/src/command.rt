@@ -60,6 +60,10 @@ pub enum Command {
         target: Text,
         name: Text,
     },
+    Update {
+        target: Text,
+        restart: Restart,
+    },
     List {
         all: bool,
     },

@@ -12,3 +12,4 @@ mod views;
 mod volumes;
 
 pub use table::read_line;
+pub(crate) use table::{ANY, usage_of};

@@ -16,10 +16,11 @@ use Rattle.client_model.specs.Commands.Stop.{stop_options, stop_in}
 use Rattle.client_model.specs.Commands.Restart.{restart_options, restart_in}
 use Rattle.client_model.specs.Commands.Kill.{kill_options, kill_in}
 use Rattle.client_model.specs.Commands.Remove.{remove_options, remove_in}
+use Rattle.client_model.specs.Commands.Update.{update_options, policy_given, update_in}
 use Rattle.client_model.specs.Commands.List.{list_options, list_in}
 use Rattle.client_model.specs.Commands.Logs.{logs_options, logs_in}
 use Rattle.client_model.specs.Commands.Exec.{exec_options, exec_in}
-use Rattle.client_model.specs.Commands.Replay.{replay_options, replay_in}
+use Rattle.client_model.specs.Commands.Replay.{replay_options, replay_of, replay_in}
 use Rattle.client_model.specs.declared.command.Command.{Command}
 use Rattle.client_model.specs.declared.command.Command.TheVariants as command
 use Rattle.client_model.specs.declared.command.Line.{Line}
@@ -56,6 +57,11 @@ options : (opts : Options) (read : List Pair → List (List ℕ) → Option Comm
     → ((given : List Pair) (behind : List (List ℕ)) → IfSome (read given behind) IsTimed) → IfSome (behind_options opts read words) IsTimed
 options opts read words all = if_then IsTimed (λ split. read split.given split.words) (split_options opts words) (λ split. all split.given split.words)
 
+update_so : (given : List Pair) (words : List (List ℕ)) → IfSome (update_in given words) IsTimed
+update_so given words =
+    if_then IsTimed (λ restart. one_word (λ target. command.Update target restart) words) (policy_given given)
+    (λ restart. one (λ target. command.Update target restart) words (λ w. tt))
+
 exec_so : (given : List Pair) (words : List (List ℕ)) → IfSome (exec_in given words) IsTimed
 exec_so given [] = tt
 exec_so given (target ∷ []) = tt
@@ -85,11 +91,14 @@ mapped : (seed : List ℕ) (o : Option ℕ) → IfSome o (λ m. m ≤ greatest_m
 mapped seed (Some m) is = is
 mapped seed None is = tt
 
-replay_so : (given : List Pair) (words : List (List ℕ)) → IfSome (replay_in given words) IsTimed
-replay_so given [] = tt
-replay_so given (word ∷ []) =
+replay_at : (given : List Pair) (word : List ℕ) → IfSome (replay_of given word) IsTimed
+replay_at given word =
     if_then IsTimed (λ seed. option_map (command.Replay seed) (moment_in word)) (seed_of (value_of (codes "--seed") given))
     (λ seed. mapped seed (moment_in word) (moment_so (number_of 13 word)))
+
+replay_so : (given : List Pair) (words : List (List ℕ)) → IfSome (replay_in given words) IsTimed
+replay_so given [] = replay_at given (codes "0")
+replay_so given (word ∷ []) = replay_at given word
 replay_so given (word ∷ other ∷ words) = tt
 
 -- ---- the table
@@ -151,28 +160,31 @@ commands_so = (
                   (
                     (λ ws. two command.Rename ws (λ w v. tt)),
                     (
-                      (λ ws. options list_options list_in ws (λ g b. none (command.List (has_flag (codes "-a") g)) b tt)),
+                      (λ ws. options update_options update_in ws update_so),
                       (
-                        (λ ws. one command.Inspect ws (λ w. tt)),
+                        (λ ws. options list_options list_in ws (λ g b. none (command.List (has_flag (codes "-a") g)) b tt)),
                         (
-                          (λ ws. none command.Version ws tt),
+                          (λ ws. one command.Inspect ws (λ w. tt)),
                           (
-                            (λ ws. options logs_options logs_in ws (λ g b. one (λ target. command.Logs target (has_flag (codes "-f") g)) b (λ w. tt))),
+                            (λ ws. none command.Version ws tt),
                             (
-                              (λ ws. one command.Attach ws (λ w. tt)),
+                              (λ ws. options logs_options logs_in ws (λ g b. one (λ target. command.Logs target (has_flag (codes "-f") g)) b (λ w. tt))),
                               (
-                                (λ ws. options exec_options exec_in ws exec_so),
+                                (λ ws. one command.Attach ws (λ w. tt)),
                                 (
-                                  (λ ws. one command.Wait ws (λ w. tt)),
+                                  (λ ws. options exec_options exec_in ws exec_so),
                                   (
-                                    (λ ws. two command.Events ws (λ w v. tt)),
+                                    (λ ws. one command.Wait ws (λ w. tt)),
                                     (
-                                      (λ ws. one command.Watch ws (λ w. tt)),
+                                      (λ ws. two command.Events ws (λ w v. tt)),
                                       (
-                                        (λ ws. read_so volume_commands volumes_so ws),
+                                        (λ ws. one command.Watch ws (λ w. tt)),
                                         (
-                                          (λ ws. none command.Journal ws tt),
-                                          ((λ ws. options replay_options replay_in ws replay_so), tt),
+                                          (λ ws. read_so volume_commands volumes_so ws),
+                                          (
+                                            (λ ws. none command.Journal ws tt),
+                                            ((λ ws. options replay_options replay_in ws replay_so), tt),
+                                          ),
                                         ),
                                       ),
                                     ),

@@ -6,12 +6,17 @@ use crate::asking::{asks, asks_and_prints};
 use crate::onward::Then;
 use crate::step::Step;
 use client_model::{Command, Fault, Showing};
-use client_parts::{
-    attach_request, create_request, events_request, exec_create_request, inspect_request,
-    journal_request, kill_request, list_request, logs_request, pause_request, remove_request,
-    rename_request, restart_request, start_request, stop_request, unpause_request, version_request,
+use client_parts::requests::containers::{
+    attach_request, create_request, inspect_request, kill_request, logs_request, pause_request,
+    remove_request, rename_request, restart_request, start_request, stop_request, unpause_request,
+    update_request, wait_request,
+};
+use client_parts::requests::execs::exec_create_request;
+use client_parts::requests::views::{
+    events_request, journal_request, list_request, version_request,
+};
+use client_parts::requests::volumes::{
     volume_create_request, volume_inspect_request, volume_list_request, volume_remove_request,
-    wait_request,
 };
 use std::alloc::Global;
 
@@ -62,6 +67,9 @@ pub fn begin(alloc: Global, command: &Command) -> Result<Step, Fault>
         }
         Command::Rename { target, name } => {
             printed!(rename_request(target.as_str(), name.as_str()), target)
+        }
+        Command::Update { target, restart } => {
+            printed!(update_request(target.as_str(), restart), target)
         }
         Command::List { all } => kept!(list_request(*all), Then::PrintsContainers),
         Command::Inspect { target } => kept!(inspect_request(target.as_str()), Then::PrintsBody),

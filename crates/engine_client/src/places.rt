@@ -20,10 +20,10 @@ use crate::reading::{
 use crate::step::Step;
 use crate::watching::{fold_events, row_lines};
 use client_model::{Fault, Showing};
-use client_parts::{
-    attach_request, exec_inspect_request, exec_start_request, remove_request, start_request,
-    wait_request,
+use client_parts::requests::containers::{
+    attach_request, remove_request, start_request, wait_request,
 };
+use client_parts::requests::execs::{exec_inspect_request, exec_start_request};
 use engine_text::{FoldRow, Text};
 use std::alloc::Global;
 

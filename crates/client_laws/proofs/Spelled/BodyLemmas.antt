@@ -20,6 +20,7 @@ use Rattle.client_model.specs.declared.command.Restart.{Restart}
 use Rattle.client_model.specs.Commands.Container.{restart_of, read_policy, policy_data, host_data, container_data}
 use Rattle.client_model.specs.Commands.Exec.{exec_data}
 use Rattle.client_model.specs.Commands.VolumeCreate.{volume_data}
+use Rattle.client_model.specs.Commands.Update.{update_data}
 use Rattle.client_laws.proofs.Spelled.SizeLemmas.{length_quoted, length_boolean, length_comma, words_size, length_words}
 use Rattle.client_laws.proofs.Spelled.WordLemmas.{value_size, IfSome-map}
 
@@ -79,6 +80,12 @@ host_within c is =
     member_within true (codes "RestartPolicy") (policy_data (policy_of c.restart)) no_members 30000 1 31000 (policy_within (policy_of c.restart) is.policy) no_more (omega arith) in
     let all : length (members_text false (member (codes "Binds") (words_data c.binds) policy)) ≤ 59000 =
     member_within false (codes "Binds") (words_data c.binds) policy 24578 31000 59000 (omega (arith, length_words c.binds, is.binds)) last (omega arith) in
+    omega (arith, all)
+
+pub update_within : (restart : Restart) → IsShortPolicy restart → length (compact_text (update_data restart)) ≤ 1048576
+update_within restart is =
+    let all : length (members_text false (member (codes "RestartPolicy") (policy_data restart) no_members)) ≤ 31000 =
+    member_within false (codes "RestartPolicy") (policy_data restart) no_members 30000 1 31000 (policy_within restart is) no_more (omega arith) in
     omega (arith, all)
 
 pub container_within : (c : NewContainer) → IsShort c → length (compact_text (container_data c)) ≤ 1048576

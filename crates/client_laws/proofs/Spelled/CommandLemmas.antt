@@ -1,13 +1,15 @@
 -- The commands that ask at most one request ask only what is spelled by its bytes.
 use Rattle.std.proofs.Common.{ℕ, zero, suc, map, ◌+◌, ◌≤◌, List, [], ◌∷◌, length, Bool, false, codes, Option, Some, None, arith}
-use Rattle.std.specs.Prelude.{option_map}
+use Rattle.std.specs.Prelude.{option_map, option_and_then}
 use Rattle.std.specs.Option.{IfSome}
+use Rattle.std.proofs.lemmas.Option.{IfSome_then}
 use Rattle.engine_text.specs.declared.pairs.Pair.{Pair}
 use Rattle.engine_line.specs.Lines.{seed_of, moment_in}
 use Rattle.journal_lines.specs.declared.verdict.Verdict.{Verdict}
 use Rattle.journal_lines.specs.declared.verdict.Verdict.TheVariants.{Legal, Illegal, BadLine}
 use Rattle.event_ring.specs.Fold.{fold_of}
 use Rattle.response_reader.specs.Heads.{first_in}
+use Rattle.client_model.specs.declared.command.Restart.{Restart}
 use Rattle.client_model.specs.declared.command.Command.{Command}
 use Rattle.client_model.specs.declared.command.Command.TheVariants as command
 use Rattle.client_model.specs.Words.{no_word, one_word, two_words, value_of, has_flag}
@@ -24,6 +26,8 @@ use Rattle.client_model.specs.Commands.Restart.{restart_options, restart_in as r
 use Rattle.client_model.specs.Commands.Kill.{kill_options, kill_in, kill_request, read_kill}
 use Rattle.client_model.specs.Commands.Remove.{remove_options, remove_in, remove_request, read_remove}
 use Rattle.client_model.specs.Commands.Rename.{rename_request, read_rename}
+use Rattle.client_model.specs.Commands.Container.{read_policy}
+use Rattle.client_model.specs.Commands.Update.{update_options, policy_given, update_in, update_request, read_update}
 use Rattle.client_model.specs.Commands.List.{list_options, list_in, list_request, read_list}
 use Rattle.client_model.specs.Commands.Inspect.{inspect_request, read_inspect}
 use Rattle.client_model.specs.Commands.Version.{version_request, read_version}
@@ -37,10 +41,11 @@ use Rattle.client_model.specs.Commands.VolumeInspect.{volume_inspect_request, re
 use Rattle.client_model.specs.Commands.VolumeRemove.{volume_remove_request, read_volume_remove}
 use Rattle.client_model.specs.Commands.VolumeList.{volume_list_request, read_volume_list}
 use Rattle.client_model.specs.Commands.Journal.{journal_request, read_journal}
-use Rattle.client_model.specs.Commands.Replay.{replay_options, replay_in, verdict_plan, read_replay}
+use Rattle.client_model.specs.Commands.Replay.{replay_options, replay_of, replay_in, verdict_plan, read_replay}
 use Rattle.client_laws.proofs.Spelled.SizeLemmas.{words_size}
-use Rattle.client_laws.proofs.Spelled.WordLemmas.{IfSome-map, IfSome-and_then, IfSome-each, behind_within, length_value}
-use Rattle.client_laws.proofs.Spelled.RequestLemmas.{start_spelled, pause_spelled, unpause_spelled, stop_spelled, restart_spelled, kill_spelled, remove_spelled, rename_spelled, list_spelled, inspect_spelled, version_spelled, logs_spelled, attach_spelled, wait_spelled, events_spelled, volume_create_spelled, volume_inspect_spelled, volume_remove_spelled, volume_list_spelled, journal_spelled}
+use Rattle.client_laws.proofs.Spelled.WordLemmas.{IfSome-map, IfSome-and_then, IfSome-each, given_size, value_size, behind_within, length_value}
+use Rattle.client_laws.proofs.Spelled.BodyLemmas.{IsShortPolicy, policy_short}
+use Rattle.client_laws.proofs.Spelled.RequestLemmas.{start_spelled, pause_spelled, unpause_spelled, stop_spelled, restart_spelled, kill_spelled, remove_spelled, rename_spelled, update_spelled, list_spelled, inspect_spelled, version_spelled, logs_spelled, attach_spelled, wait_spelled, events_spelled, volume_create_spelled, volume_inspect_spelled, volume_remove_spelled, volume_list_spelled, journal_spelled}
 use Rattle.client_laws.proofs.Spelled.PlanLemmas.{AsksSpelled, all_printed, reading, answered, asking_any, asking_prints, asking_shows, streaming}
 
 -- the command asks only what is spelled
@@ -106,6 +111,24 @@ removes_one = behind_within Fit remove_options remove_in 4096 (λ given words sh
 pub renames : IsFit read_rename
 renames words short =
     two_within Fit command.Rename words (λ word other is. asking_prints (rename_request word other) word (rename_spelled word other (omega arith)))
+
+given_short : (given : List Pair) → given_size given ≤ 4096 → IfSome (policy_given given) IsShortPolicy
+given_short given short = by (value_of (codes "--restart") given) (omega (arith, short, length_value (codes "--restart") given))
+  where
+    by : (word : Option (List ℕ)) → value_size word ≤ 4096 → IfSome (option_and_then read_policy word) IsShortPolicy
+    by None few = tt
+    by (Some word) few = policy_short word (omega (arith, few))
+
+update_short : (restart : Restart) (words : List (List ℕ)) → words_size words ≤ 4096 → IsShortPolicy restart
+    → IfSome (one_word (λ target. command.Update target restart) words) Fit
+update_short restart words short policy =
+    one_within Fit (λ target. command.Update target restart) words
+    (λ word is. asking_prints (update_request word restart) word (update_spelled word restart (omega (arith, is, short)) policy))
+
+pub updates : IsFit read_update
+updates = behind_within Fit update_options update_in 4096 (λ given words short.
+    IfSome-and_then Fit (λ restart. one_word (λ target. command.Update target restart) words) (policy_given given)
+    (IfSome_then (policy_given given) (given_short given (omega (arith, short))) (λ restart. update_short restart words (omega (arith, short)))))
 
 pub lists : IsFit read_list
 lists = behind_within Fit list_options list_in 4096 (λ given words short.
@@ -181,13 +204,16 @@ judged (Legal steps) = tt
 judged (Illegal line kept found) = tt
 judged (BadLine line) = tt
 
-replayed : (given : List Pair) (words : List (List ℕ)) → IfSome (replay_in given words) Fit
-replayed given [] = tt
-replayed given (word ∷ []) =
+replayed_at : (given : List Pair) (word : List ℕ) → IfSome (replay_of given word) Fit
+replayed_at given word =
     let seed = seed_of (value_of (codes "--seed") given) in
     IfSome-and_then Fit (λ seed. option_map (command.Replay seed) (moment_in word)) seed
     (IfSome-each (λ seed. IfSome (option_map (command.Replay seed) (moment_in word)) Fit) seed
     (λ seed. IfSome-map Fit (command.Replay seed) (moment_in word) (IfSome-each (λ moment. Fit (command.Replay seed moment)) (moment_in word) (λ moment. judged))))
+
+replayed : (given : List Pair) (words : List (List ℕ)) → IfSome (replay_in given words) Fit
+replayed given [] = replayed_at given (codes "0")
+replayed given (word ∷ []) = replayed_at given word
 replayed given (word ∷ other ∷ words) = tt
 
 pub replays : IsFit read_replay

@@ -7,6 +7,7 @@ use Rattle.http_edge.specs.Message.{Request}
 use Rattle.http_edge.specs.Spelling.{Spells}
 use Rattle.client_model.specs.declared.manner.Manner.TheVariants.{Closes, Upgrades}
 use Rattle.client_model.specs.declared.command.NewContainer.{NewContainer}
+use Rattle.client_model.specs.declared.command.Restart.{Restart}
 use Rattle.client_model.specs.Requests.{Query, request_bytes, get, delete, post, post_body, take_over, container_path, operation_path, exec_path, volume_path, key, key_if}
 use Rattle.client_model.specs.Commands.Container.{container_data, create_request}
 use Rattle.client_model.specs.Commands.Start.{start_request}
@@ -17,6 +18,7 @@ use Rattle.client_model.specs.Commands.Restart.{restart_request}
 use Rattle.client_model.specs.Commands.Kill.{kill_request}
 use Rattle.client_model.specs.Commands.Remove.{remove_request}
 use Rattle.client_model.specs.Commands.Rename.{rename_request}
+use Rattle.client_model.specs.Commands.Update.{update_data, update_request}
 use Rattle.client_model.specs.Commands.List.{list_request}
 use Rattle.client_model.specs.Commands.Inspect.{inspect_request}
 use Rattle.client_model.specs.Commands.Version.{version_request}
@@ -33,7 +35,7 @@ use Rattle.client_model.specs.Commands.Journal.{journal_request}
 use Rattle.client_laws.proofs.Spelled.SpellingLemmas.{target_size, token, spelled}
 use Rattle.client_laws.proofs.Spelled.SizeLemmas.{words_size}
 use Rattle.client_laws.proofs.Spelled.WordLemmas.{value_size}
-use Rattle.client_laws.proofs.Spelled.BodyLemmas.{IsShort, container_within, exec_within, volume_within}
+use Rattle.client_laws.proofs.Spelled.BodyLemmas.{IsShort, IsShortPolicy, container_within, update_within, exec_within, volume_within}
 
 -- its bytes are one spelling of it
 abbrev pub SpellsItself : Request → Type 0
@@ -101,6 +103,10 @@ remove_spelled target false short = deleted (container_path target) [] (omega ar
 
 pub rename_spelled : (target name : List ℕ) → length target + length name ≤ 4096 → SpellsItself (rename_request target name)
 rename_spelled target name short = posted (operation_path target (codes "rename")) (key (codes "name") name) (omega arith)
+
+pub update_spelled : (target : List ℕ) (restart : Restart) → length target ≤ 4096 → IsShortPolicy restart → SpellsItself (update_request target restart)
+update_spelled target restart short is =
+    posted_body (operation_path target (codes "update")) [] (update_data restart) (omega arith) (update_within restart is)
 
 pub list_spelled : (all : Bool) → SpellsItself (list_request all)
 list_spelled true = got (codes "containers" ∷ codes "json" ∷ []) (key (codes "all") (codes "1")) (omega arith)

@@ -16,7 +16,7 @@ use Rattle.client_laws.specs.Spelled.{RequestsAreSpelled}
 use Rattle.client_laws.proofs.Spelled.SizeLemmas.{words_size}
 use Rattle.client_laws.proofs.Spelled.WordLemmas.{IfSome-map, IfSome-and_then, IfSome-each}
 use Rattle.client_laws.proofs.Spelled.PlanLemmas.{AsksSpelled, all_spelled}
-use Rattle.client_laws.proofs.Spelled.CommandLemmas.{Fit, IsFit, starts, pauses, unpauses, stops, restarts, kills, removes_one, renames, lists, inspects, versions, logs, attaches, waits, events, watches, volume_creates, volume_inspects, volume_removes, volume_lists, journals, replays}
+use Rattle.client_laws.proofs.Spelled.CommandLemmas.{Fit, IsFit, starts, pauses, unpauses, stops, restarts, kills, removes_one, renames, updates, lists, inspects, versions, logs, attaches, waits, events, watches, volume_creates, volume_inspects, volume_removes, volume_lists, journals, replays}
 use Rattle.client_laws.proofs.Spelled.CreatedLemmas.{creates, runs, execs}
 
 -- ---- the table
@@ -65,16 +65,19 @@ rows = (
                   (
                     renames,
                     (
-                      lists,
+                      updates,
                       (
-                        inspects,
+                        lists,
                         (
-                          versions,
+                          inspects,
                           (
-                            logs,
+                            versions,
                             (
-                              attaches,
-                              (execs, (waits, (events, (watches, (by_table volume_commands volume_rows, (journals, (replays, tt))))))),
+                              logs,
+                              (
+                                attaches,
+                                (execs, (waits, (events, (watches, (by_table volume_commands volume_rows, (journals, (replays, tt))))))),
+                              ),
                             ),
                           ),
                         ),

@@ -1,12 +1,12 @@
--- `replay [--seed HEX] MOMENT` (own: the verdict on the journal that standard input gives, of a daemon opened so).
-use Rattle.std.specs.Prelude.{ℕ, List, [], ◌∷◌, ◌++◌, codes, decimal, Option, option_map, option_and_then}
-use Rattle.std.specs.Option.{option_flatten}
+-- `replay [--seed HEX] [MOMENT]` (own: the verdict on the journal that standard input gives, of a daemon opened so where no header
+-- says it).
+use Rattle.std.specs.Prelude.{ℕ, List, [], ◌∷◌, ◌++◌, codes, decimal, Option, None, option_map, option_and_then}
 use Rattle.engine_line.specs.Lines.{seed_of, moment_in}
 use Rattle.engine_text.specs.declared.pairs.Pair.{Pair}
 use Rattle.machine_model.specs.History.{Charter}
 use Rattle.journal_lines.specs.declared.verdict.Verdict.{Verdict}
 use Rattle.journal_lines.specs.declared.verdict.Verdict.TheVariants.{Legal, Illegal, BadLine}
-use Rattle.client_model.specs.Words.{Options, behind_options, one_word, value_of}
+use Rattle.client_model.specs.Words.{Options, behind_options, value_of}
 use Rattle.client_model.specs.Plans.{Plan, Judges, prints, ends}
 use Rattle.client_model.specs.declared.words.Kind.TheVariants.{Valued}
 use Rattle.client_model.specs.declared.command.Command.{Command}
@@ -20,8 +20,11 @@ abbrev pub replay_of : List Pair → List ℕ → Option Command
 replay_of given word =
     option_and_then (λ seed. option_map (command.Replay seed) (moment_in word)) (seed_of (value_of (codes "--seed") given))
 
+-- MOMENT is 0 where none is given
 abbrev pub replay_in : List Pair → List (List ℕ) → Option Command
-replay_in given words = option_flatten (one_word (replay_of given) words)
+replay_in given [] = replay_of given (codes "0")
+replay_in given (word ∷ []) = replay_of given word
+replay_in given words = None
 
 abbrev pub read_replay : List (List ℕ) → Option Command
 read_replay = behind_options replay_options replay_in

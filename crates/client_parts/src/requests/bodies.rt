@@ -3,6 +3,7 @@ ghost use Rattle.std.specs.Prelude.{◌≡◌, codes, IfOk, unwrap_or};
 ghost use Rattle.serde_json.specs.View.{view};
 ghost use Rattle.client_model.specs.Commands.Container as container;
 ghost use Rattle.client_model.specs.Commands.Exec as exec;
+ghost use Rattle.client_model.specs.Commands.Update as update;
 ghost use Rattle.client_model.specs.Commands.VolumeCreate as volume;
 
 use client_model::{NewContainer, Restart};
@@ -30,6 +31,15 @@ fn given_policy(alloc: Global, restart: &Option<Restart>) -> Result<Value, Alloc
         Some(restart) => policy_value(alloc, restart.policy.as_str(), restart.most),
         None => policy_value(alloc, "no", 0),
     }
+}
+
+/// The body of ContainerUpdate.
+pub(crate) fn update_value(alloc: Global, restart: &Restart) -> Result<Value, AllocError>
+    ensures { IfOk result (λ v. view v ≡ update.update_data restart.now) }
+{
+    let policy = policy_value(alloc, restart.policy.as_str(), restart.most)?;
+    let object = Object::new(alloc).with(alloc, "RestartPolicy", policy)?;
+    Ok(object.value())
 }
 
 /// The volumes, and the policy.

@@ -13,12 +13,13 @@ ghost use Rattle.client_model.specs.Commands.Restart as restart;
 ghost use Rattle.client_model.specs.Commands.Start as start;
 ghost use Rattle.client_model.specs.Commands.Stop as stop;
 ghost use Rattle.client_model.specs.Commands.Unpause as unpause;
+ghost use Rattle.client_model.specs.Commands.Update as update;
 ghost use Rattle.client_model.specs.Commands.Wait as wait;
 
-use super::bodies::container_value;
+use super::bodies::{container_value, update_value};
 use super::keys::{key, key_if, key_set};
 use super::written::{delete, get, post, post_body, take_over};
-use client_model::NewContainer;
+use client_model::{NewContainer, Restart};
 use engine_text::{NoMemory, Pairs, Text};
 use std::alloc::Global;
 
@@ -107,6 +108,15 @@ pub fn rename_request(alloc: Global, target: &str, name: &str) -> Result<Vec<u8>
     let mut query = Pairs::new(alloc);
     key(alloc, &mut query, "name", name)?;
     post(alloc, &["containers", target, "rename"], query.as_slice())
+}
+
+/// `POST /containers/REF/update`.
+pub fn update_request(alloc: Global, target: &str, restart: &Restart) -> Result<Vec<u8>, NoMemory>
+    ensures { IfOk result
+        (λ r. r.items ≡ request_bytes (update.update_request target.now restart.now)) }
+{
+    let body = update_value(alloc, restart)?;
+    post_body(alloc, &["containers", target, "update"], &[], &body)
 }
 
 /// `GET /containers/REF/json`.

@@ -1,11 +1,12 @@
-// Commands that create a container.
+// Commands that create a container, or give it another restart policy.
 ghost use Rattle.std.specs.Prelude.{◌≡◌, IfOk, option_copied};
 ghost use Rattle.client_model.specs.Commands.Container as spec;
 ghost use Rattle.client_model.specs.Commands.Create.{read_create};
 ghost use Rattle.client_model.specs.Commands.Run.{read_run};
+ghost use Rattle.client_model.specs.Commands.Update.{read_update, policy_given};
 ghost use Rattle.client_parts.specs.Reading.{Reads};
 
-use super::few::copied;
+use super::few::{copied, one_word};
 use super::options::{has_flag, value_of, values_of};
 use super::split::split_options;
 use crate::Unread;
@@ -113,4 +114,24 @@ pub(crate) fn read_run(alloc: Global, words: &[Text]) -> Result<Command, Unread>
     let container = container_of(alloc, split.given.as_slice(), split.words.as_slice())?;
     let remove = has_flag("--rm", split.given.as_slice());
     Ok(Command::Run { container, remove })
+}
+
+/// The policy that is given.
+fn policy_given(alloc: Global, given: &[Pair]) -> Result<Restart, Unread>
+    ensures { Reads result (policy_given given.now) }
+{
+    match value_of(alloc, "--restart", given)? {
+        None => Err(Unread::NoForm),
+        Some(word) => read_policy(alloc, word.as_str()),
+    }
+}
+
+/// `update --restart POLICY[:MAX] REF`.
+pub(crate) fn read_update(alloc: Global, words: &[Text]) -> Result<Command, Unread>
+    ensures { Reads result (read_update words.now) }
+{
+    let split = split_options(alloc, &[("--restart", Kind::Valued)], words)?;
+    let restart = policy_given(alloc, split.given.as_slice())?;
+    let target = one_word(alloc, split.words.as_slice())?;
+    Ok(Command::Update { target, restart })
 }

@@ -11,26 +11,27 @@ use engine_text::{Pair, Text};
 use std::alloc::Global;
 
 /// Of these options and this word.
-fn replay_of(alloc: Global, given: &[Pair], word: &Text) -> Result<Command, Unread>
+fn replay_of(alloc: Global, given: &[Pair], word: &str) -> Result<Command, Unread>
     ensures { Reads result (spec.replay_of given.now word.now) }
 {
     let seed = value_of(alloc, "--seed", given)?;
     let seed = seed_of(seed.as_ref().map(|seed| seed.as_str())).ok_or(Unread::NoForm)?;
-    let moment = moment_in(word.as_str()).ok_or(Unread::NoForm)?;
+    let moment = moment_in(word).ok_or(Unread::NoForm)?;
     Ok(Command::Replay { seed, moment })
 }
 
-/// One word behind the options.
+/// One word behind the options, or none.
 fn replay_in(alloc: Global, given: &[Pair], words: &[Text]) -> Result<Command, Unread>
     ensures { Reads result (spec.replay_in given.now words.now) }
 {
     match words {
-        [word] => replay_of(alloc, given, word),
+        [] => replay_of(alloc, given, "0"),
+        [word] => replay_of(alloc, given, word.as_str()),
         _ => Err(Unread::NoForm),
     }
 }
 
-/// `replay [--seed HEX] MOMENT`.
+/// `replay [--seed HEX] [MOMENT]`.
 pub(crate) fn read_replay(alloc: Global, words: &[Text]) -> Result<Command, Unread>
     ensures { Reads result (spec.read_replay words.now) }
 {

@@ -1,9 +1,10 @@
-// The table of commands.
-ghost use Rattle.std.specs.Prelude.{◌∷◌};
+// The table of commands: how each is written, and how its words are read.
+ghost use Rattle.std.specs.Prelude.{◌≡◌, ◌∷◌};
 ghost use Rattle.client_model.specs.Lines as spec;
+ghost use Rattle.client_model.specs.Usage.{usage_among, usage_of};
 ghost use Rattle.client_parts.specs.Reading.{Reads};
 
-use super::containers::{read_create, read_run};
+use super::containers::{read_create, read_run, read_update};
 use super::execs::read_exec;
 use super::optioned::{read_kill, read_logs, read_remove, read_restart, read_stop};
 use super::replays::read_replay;
@@ -18,6 +19,53 @@ use client_model::{Command, Line};
 use engine_line::port_in;
 use engine_text::Text;
 use std::alloc::Global;
+
+/// What stands behind ADDR of any command.
+pub(crate) const ANY: &str =
+    "create|run|start|pause|unpause|stop|restart|kill|rm|rename|update|ps|inspect|version|logs|attach|exec|wait|events|watch|volume|journal|replay [OPTIONS] [WORD..]";
+
+// What stands behind ADDR of the command of this name that changes no container, or of any.
+fn usage_of_others(name: &str) -> &'static str
+    ensures { result.now ≡ usage_among spec.usages_of_others name.now }
+{
+    match name {
+        "ps" => "ps [-a]",
+        "inspect" => "inspect REF",
+        "version" => "version",
+        "logs" => "logs [-f] REF",
+        "attach" => "attach REF",
+        "exec" => "exec [-i] REF WORD..",
+        "wait" => "wait REF",
+        "events" => "events SINCE UNTIL",
+        "watch" => "watch UNTIL",
+        "volume" => "volume create|inspect|rm NAME, or volume ls",
+        "journal" => "journal",
+        "replay" => "replay [--seed HEX] [MOMENT]",
+        _ => ANY,
+    }
+}
+
+/// What stands behind ADDR of the command of this name, or of any where none has it.
+pub(crate) fn usage_of(name: &str) -> &'static str
+    ensures { result.now ≡ usage_of name.now }
+{
+    match name {
+        "create" =>
+            "create [--name NAME] [--restart POLICY[:MAX]] [-i] [-v VOLUME:PATH[:ro]].. IMAGE [WORD..]",
+        "run" =>
+            "run [--rm] [--name NAME] [--restart POLICY[:MAX]] [-i] [-v VOLUME:PATH[:ro]].. IMAGE [WORD..]",
+        "start" => "start REF",
+        "pause" => "pause REF",
+        "unpause" => "unpause REF",
+        "stop" => "stop [-t N] REF",
+        "restart" => "restart [-t N] REF",
+        "kill" => "kill [-s SIG] REF",
+        "rm" => "rm [-f] REF",
+        "rename" => "rename REF NAME",
+        "update" => "update --restart POLICY[:MAX] REF",
+        _ => usage_of_others(name),
+    }
+}
 
 /// What the words behind a command's name ask for.
 fn read_named(alloc: Global, name: &str, words: &[Text]) -> Result<Command, Unread>
@@ -34,6 +82,7 @@ fn read_named(alloc: Global, name: &str, words: &[Text]) -> Result<Command, Unre
         "kill" => read_kill(alloc, words),
         "rm" => read_remove(alloc, words),
         "rename" => read_rename(alloc, words),
+        "update" => read_update(alloc, words),
         "ps" => read_list(alloc, words),
         "inspect" => read_inspect(alloc, words),
         "version" => read_version(words),

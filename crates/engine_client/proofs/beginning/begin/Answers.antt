@@ -10,6 +10,7 @@ use Rattle.client_model.specs.Commands.Restart.{restart_request}
 use Rattle.client_model.specs.Commands.Kill.{kill_request}
 use Rattle.client_model.specs.Commands.Remove.{remove_request}
 use Rattle.client_model.specs.Commands.Rename.{rename_request}
+use Rattle.client_model.specs.Commands.Update.{update_request}
 use Rattle.client_model.specs.Commands.List.{list_request}
 use Rattle.client_model.specs.Commands.Inspect.{inspect_request, inspect_plan}
 use Rattle.client_model.specs.Commands.Version.{version_request}
@@ -56,6 +57,9 @@ returns-in-Remove c = begun _ false _ _ (ap (λ t. asks_and_prints (remove_reque
 
 pub returns-in-Rename : goal.returns-in-Rename
 returns-in-Rename c = begun _ false _ _ (ap₂ (λ t n. asks_and_prints (rename_request t n) c.in-Rename.target) c.as_str-in-Rename.ensures c.as_str-in-Rename-2.ensures ∙ ap plan_of (sym c.in-Rename.is)) (c.asks_and_prints-in-Rename.ensures (rename_request c.as_str-in-Rename.result.now c.as_str-in-Rename-2.result.now) c.rename_request.ensures)
+
+pub returns-in-Update : goal.returns-in-Update
+returns-in-Update c = begun _ false _ _ (ap (λ t. asks_and_prints (update_request t c.in-Update.restart) c.in-Update.target) c.as_str-in-Update.ensures ∙ ap plan_of (sym c.in-Update.is)) (c.asks_and_prints-in-Update.ensures (update_request c.as_str-in-Update.result.now c.in-Update.restart) c.update_request.ensures)
 
 pub returns-in-List : goal.returns-in-List
 returns-in-List c = begun _ false _ _ (ap plan_of (sym c.in-List.is)) (c.asks-in-List.ensures (list_request c.in-List.all) c.list_request.ensures (λ never. refl))
