@@ -2,8 +2,8 @@
 ghost use Rattle.std.specs.Prelude.{◌≤◌};
 
 use crate::short::Short;
-use engine_text::{Action, Event, EventKind, Pairs, Text, Words};
-use health_watch::{HealthSpec, Watch};
+use engine_text::{Action, Event, EventKind, HealthSpec, Pairs, Text, Words};
+use health_watch::Watch;
 use std::alloc::Global;
 
 /// The greatest timeout of a check: an hour of milliseconds.

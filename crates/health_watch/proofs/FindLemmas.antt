@@ -1,7 +1,7 @@
 -- How a watch finds the next change among marks and results (lines of any length).
 use Rattle.std.proofs.Common.{arith, ◌≡◌, ℕ, suc, ◌+◌, ◌<◌, ◌≤◌, List, [], ◌∷◌, length, drop, Option, Some, None, ap, sym, subst}
 use Rattle.std.proofs.Math.ListN.{length-drop}
-use Rattle.health_watch.specs.declared.spec.HealthSpec.{HealthSpec}
+use Rattle.engine_text.specs.declared.health.HealthSpec.{HealthSpec}
 use Rattle.health_watch.specs.declared.health.Change.{Change}
 use Rattle.health_watch.specs.declared.mark.Mark.{Mark}
 use Rattle.health_watch.specs.declared.position.Position.{Position}

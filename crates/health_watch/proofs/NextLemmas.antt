@@ -1,7 +1,7 @@
 -- What was found is what a watch tells next (lines of any length).
 use Rattle.std.proofs.Common.{arith, ◌≡◌, ℕ, ◌+◌, ◌≤◌, Bool, true, false, nat_lt, if◌then◌else◌, List, [], ◌∷◌, ◌++◌, Option, Some, None, refl}
 use Rattle.std.proofs.lemmas.Bool.{ltb-false}
-use Rattle.health_watch.specs.declared.spec.HealthSpec.{HealthSpec}
+use Rattle.engine_text.specs.declared.health.HealthSpec.{HealthSpec}
 use Rattle.health_watch.specs.declared.health.Change.{Change}
 use Rattle.health_watch.specs.declared.mark.Mark.{Mark}
 use Rattle.health_watch.specs.declared.position.Position.{Position}

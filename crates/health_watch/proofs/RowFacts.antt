@@ -4,7 +4,7 @@ use Rattle.engine_text.specs.declared.event.Event.{Event}
 use Rattle.engine_text.specs.declared.event.EventKind.TheVariants as kind
 use Rattle.engine_text.specs.declared.event.Action.{Action}
 use Rattle.engine_text.specs.declared.event.Action.TheVariants as action
-use Rattle.health_watch.specs.declared.spec.HealthSpec.{HealthSpec}
+use Rattle.engine_text.specs.declared.health.HealthSpec.{HealthSpec}
 use Rattle.health_watch.specs.declared.health.Health.TheVariants as health
 use Rattle.health_watch.specs.declared.health.Change.{Change}
 use Rattle.health_watch.specs.declared.mark.Mark.{Mark}

@@ -1,6 +1,6 @@
 -- own: where a watch stands among the marks that it has seen, and how it goes on.
 use Rattle.std.specs.Prelude.{ℕ, ◌≡◌, ◌≤◌, ◌<◌, ◌+◌, ⊤, List, [], ◌∷◌, ◌++◌, Option, Some, None, drop, length}
-use Rattle.health_watch.specs.declared.spec.HealthSpec.{HealthSpec}
+use Rattle.engine_text.specs.declared.health.HealthSpec.{HealthSpec}
 use Rattle.health_watch.specs.declared.health.Change.{Change}
 use Rattle.health_watch.specs.declared.mark.Mark.{Mark}
 use Rattle.health_watch.specs.declared.open_run.OpenRun.{OpenRun}

@@ -2,7 +2,7 @@
 use Rattle.std.specs.Prelude.{ℕ, ◌+◌, List, [], ◌∷◌, ◌++◌, Bool, true, false, ◌&&◌, nat_le, nat_lt, Option, Some, None, if◌then◌else◌}
 use Rattle.std.specs.List.{fold}
 use Rattle.engine_text.specs.declared.event.Event.{Event}
-use Rattle.health_watch.specs.declared.spec.HealthSpec.{HealthSpec}
+use Rattle.engine_text.specs.declared.health.HealthSpec.{HealthSpec}
 use Rattle.health_watch.specs.declared.health.Health.{Health}
 use Rattle.health_watch.specs.declared.health.Health.TheVariants as health
 use Rattle.health_watch.specs.declared.health.Change.{Change}

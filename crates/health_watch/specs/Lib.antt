@@ -7,4 +7,3 @@ pub mod Reaching
 pub mod Watching
 pub mod Advancing
 pub mod WatchInside
-pub mod Sound

@@ -3,7 +3,7 @@ use Rattle.std.specs.Prelude.{ℕ, zero, suc, ◌≡◌, ◌≤◌, ◌+◌, ◌
 use Rattle.engine_text.specs.Scripts.{Program, most_ops}
 use Rattle.engine_text.specs.declared.script.Effect.{Effect}
 use Rattle.engine_text.specs.declared.script.Effect.TheVariants.{Lives, Wrote, Ended}
-use Rattle.health_watch.specs.declared.spec.HealthSpec.{HealthSpec}
+use Rattle.engine_text.specs.declared.health.HealthSpec.{HealthSpec}
 use Rattle.proc_kernel.specs.Catalogue.{program_of}
 use Rattle.proc_kernel.specs.Processes.{Process, ProcessStep, spawn, run_due, next_due}
 use Rattle.health_watch.specs.declared.outcome.Outcome.{Outcome}

@@ -1,7 +1,7 @@
 -- own: how far a watch has come, and what is to come from there.
 use Rattle.std.specs.Prelude.{ℕ, ◌≡◌, ◌≤◌, ◌<◌, ◌+◌, ◌-◌, ◌⊎◌, ⊤, List, [], ◌∷◌, ◌++◌, ◌&&◌, nat_le, nat_lt, if◌then◌else◌, Option, Some, None, option_map, option_to_list, drop}
 use Rattle.std.specs.List.{fold}
-use Rattle.health_watch.specs.declared.spec.HealthSpec.{HealthSpec}
+use Rattle.engine_text.specs.declared.health.HealthSpec.{HealthSpec}
 use Rattle.health_watch.specs.declared.health.Health.TheVariants as health
 use Rattle.health_watch.specs.declared.health.Change.{Change}
 use Rattle.health_watch.specs.declared.mark.Mark.{Mark}

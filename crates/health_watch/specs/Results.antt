@@ -1,7 +1,7 @@
 -- When the probes of a run begin, and what comes of them (Docker Engine API v1.43, definition HealthConfig; own: pauses, the greatest number of probes).
 use Rattle.std.specs.Prelude.{ℕ, zero, suc, ◌+◌, List, [], ◌∷◌, Bool, true, ◌&&◌, nat_le, nat_lt, Option, Some, None, if◌then◌else◌, option_and_then}
 use Rattle.std.specs.Option.{option_map_or}
-use Rattle.health_watch.specs.declared.spec.HealthSpec.{HealthSpec}
+use Rattle.engine_text.specs.declared.health.HealthSpec.{HealthSpec}
 use Rattle.health_watch.specs.Runs.{Span, Run}
 use Rattle.health_watch.specs.declared.outcome.Outcome.{Outcome}
 use Rattle.health_watch.specs.declared.outcome.ProbeResult.{ProbeResult}

@@ -1,7 +1,7 @@
 -- own: what a watch holds, as what it has seen and told.
 use Rattle.std.specs.Prelude.{ℕ, ◌≡◌, ◌≤◌, ◌+◌, List, Option, Some, None}
 use Rattle.std.specs.List.{AllByRecursion}
-use Rattle.health_watch.specs.declared.spec.HealthSpec.{HealthSpec}
+use Rattle.engine_text.specs.declared.health.HealthSpec.{HealthSpec}
 use Rattle.health_watch.specs.declared.mark.Mark.{Mark}
 use Rattle.health_watch.specs.declared.reached.Reached.{Reached}
 use Rattle.health_watch.specs.declared.watch.Watch.TheInside.{Inside}

@@ -1,7 +1,7 @@
 -- What a watch has seen and given, and what its calls say (Docker Engine API v1.43, definition Health; own: moments rise).
 use Rattle.std.specs.Prelude.{ℕ, ◌≡◌, ◌≤◌, ◌<◌, List, [], ◌∷◌, ◌++◌, Option, Some, None, ⊤, nat_lt, if◌then◌else◌}
 use Rattle.engine_text.specs.declared.event.Event.{Event}
-use Rattle.health_watch.specs.declared.spec.HealthSpec.{HealthSpec}
+use Rattle.engine_text.specs.declared.health.HealthSpec.{HealthSpec}
 use Rattle.health_watch.specs.declared.health.Change.{Change}
 use Rattle.health_watch.specs.declared.mark.Mark.{Mark}
 use Rattle.health_watch.specs.Runs.{marks_by}

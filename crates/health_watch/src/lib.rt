@@ -9,14 +9,12 @@ mod outcome;
 mod position;
 mod probes;
 mod reached;
-mod spec;
 mod tally;
 mod watch;
 
 pub use health::{Change, Health};
-pub use laws::law_probes;
+pub use laws::{law_checks, law_probes};
 pub use mark::{Mark, Turn};
 pub use outcome::{Outcome, ProbeResult};
 pub use probes::probe;
-pub use spec::HealthSpec;
 pub use watch::Watch;

@@ -5,8 +5,7 @@ ghost use Rattle.health_watch.specs.Reaching.{IsHeld, NextResult, behind_next, r
 
 use super::outcome::ProbeResult;
 use super::probes::probe;
-use crate::spec::HealthSpec;
-use engine_text::NoMemory;
+use engine_text::{HealthSpec, NoMemory};
 use std::alloc::Global;
 
 /// The greatest number of probes of a run.

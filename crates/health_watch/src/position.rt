@@ -6,8 +6,7 @@ ghost use Rattle.health_watch.specs.Advancing.{AreSized, IsTimed, FindSays};
 use super::health::Change;
 use super::mark::Mark;
 use super::reached::Reached;
-use crate::spec::HealthSpec;
-use engine_text::NoMemory;
+use engine_text::{HealthSpec, NoMemory};
 use std::alloc::Global;
 
 /// How many marks are behind it, and how far it has come with them.

@@ -6,8 +6,7 @@ ghost use Rattle.health_watch.specs.Probes.{late, outcome_of, probe_of};
 ghost use Rattle.health_watch.specs.ProbeSteps.{alone, ended_by, StepSays};
 
 use super::outcome::Outcome;
-use crate::spec::HealthSpec;
-use engine_text::{Effect, NoMemory, Owner, Script, Signal};
+use engine_text::{Effect, HealthSpec, NoMemory, Owner, Script, Signal};
 use proc_kernel::{Kernel, program};
 use std::alloc::Global;
 

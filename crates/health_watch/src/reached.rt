@@ -9,8 +9,7 @@ use super::mark::{Mark, Turn};
 use super::open_run::OpenRun;
 use super::outcome::ProbeResult;
 use super::tally::Tally;
-use crate::spec::HealthSpec;
-use engine_text::NoMemory;
+use engine_text::{HealthSpec, NoMemory};
 use std::alloc::Global;
 
 /// The tally, and the run that is open.

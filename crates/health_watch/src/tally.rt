@@ -6,7 +6,7 @@ ghost use Rattle.health_watch.specs.Reaching.{standing_in, IsOfMoment};
 
 use super::health::{Change, Health};
 use super::outcome::ProbeResult;
-use crate::spec::HealthSpec;
+use engine_text::HealthSpec;
 
 /// The status, and the failures in a row.
 #[derive(Clone, Copy, Debug, Drop)]

@@ -7,8 +7,7 @@ use super::health::{Change, Health};
 use super::mark::{Mark, turn_of};
 use super::position::Position;
 use super::reached::Reached;
-use crate::spec::HealthSpec;
-use engine_text::{Event, NoMemory, Text};
+use engine_text::{Event, HealthSpec, NoMemory, Text};
 use std::alloc::Global;
 use std::marker::Model;
 
@@ -57,7 +56,7 @@ fn told_by(change: &Option<Change>, until: u64) -> u64
 
 impl Watch {
     /// A watch that has seen nothing; the check's interval is a millisecond at least, and its timeout
-    /// an hour at most.
+    /// an hour at most, as are those of each check that a create can have.
     pub fn new(alloc: Global, id: Text, spec: HealthSpec) -> Result<Watch, NoMemory>
         requires interval { 1 ≤ spec.interval }
         requires timeout { spec.timeout ≤ 3600000 }
