@@ -9,7 +9,7 @@ HERE = os.path.dirname(os.path.abspath(__file__))
 sys.path.insert(0, os.path.join(HERE, "..", "engine_scenarios"))
 from exchange import answer, compact, created, id_of, message, shown, volume  # noqa: E402
 
-COMMANDS = ("create|run|start|pause|unpause|stop|restart|kill|rm|rename|ps|inspect|version|logs|attach|exec|wait|events|watch"
+COMMANDS = ("create|run|start|pause|unpause|stop|restart|kill|rm|rename|update|ps|inspect|version|logs|attach|exec|wait|events|watch"
             "|volume|journal|replay")
 ANY = f"{COMMANDS} [OPTIONS] [WORD..]"
 WEB, GONE, LONG, FLAKY, TRAP = (id_of(n) for n in range(5))
@@ -72,12 +72,30 @@ START = {"op": "start", "ref": "web"}
 WAITED = (entry({"condition": "not-running", "op": "wait", "ref": "web"}, 2, 1, {"ticket": 0})
           + entry({"op": "take", "ticket": 0}, 2, 0, told(200, compact({"StatusCode": 7}))))
 JOURNAL = CREATE + entry(START, 1, 0, told(204)) + WAITED
-line("journal", JOURNAL)
+
+
+def in_second(text):
+    """The same in format 2: with a header, and all keys of a create."""
+    header = compact({"format": 2, "moment": 1700000000000, "seed": "00" * 32}) + "\n"
+    return header + text.replace('"image"', '"auto":false,"health":null,"image"')
+
+
+line("journal", in_second(JOURNAL))
 line("ps")
 line("ps -a", f"{WEB} web exited Exited (7)\n")
 NOW = "2023-11-14T22:13:20.000000000Z"
 line("inspect web", body(shown(0, "web", ["exit", "7"], "exited", code=7, started=NOW, finished=NOW)) + "\n")
-line("events 1700000000 1700000000", event("create") + event("start") + event("die", exitCode="7"))
+
+# ---- another restart policy, and ones that the daemon doesn't take
+
+names("update --restart on-failure:5 web")
+line("inspect web", body(shown(0, "web", ["exit", "7"], "exited", code=7, started=NOW, finished=NOW, policy=("on-failure", 5))) + "\n")
+refused("update --restart sometimes web", "bad restart policy")
+refused("update --restart always:5 web", "bad restart policy")
+names("update --restart no web")
+refused("update --restart no nobody", "No such container: nobody")
+line("events 1700000000 1700000000",
+     event("create") + event("start") + event("die", exitCode="7") + event("update") + event("update"))
 
 # ---- what the events tell: of a container that is gone nothing, and of one that lives that it does
 
@@ -162,6 +180,9 @@ usage("stop -t", "stop [-t N] REF")
 usage("ps web", "ps [-a]")
 usage("exec web", "exec [-i] REF WORD..")
 usage("run --rm", "run [--rm] [--name NAME] [--restart POLICY[:MAX]] [-i] [-v VOLUME:PATH[:ro]].. IMAGE [WORD..]")
+usage("update web", "update --restart POLICY[:MAX] REF")
+usage("update --restart always", "update --restart POLICY[:MAX] REF")
+usage("update --restart on-failure:many web", "update --restart POLICY[:MAX] REF")
 usage("volume prune", "volume create|inspect|rm NAME, or volume ls")
 usage("version 2", "version")
 usage("--help")
@@ -172,6 +193,13 @@ line("replay 1700000000000", "legal 5\n", connections=0, given=JOURNAL)
 line("replay 1700000000000", f"illegal line 2\nkept {compact(told(304))}\nfound {compact(told(204))}\n", status=1, connections=0,
      given=CREATE + entry(START, 1, 0, told(304)) + WAITED)
 line("replay 1700000000000", "bad line 2\n", status=3, connections=0, given=CREATE + "x\n" + WAITED)
+# those of format 2 name their opening, and the header is line 1
+line("replay", "legal 5\n", connections=0, given=in_second(JOURNAL))
+line("replay 5", "legal 5\n", connections=0, given=in_second(JOURNAL))
+line("replay", f"illegal line 3\nkept {compact(told(304))}\nfound {compact(told(204))}\n", status=1, connections=0,
+     given=in_second(CREATE + entry(START, 1, 0, told(304)) + WAITED))
+line("replay", "bad line 2\n", status=3, connections=0, given=in_second("") + JOURNAL)
+line("replay", "legal 0\n", connections=0, given=in_second(""))
 # (of what ignores TERM, which is started twice: the due step between is counted)
 TWO_STARTS = [entry({"after": 10, "image": "engine/tools:latest", "labels": {}, "maximum": 0, "mounts": [], "name": "web", "once": False,
                      "op": "create", "policy": "no", "signal": 15, "stdin": False, "words": ["deaf"]},
@@ -278,6 +306,7 @@ KILLED = (event("create"), event("start"), event("pause"), event("kill", signal=
 by("watch 1700000000", FIRST + chunk("".join(KILLED)) + LAST, out=f"{WEB} web not-live not-paused 137\n")
 by("watch 1700000000", FIRST + "".join(map(chunk, KILLED[:3])) + LAST, out=f"{WEB} web live paused 0\n")
 by("watch 1700000000", LATER + LAST, err="dockc: the first events are no longer kept\n", status=123)
+by("update --restart always web", message(409, "AutoRemove excludes a restart policy"), err="AutoRemove excludes a restart policy\n", status=125)
 by("start web", "nowhere", err=NO_CONNECTION, status=125, missed=1)
 by("start web", "read fails", err=NO_MORE, status=125)
 by("start web", "write fails", err=NO_MORE, status=125)
@@ -313,7 +342,7 @@ def main():
     with open(f"{HERE}/stdin", "w", newline="", encoding="utf-8") as file:
         file.write("".join(lines))
     with open(f"{HERE}/stdout", "w", newline="", encoding="utf-8") as file:
-        file.write("".join(wanted) + "daemon Closed\n")
+        file.write("".join(wanted) + "daemon Closed\nvectors: 26 passed, 0 failed\n")
 
 
 main()

@@ -79,6 +79,11 @@ def with_policy(words, policy):
                     "HostConfig": {"RestartPolicy": {"Name": policy[0], "MaximumRetryCount": policy[1]}}})
 
 
+def update(name, policy=None):
+    given = {"RestartPolicy": {"Name": policy[0], "MaximumRetryCount": policy[1]}} if policy else {}
+    return post(f"/containers/{name}/update", compact(given))
+
+
 def create_volume(name, labels=None):
     return post("/v1.43/volumes/create", compact({"Name": name, **({"Labels": labels} if labels else {})}))
 
@@ -128,6 +133,9 @@ PING, PONG = get("/_ping"), answer(200, "OK", kind="text/plain; charset=utf-8")
 NOT_RUNNING = message(409, f"Container {id_of(0)} is not running")
 
 
+UPDATED = answer(200, compact({"Warnings": []}))
+
+
 def waited(code):
     return answer(200, compact({"StatusCode": code}))
 
@@ -146,13 +154,13 @@ def mount(volume, path, writable=True):
 
 
 def shown(n, name, words, status, code=0, pid=0, started=NEVER, finished=NEVER, policy=("no", 0), restarts=0, mounts=(),
-          stdin=False, stop="SIGTERM", made=NOW):
+          stdin=False, stop="SIGTERM", made=NOW, auto=False):
     return answer(200, compact({
         "Args": words[1:],
         "Config": {"Cmd": words, "Image": "engine/tools:latest", "Labels": {}, "OpenStdin": stdin, "StdinOnce": stdin,
                    "StopSignal": stop, "StopTimeout": 10, "Tty": False},
         "Created": made,
-        "HostConfig": {"AutoRemove": False, "RestartPolicy": {"MaximumRetryCount": policy[1], "Name": policy[0]}},
+        "HostConfig": {"AutoRemove": auto, "RestartPolicy": {"MaximumRetryCount": policy[1], "Name": policy[0]}},
         "Id": id_of(n), "Image": "engine/tools:latest", "Mounts": list(mounts), "Name": f"/{name}", "Path": words[0],
         "RestartCount": restarts,
         "State": {"Dead": status == "dead", "Error": "", "ExitCode": code, "FinishedAt": finished, "OOMKilled": False,

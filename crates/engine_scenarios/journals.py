@@ -1,4 +1,4 @@
-"""Scenarios of the journal: a line an entry, each in a chunk of its own, up to the call that asks for it."""
+"""Scenarios of the journal: its header and a line an entry, each in a chunk of its own, up to the call that asks for it."""
 from exchange import *
 from lives import *
 from states import *
@@ -14,7 +14,7 @@ def kept(status, body=None):
 
 
 def create_call(name, words):
-    return {"after": 10, "image": "engine/tools:latest", "labels": {}, "maximum": 0, "mounts": [], "name": name, "once": False,
+    return {"after": 10, "auto": False, "health": None, "image": "engine/tools:latest", "labels": {}, "maximum": 0, "mounts": [], "name": name, "once": False,
             "op": "create", "policy": "no", "signal": 15, "stdin": False, "words": words}
 
 
@@ -39,9 +39,12 @@ def journal_chunk(line):
     return f"{len(line):x}\r\n{line}\r\n"
 
 
+HEADER = compact({"format": 2, "moment": 1700000000000, "seed": "00" * 32}) + "\n"
+
+
 def lines_told(*lines, close=False):
     """The answer to a request for the journal."""
-    return journal_head(close) + "".join(map(journal_chunk, lines)) + "0\r\n\r\n"
+    return journal_head(close) + "".join(map(journal_chunk, (HEADER, *lines))) + "0\r\n\r\n"
 
 
 JOURNAL = get("/engine/journal")
@@ -75,8 +78,9 @@ BOTH = created(0) + created(1) + journal_head()
 scenario("journal_broken_off", [WEB, create("db"), JOURNAL, PING], "", status=4, comings=(
     ("write=2", created(0) + created(1)),
     ("write=3", BOTH),
-    ("write=4", BOTH + journal_chunk(WEB_ENTRY)),
-    ("write=5", BOTH + journal_chunk(WEB_ENTRY) + journal_chunk(DB_ENTRY))))
+    ("write=4", BOTH + journal_chunk(HEADER)),
+    ("write=5", BOTH + journal_chunk(HEADER) + journal_chunk(WEB_ENTRY)),
+    ("write=6", BOTH + journal_chunk(HEADER) + journal_chunk(WEB_ENTRY) + journal_chunk(DB_ENTRY))))
 
 # by its method
 scenario("journal_by_method", [get("/engine/journal", "HEAD"), post("/engine/journal"), get("/engine/journal/more")],

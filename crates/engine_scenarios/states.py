@@ -23,7 +23,8 @@ OF_EACH_ANSWERS = [*(created(n) for n in NUMBERS.values()), answer(204),
 
 def now_shown(name, status, called=None, **more):
     """An inspect of the container that was made for that state."""
-    return shown(NUMBERS[name], called or name, WORDS.get(name, LONG), status, policy=POLICIES.get(name, ("no", 0)), **more)
+    policy = more.pop("policy", POLICIES.get(name, ("no", 0)))
+    return shown(NUMBERS[name], called or name, WORDS.get(name, LONG), status, policy=policy, **more)
 
 
 def unchanged(name):
@@ -133,6 +134,9 @@ cells("rename", lambda name: post(f"/containers/{name}/rename?name=new-{name}"),
     + [post("/containers/new-paused/rename?name=new-created"), create("paused"), post("/containers/dead/rename?name=dead")],
     [now_shown(name, name, f"new-{name}", **STATES[name]) for name in LIVE_ON]
     + [conflict("new-created", 1), created(6), refusal(DEAD_TEXT, "dead")])
+cells("update", lambda name: update(name, ("unless-stopped", 0)), {
+    **{name: (UPDATED, now_shown(name, name, policy=("unless-stopped", 0), **STATES[name])) for name in LIVE_ON},
+    "dead": (DEAD_TEXT,)})
 cells("exec", lambda name: create_exec(name, ECHO), {
     "created": (NOT_RUNNING_TEXT,),
     "exited": (NOT_RUNNING_TEXT,),

@@ -18,6 +18,7 @@ import events
 import journals
 import takeovers
 import sockets
+import updates
 
 HERE = os.path.dirname(os.path.abspath(__file__))
 

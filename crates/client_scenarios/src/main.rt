@@ -1,6 +1,6 @@
 //! Runs `dockc` over stored lines, by a daemon of the same process over real sockets. Each line of
 //! standard input but the first has the words of one command; what it wrote and its status follow
-//! on standard output.
+//! on standard output, and behind the last one what the vectors of the API came to.
 #![tactic(auto)]
 
 mod daemon;
@@ -8,6 +8,7 @@ mod line;
 mod outside;
 mod run;
 
+use engine_conformance::run_vectors;
 use engine_ports::{Door, NoMemory, TcpDoor, TcpLink};
 use line::read_lines;
 use session_model::Worst;
@@ -40,5 +41,9 @@ fn main(rt: HostRuntime) -> io::Result<()> {
     if ran.is_err() {
         return println!(rt; "out of memory");
     }
-    println!(rt; "daemon {worst:?}")
+    println!(rt; "daemon {worst:?}")?;
+    match run_vectors(&rt, alloc) {
+        Ok(report) => println!(rt; "vectors: {} passed, {} failed", report.passed, report.failed),
+        Err(_) => println!(rt; "out of memory"),
+    }
 }

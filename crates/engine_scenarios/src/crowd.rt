@@ -64,12 +64,17 @@ fn answers_of(alloc: Global, door: &MemDoor<StepClock>) -> Result<Vec<u8>, Alloc
     Ok(all)
 }
 
+// Whether a line is one of a journal: its header, or an entry's.
+fn is_journals(line: &str) -> bool {
+    line.starts_with("{\"format\":") || line.starts_with("{\"call\":")
+}
+
 // The lines of a journal that stand in what a connection was answered. Each is in a chunk of its own.
 fn lines_of(alloc: Global, answers: &[u8]) -> Result<String, AllocError> {
     let text = str::from_utf8(answers).unwrap_or("");
     let mut lines = String::new(alloc);
     for line in text.split_inclusive('\n') {
-        if line.starts_with("{\"call\":") {
+        if is_journals(line) {
             lines.push_str(line)?;
         }
     }

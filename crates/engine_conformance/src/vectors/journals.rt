@@ -18,7 +18,7 @@ POST /v1.43/containers/web/start
 POST /v1.43/containers/web/start
 GET /engine/journal"#;
 
-/// The second line of that journal.
+/// The line of the first start in that journal, behind its header and the create.
 const SECOND: &str =
     r#"{"call":{"op":"start","ref":"web"},"conn":0,"dues":0,"moment":1700000000000,"reply":{"body":"","status":204}}"#;
 
@@ -45,7 +45,7 @@ GET /_ping"#;
 
 // What the client's `replay` says of a journal.
 fn replayed<W: Wait>(rt: &W, alloc: Global, journal: &[u8]) -> Result<Ran, Short> {
-    run_client_over(rt, alloc, "127.0.0.1:1 replay 1700000000000", journal, &[])
+    run_client_over(rt, alloc, "127.0.0.1:1 replay", journal, &[])
 }
 
 // What the client's `replay` says of a journal that was written by hand, cut, or isn't.
@@ -59,12 +59,12 @@ fn is_judged<W: Wait>(rt: &W, alloc: Global, journal: &str) -> Result<bool, Shor
         }
         None => return Ok(false),
     };
-    let illegal = "illegal line 3\nkept {\"body\":\"\",\"status\":204}\n\
+    let illegal = "illegal line 4\nkept {\"body\":\"\",\"status\":204}\n\
 found {\"body\":\"\",\"status\":304}\n";
     Ok(
         replayed(rt, alloc, journal.as_bytes())?.is(0, b"legal 4\n")
             && replayed(rt, alloc, wrong.as_bytes())?.is(1, illegal.as_bytes())
-            && replayed(rt, alloc, cut.as_bytes())?.is(3, b"bad line 2\n"),
+            && replayed(rt, alloc, cut.as_bytes())?.is(3, b"bad line 3\n"),
     )
 }
 
@@ -80,12 +80,12 @@ pub fn a_journal_is_replayed<R: Threads + Wait + Sync>(
     };
     let told = run_client_over(rt, alloc, "127.0.0.1:1 journal", b"", &[answer.as_bytes()])?;
     match str::from_utf8(told.out.bytes()) {
-        Ok(journal) => Ok(journal.lines().count() == 3 && is_judged(rt, alloc, journal)?),
+        Ok(journal) => Ok(journal.lines().count() == 4 && is_judged(rt, alloc, journal)?),
         Err(_) => Ok(false),
     }
 }
 
-// Whether the entry of that number was made at that moment.
+// Whether the entry of the journal's line of that number was made at that moment.
 fn is_made_at(alloc: Global, daemon: &Daemon, number: u64, moment: &str) -> Result<bool, Short> {
     let mut line = Vec::new(alloc);
     let _ = daemon.journal_from(alloc, number, &mut line);
@@ -98,8 +98,8 @@ pub fn a_moment_never_goes_back(alloc: Global) -> Result<bool, Short> {
     let mut turns = Alone::new(Daemon::new(alloc, [0; 32], MOMENT, 16)?);
     let _ = turns.turn(alloc, 0, 0, Some(&Call::JournalRead));
     let _ = turns.turn(alloc, 0, 1_700_691_200_000, Some(&Call::JournalRead));
-    let first = is_made_at(alloc, turns.daemon(), 0, "1700000000000");
-    let second = is_made_at(alloc, turns.daemon(), 1, "1700604800000");
+    let first = is_made_at(alloc, turns.daemon(), 1, "1700000000000");
+    let second = is_made_at(alloc, turns.daemon(), 2, "1700604800000");
     turns.end();
     Ok(first? && second?)
 }
