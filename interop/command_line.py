@@ -199,7 +199,12 @@ step(f"create --name stopped --interactive {TOOLS} cat", ID)
 step("start --attach --interactive stopped", "again", sent="again\n")
 step(f"run --detach --name behind {TOOLS} deaf", ID)
 step("rm --force behind", "behind")
-step(f"run --rm {TOOLS} echo hi", ".*", 125)
+step(f"run --rm {TOOLS} echo hi", "hi")
+step(f"create --rm --name brief {TOOLS} sleep 100", ID)
+step("update --restart always brief", ".*AutoRemove excludes a restart policy.*", 1)
+step("update --restart no brief", "brief")
+step("rm brief", "brief")
+step("update --restart on-failure:3 stopped", "stopped")
 
 # events
 step("events --since 2000-01-01T00:00:00Z --until 2000-01-01T00:00:01Z", "")
