@@ -3,6 +3,7 @@ pub mod ReadLemmas
 pub mod KindLemmas
 pub mod CodeLemmas
 pub mod EffectLemmas
+pub mod CallEffectLemmas
 pub mod CallLemmas
 pub mod WaitLemmas
 pub mod FrameLemmas
