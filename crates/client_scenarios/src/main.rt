@@ -43,7 +43,10 @@ fn main(rt: HostRuntime) -> io::Result<()> {
     }
     println!(rt; "daemon {worst:?}")?;
     match run_vectors(&rt, alloc) {
-        Ok(report) => println!(rt; "vectors: {} passed, {} failed", report.passed, report.failed),
+        Ok(report) => println!(rt;
+            "vectors: {} passed, {} failed",
+            report.passed, report.failed
+        ),
         Err(_) => println!(rt; "out of memory"),
     }
 }
