@@ -4,7 +4,8 @@ from lives import *
 from states import *
 from events import followed, events, line, told
 from journals import JOURNAL, create_call, create_entry, entry, kept, lines_told, named
-from takeovers import detach_exec, exec_made
+from beside import FOLLOW, FOLLOWS_ANSWERS, LAST_CHUNK, THRICE, TICK
+from takeovers import UPGRADED, attach, detach_exec, exec_made, frame
 
 BRIEF = ["sleep", "100"]
 START, WAIT = post("/containers/web/start"), post("/containers/web/wait")
@@ -61,6 +62,12 @@ scenario("two_are_removed_at_one_moment", [
      listed(item(2, "job", AWHILE, "exited", "Exited (0)")),
      followed(6, [told("die", ms=100, exitCode="0"), told("destroy", ms=100), told("die", 1, "db", 100, exitCode="0"),
                   told("destroy", 1, "db", 100)])])
+# who follows its log, and who looks on, is told all that it wrote, though it is gone by then
+talk("log_to_a_removal_by_itself", (0, 0, [create("web", body=passing(THRICE)), START, FOLLOW], FOLLOWS_ANSWERS),
+     (1, 150, post("/containers/web/kill") + INSPECT, answer(204) + NONE_LEFT), (0, 200, "on", TICK + LAST_CHUNK),
+     (0, 200, FOLLOW, NONE_LEFT))
+talk("attach_to_a_removal_by_itself", (0, 0, [create("web", body=passing(ECHO)), attach("web", "stream=1&stdout=1")], created(0) + UPGRADED),
+     (1, 60, START + INSPECT, answer(204) + NONE_LEFT), (0, 100, "on", frame(1, "hi\n")), ended=[0])
 # what is removed by itself has no other policy; the given one counts from the next end on
 scenario("auto_remove_excludes_a_policy", [
     create("web", body=passing(BRIEF, RestartPolicy={"Name": "always"})), create("web", body=passing(BRIEF)), START,
