@@ -29,7 +29,7 @@ use Rattle.machine_model.proofs.Processes.CodeLemmas.{all_changed, coded_freeze,
 use Rattle.machine_model.proofs.Processes.ProgramCodeLemmas.{OfProgram}
 use Rattle.both_ends.proofs.EffectLemmas.{IsLow, Keeps, keeps_then, keeps_still, keeps_change, keeps_at, keeps_each, keeps_tell, keeps_renew, keeps_spawns, keeps_launch_by_call, keeps_send, keeps_meet}
 
-low_new : (name : List ℕ) (spec : CreateSpec) (s : State) → IsLow (new_container name spec s)
+pub low_new : (name : List ℕ) (spec : CreateSpec) (s : State) → IsLow (new_container name spec s)
 low_new name spec s = omega arith
 
 -- ---- effects of calls
@@ -45,15 +45,15 @@ module _ {n : ℕ} where
   keeps_new : (c : Container) → IsLow c → Keeps n (change (with_new c))
   keeps_new c low = keeps_change (with_new c) (λ s h. (h.0, all_append IsLow s.containers (c ∷ []) h.1 (low, tt), h.2, h.3))
 
-  keeps_add : (c : Container) → IsLow c → Keeps n (add c)
+  pub keeps_add : (c : Container) → IsLow c → Keeps n (add c)
   keeps_add c low =
       keeps_then (keeps_each keeps_missing c.life.mounts)
       (keeps_then {f = λ s. tell (plain_event action.Create c s.clock ∷ []) s} (keeps_new c low) (record { holds = λ s h. (h, tt) }))
 
-  keeps_again : (m : ℕ) → Keeps n (restart.launch_again m)
+  pub keeps_again : (m : ℕ) → Keeps n (restart.launch_again m)
   keeps_again m = keeps_then (keeps_launch_by_call m) (keeps_tell (plain_event action.Restart) m)
 
-  keeps_deliver : (final : Bool) (number m : ℕ) → number < 128 → Keeps n (kill.deliver final number m)
+  pub keeps_deliver : (final : Bool) (number m : ℕ) → number < 128 → Keeps n (kill.deliver final number m)
   keeps_deliver true number m low = keeps_then (keeps_renew m kill.by_hand (λ l k. k)) (keeps_meet number m low)
   keeps_deliver false number m low = keeps_send false number m low
 
@@ -65,19 +65,19 @@ module _ {n : ℕ} where
       keeps_at (λ s. each (λ (x : Exec). pause.freeze_process (OfExec x.number)) (running_execs m s))
       (λ s. keeps_each (λ (x : Exec). keeps_freeze (OfExec x.number)) (running_execs m s))
 
-  keeps_pause : (m : ℕ) → Keeps n (pause.pause m)
+  pub keeps_pause : (m : ℕ) → Keeps n (pause.pause m)
   keeps_pause m =
       keeps_then (keeps_freeze (OfContainer m))
       (keeps_then (keeps_freeze_execs m) (keeps_then (keeps_renew m pause.paused (λ l k. k)) (keeps_tell (plain_event action.Pause) m)))
 
-  keeps_rename : (name : List ℕ) (c : Container) → Keeps n (rename.rename name c)
+  pub keeps_rename : (name : List ℕ) (c : Container) → Keeps n (rename.rename name c)
   keeps_rename name c =
       keeps_then
       (keeps_change (change_container c.number (rename.named name))
       (λ s h. (h.0, all_updated IsLow (λ d. d.number == c.number) (rename.named name) (λ d k. k) s.containers h.1, h.2, h.3)))
       (keeps_tell (rename_event c.name) c.number)
 
-  keeps_update : (policy : Option Policy) (c : Container) → Keeps n (update.update policy c)
+  pub keeps_update : (policy : Option Policy) (c : Container) → Keeps n (update.update policy c)
   keeps_update policy c =
       keeps_then (keeps_renew c.number (update.governed policy) (λ l k. k)) (keeps_tell (plain_event action.Update) c.number)
 
@@ -85,13 +85,13 @@ module _ {n : ℕ} where
   lives_by false m = keeps_still
   lives_by true m = keeps_then (keeps_renew m remove.removing (λ l k. k)) (keeps_change (λ s. set_timer 2 m (s.clock + 10000) s) (λ s h. h))
 
-  keeps_removal : (m : ℕ) → Keeps n (remove.kill_to_remove m)
+  pub keeps_removal : (m : ℕ) → Keeps n (remove.kill_to_remove m)
   keeps_removal m =
       keeps_then (keeps_tell (kill_event 9) m)
       (keeps_then (keeps_renew m remove.to_remove (λ l k. k))
       (keeps_then (keeps_meet 9 m (omega arith)) (keeps_at (λ s. remove.if_it_lives (is_live (OfContainer m) s) m) (λ s. lives_by (is_live (OfContainer m) s) m))))
 
-  keeps_spawn_exec : (o : Option Program) (detach : Bool) (x : Exec) → OfProgram o → Keeps n (exec_start.spawn_exec o detach x)
+  pub keeps_spawn_exec : (o : Option Program) (detach : Bool) (x : Exec) → OfProgram o → Keeps n (exec_start.spawn_exec o detach x)
   keeps_spawn_exec o detach x codes =
       keeps_then (keeps_change (λ s. change_exec x.number (exec_start.started s) s) (λ s h. h))
       (keeps_then (keeps_spawns (OfExec x.number) o (x.stdin && not detach) exec_start.exec_room codes) (keeps_tell (exec_event action.ExecStart x.id) x.container))
@@ -104,6 +104,6 @@ module _ {n : ℕ} where
   end_with None owner = keeps_still
   end_with (Some c) owner = end_by c.life.stdin_once owner
 
-  end_of : (owner : Owner) → Keeps n (feeds.end_by_owner owner)
+  pub end_of : (owner : Owner) → Keeps n (feeds.end_by_owner owner)
   end_of (OfExec m) = end_by true (OfExec m)
   end_of (OfContainer m) = keeps_at (λ s. feeds.ends_with (container_numbered m s) (OfContainer m)) (λ s. end_with (container_numbered m s) (OfContainer m))
