@@ -16,10 +16,10 @@ use Rattle.journal_lines.specs.declared.format.Format.TheVariants.{First, Second
 use Rattle.journal_lines.specs.declared.verdict.Verdict.TheVariants.{Legal}
 use Rattle.journal_lines.proofs.EntryLemmas.{one_line}
 use Rattle.history_replay.specs.Cutting.{HasNoLineEnd, IsFirstLine}
-use Rattle.history_replay.specs.Upgrading.{AreLines, AreRewritten, HasNoHeader, IsInSecond}
+use Rattle.history_replay.specs.Upgrading.{AreLines, AreRewritten, HasNoHeader, IsInSecond, UpgradeLaw}
 use Rattle.history_replay.proofs.LegalLemmas.{Plays, plays_from}
 use Rattle.history_replay.proofs.LineEndLemmas.{line_is_first, same_line, no_end_no_line}
-use Rattle.history_replay.proofs.OneVerdictLemmas.{full, same_entry}
+use Rattle.history_replay.proofs.OneVerdictLemmas.{full, same_entry, one_verdict_law}
 use Rattle.history_replay.proofs.VerdictLemmas.{some, first_some}
 
 abbrev lines_in : Format → List Entry → List ℕ
@@ -133,6 +133,7 @@ with_header given text new steps is bytes said none rewritten =
     record {
       how = without_header given text;
       history = p.history;
+      verdict = subst (λ n. IsVerdict given text (Legal n)) count said;
       read = WithoutHeader text none;
       legal = (is, p.lawful);
       old = p.lines ∙ p.told First;
@@ -156,14 +157,16 @@ as_it_is given text steps (r, read, said) begins = go text r read said begins
         let p : Plays Second (opening_state charter) rest steps = plays_from Second charter 2 rest steps (h.long, h.low) said in
         let count : steps ≡ length p.history = omega (arith, p.counted) in
         let same = ap (λ l. header_line seed opening ++ l) (p.lines ∙ p.told Second) in
+        let counted = subst (λ n. IsVerdictFrom Second (opening_state charter) 2 rest (Legal n)) count said in
         record {
           how = behind_header given seed opening rest;
           history = p.history;
+          verdict = (behind_header given seed opening rest, BehindHeader seed opening rest h, counted);
           read = BehindHeader seed opening rest h;
           legal = ((h.long, h.low), p.lawful);
           old = same;
           told = same;
-          again = λ other. (behind_header other seed opening rest, BehindHeader seed opening rest h, subst (λ n. IsVerdictFrom Second (opening_state charter) 2 rest (Legal n)) count said);
+          again = λ other. (behind_header other seed opening rest, BehindHeader seed opening rest h, counted);
         }
     go _ _ (WithoutHeader text never) said begins = absurd (never begins)
 
@@ -171,3 +174,31 @@ pub as_it_stands : (given : Charter) (text : List ℕ) (steps : ℕ) (r : Result
     → IfOk r (λ new. new ≡ text) → IfOk r (λ new. IsInSecond given text new)
 as_it_stands given text steps (Ok new) said begins is = subst (IsInSecond given text) (sym is) (as_it_is given text steps said begins)
 as_it_stands given text steps (Err e) said begins is = tt
+
+-- ---- the law
+
+-- each legal text has one
+some_upgrade : (given : Charter) (text : List ℕ) (steps : ℕ) → IsCharter given → IsBytes given.seed → IsVerdict given text (Legal steps)
+    → (new : List ℕ) × IsInSecond given text new
+some_upgrade given text steps is bytes (r, read, said) = go text r read said
+  where
+    go : (text : List ℕ) (r : Reading) → IsReadAs given text r → IsVerdictFrom r.format (opening_state r.charter) r.first r.lines (Legal steps)
+        → (new : List ℕ) × IsInSecond given text new
+    go _ _ (BehindHeader seed opening rest h) said =
+        let text : List ℕ = header_line seed opening ++ rest in
+        (text, as_it_is given text steps (behind_header given seed opening rest, BehindHeader seed opening rest h, said) (seed, opening, rest, h, refl))
+    go _ _ (WithoutHeader text never) said =
+        let whole : IsVerdict given text (Legal steps) = (without_header given text, WithoutHeader text never, said) in
+        let p : Plays First (opening_state given) text steps = unheaded given text steps is whole never in
+        let new : List ℕ = header_line given.seed given.opening ++ lines_in Second p.entries in
+        let rewritten : AreRewritten text (header_line given.seed given.opening) new =
+        λ es h same. ap (λ l. header_line given.seed given.opening ++ lines_in Second l) (same_entries First p.entries es p.have h (sym p.lines ∙ same)) in
+        (new, with_header given text new steps is bytes whole never rewritten)
+
+same_steps : (n m : ℕ) → Legal n ≡ Legal m → n ≡ m
+same_steps n m is = cc
+
+pub upgrade_law : UpgradeLaw
+upgrade_law given text steps is bytes said =
+    let (new, up) = some_upgrade given text steps is bytes said in
+    (new, up, same_steps (length up.history) steps (one_verdict_law given text (Legal (length up.history)) (Legal steps) up.verdict said))

@@ -1,7 +1,8 @@
 -- What becomes of a journal's text in format 2 (own: the same history, told with its opening).
 use Rattle.std.specs.Prelude.{◌≡◌, ℕ, Bool, true, false, IsFalse, List, ◌++◌, length}
 use Rattle.std.specs.List.{flat_map, AllByRecursion}
-use Rattle.machine_model.specs.History.{Charter, IsLegal}
+use Rattle.hex.specs.Hex.{IsBytes}
+use Rattle.machine_model.specs.History.{Charter, IsCharter, IsLegal}
 use Rattle.journal_lines.specs.JournalLines.{journal_line}
 use Rattle.journal_lines.specs.Line.{HasLine, BeginsWithHeader}
 use Rattle.journal_lines.specs.Verdict.{IsVerdict, IsReadAs, Reading}
@@ -19,11 +20,12 @@ abbrev pub is_legal : Verdict → Bool
 is_legal (Legal steps) = true
 is_legal v = false
 
--- The text is the journal of a legal history, and the new text is the same history's in format 2; of the new one it is said, whatever is
--- given, that it is legal.
+-- The text is legal, the journal of a legal history, and the new text is the same history's in format 2; of the new one it is said,
+-- whatever is given, that it is legal.
 pub record IsInSecond (given : Charter) (text new : List ℕ) : Type 0 where
   pub how : Reading
   pub history : List Step
+  pub verdict : IsVerdict given text (Legal (length history))
   pub read : IsReadAs given text how
   pub legal : IsLegal how.charter history
   pub old : text ≡ journal_of how.format how.charter history
@@ -34,6 +36,11 @@ pub record IsInSecond (given : Charter) (text new : List ℕ) : Type 0 where
 abbrev pub IsUpgraded : Charter → List ℕ → Upgraded → Type 0
 IsUpgraded given text (Text new) = IsInSecond given text new
 IsUpgraded given text (Not v) = IsVerdict given text v × IsFalse (is_legal v)
+
+-- Each legal text has one, of as many steps.
+abbrev pub UpgradeLaw : Type 0
+UpgradeLaw = (given : Charter) (text : List ℕ) (steps : ℕ) → IsCharter given → IsBytes given.seed → IsVerdict given text (Legal steps)
+    → (new : List ℕ) × (up : IsInSecond given text new) × (length up.history ≡ steps)
 
 -- ---- on the way
 

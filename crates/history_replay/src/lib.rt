@@ -12,5 +12,5 @@ mod moments;
 mod upgrading;
 
 pub use checking::check;
-pub use laws::{law_complete, law_legal, law_one_verdict};
+pub use laws::{law_complete, law_legal, law_one_verdict, law_upgrade};
 pub use upgrading::{Upgraded, upgrade};
