@@ -9,6 +9,7 @@ use Rattle.journal_lines.specs.declared.verdict.Verdict.{Verdict}
 use Rattle.journal_lines.specs.declared.verdict.Verdict.TheVariants.{Legal, Illegal, BadLine}
 use Rattle.event_ring.specs.Fold.{fold_of}
 use Rattle.json_laws.specs.Pairs.{AreWordsUtf8}
+use Rattle.client_model.specs.Judgement.{Judgement}
 use Rattle.client_model.specs.Bodies.{id_in, status_code_in, container_lines_in, volume_names_in}
 use Rattle.client_model.specs.Plans.{Plan, nothing, prints, prints_all, done, ends, fails, refuses, kept, by_answer, asks}
 use Rattle.client_model.specs.Streams.{events_in, follows}
@@ -39,7 +40,7 @@ use Rattle.client_model.specs.Commands.VolumeInspect.{volume_inspect_request}
 use Rattle.client_model.specs.Commands.VolumeRemove.{volume_remove_request}
 use Rattle.client_model.specs.Commands.VolumeList.{volume_list_request}
 use Rattle.client_model.specs.Commands.Journal.{journal_request}
-use Rattle.client_model.specs.Commands.Replay.{verdict_plan, replay_plan}
+use Rattle.client_model.specs.Commands.Replay.{legal_plan, verdict_plan, replay_plan}
 use Rattle.client_model.specs.declared.command.NewContainer.{NewContainer}
 use Rattle.client_model.specs.declared.command.Command.{Command}
 use Rattle.client_model.specs.declared.command.Command.TheVariants as command
@@ -56,7 +57,7 @@ use Rattle.client_laws.proofs.PlanLemmas.{entries, AsksNone, all-printed, asked-
 
 -- ---- run
 
-removed : (remove : Bool) (id : List ℕ) (code : ℕ) (verdict : Option Verdict) (answers : List Answer) → All IsByte id
+removed : (remove : Bool) (id : List ℕ) (code : ℕ) (verdict : Option Judgement) (answers : List Answer) → All IsByte id
     → entries (removes remove id (ends code)) verdict answers ≡ cond remove (once (class.remove id false)) []
 removed true id code verdict answers bytes =
     asks-once (remove_request id false) Some (λ body. ends code) verdict (class.remove id false) (remove-class id false bytes) (λ body v a. refl) answers
@@ -81,25 +82,25 @@ starts input remove id = asks (start_request id) Some (λ body. attaches input r
 abbrev start_calls : Bool → Bool → List ℕ → List Answer → List Entry
 start_calls input remove id = then_by (alone (class.start id)) any_body (λ body. attach_calls input remove id)
 
-waited : (remove : Bool) (id : List ℕ) (verdict : Option Verdict) → All IsByte id → (answers : List Answer)
+waited : (remove : Bool) (id : List ℕ) (verdict : Option Judgement) → All IsByte id → (answers : List Answer)
     → entries (waits remove id) verdict answers ≡ wait_calls remove id answers
 waited remove id verdict bytes =
     asks-calls (wait_request id) status_code_in (λ code. removes remove id (ends code)) verdict (class.wait id)
     (λ code answers. cond remove (once (class.remove id false)) []) (wait-class id bytes) (λ code body found answers. removed remove id code verdict answers bytes)
 
-attached : (input remove : Bool) (id : List ℕ) (verdict : Option Verdict) → All IsByte id → (answers : List Answer)
+attached : (input remove : Bool) (id : List ℕ) (verdict : Option Judgement) → All IsByte id → (answers : List Answer)
     → entries (attaches input remove id) verdict answers ≡ attach_calls input remove id answers
 attached input remove id verdict bytes =
     streams-calls Demuxed (attach_request id input) input (waits remove id) verdict (class.attach id input)
     (wait_calls remove id) (attach-class id input bytes) (waited remove id verdict bytes)
 
-started : (input remove : Bool) (id : List ℕ) (verdict : Option Verdict) → All IsByte id → (answers : List Answer)
+started : (input remove : Bool) (id : List ℕ) (verdict : Option Judgement) → All IsByte id → (answers : List Answer)
     → entries (starts input remove id) verdict answers ≡ start_calls input remove id answers
 started input remove id verdict bytes =
     asks-calls (start_request id) Some (λ body. attaches input remove id) verdict (class.start id)
     (λ body. attach_calls input remove id) (start-class id bytes) (λ body text found. attached input remove id verdict bytes)
 
-run-calls : (c : NewContainer) (remove : Bool) (verdict : Option Verdict) → IsContainer c → (answers : List Answer)
+run-calls : (c : NewContainer) (remove : Bool) (verdict : Option Judgement) → IsContainer c → (answers : List Answer)
     → entries (run_plan c remove) verdict answers ≡ run_calls c remove answers
 run-calls c remove verdict h =
     asks-calls (create_request c) id_in (starts c.input remove) verdict (class.create c) (start_calls c.input remove) (create-class c h)
@@ -110,7 +111,7 @@ run-calls c remove verdict h =
 abbrev inspects : List ℕ → Plan
 inspects id = asks (exec_inspect_request id) exit_code_in (λ code. option_map_or ends code (fails F.NoCode))
 
-inspected : (id : List ℕ) (verdict : Option Verdict) → All IsByte id → (answers : List Answer)
+inspected : (id : List ℕ) (verdict : Option Judgement) → All IsByte id → (answers : List Answer)
     → entries (inspects id) verdict answers ≡ once (class.exec_inspect id)
 inspected id verdict bytes =
     asks-once (exec_inspect_request id) exit_code_in (λ code. option_map_or ends code (fails F.NoCode)) verdict (class.exec_inspect id)
@@ -126,13 +127,13 @@ executes input id = follows (exec_start_request id) input (inspects id)
 abbrev execute_calls : Bool → List ℕ → List Answer → List Entry
 execute_calls input id = then_by (fed input (class.exec_start id)) frames (λ streams answers. once (class.exec_inspect id))
 
-executed : (input : Bool) (id : List ℕ) (verdict : Option Verdict) → All IsByte id → (answers : List Answer)
+executed : (input : Bool) (id : List ℕ) (verdict : Option Judgement) → All IsByte id → (answers : List Answer)
     → entries (executes input id) verdict answers ≡ execute_calls input id answers
 executed input id verdict bytes =
     streams-calls Demuxed (exec_start_request id) input (inspects id) verdict (class.exec_start id)
     (λ answers. once (class.exec_inspect id)) (exec-start-class id bytes) (inspected id verdict bytes)
 
-exec-calls : (target : List ℕ) (words : List (List ℕ)) (input : Bool) (verdict : Option Verdict) → IsUtf8 target → AreWordsUtf8 words
+exec-calls : (target : List ℕ) (words : List (List ℕ)) (input : Bool) (verdict : Option Judgement) → IsUtf8 target → AreWordsUtf8 words
     → (answers : List Answer) → entries (exec_plan target words input) verdict answers ≡ exec_calls target words input answers
 exec-calls target words input verdict t w =
     asks-calls (exec_create_request target words input) id_in (executes input) verdict (class.exec_create target words input) (execute_calls input)
@@ -161,7 +162,7 @@ watch-on (Answered h body whole) verdict answers = by (nat_lt h.status 400)
 abbrev nothing_read : Answer → Option (List ℕ)
 nothing_read answer = None
 
-watch-calls : (until : List ℕ) (verdict : Option Verdict) → IsUtf8 until → (answers : List Answer)
+watch-calls : (until : List ℕ) (verdict : Option Judgement) → IsUtf8 until → (answers : List Answer)
     → entries (watch_plan until) verdict answers ≡ once (class.events (codes "0") until)
 watch-calls until verdict utf8 answers =
     asked-first nothing (kept (events_request (codes "0") until))
@@ -171,18 +172,22 @@ watch-calls until verdict utf8 answers =
 
 -- ---- replay
 
-judged-none : (v : Verdict) → AsksNone (verdict_plan v)
-judged-none (Legal steps) verdict answers = refl
-judged-none (Illegal line kept found) verdict answers = refl
-judged-none (BadLine line) verdict answers = refl
+legal-none : (upgrade : Bool) (new : List ℕ) (steps : ℕ) → AsksNone (legal_plan upgrade new steps)
+legal-none true new steps verdict answers = refl
+legal-none false new steps verdict answers = refl
 
-replay-none : (seed : List ℕ) (moment : ℕ) → AsksNone (replay_plan seed moment)
-replay-none seed moment None answers = refl
-replay-none seed moment (Some verdict) answers = judged-none verdict None answers
+judged-none : (upgrade : Bool) (new : List ℕ) (v : Verdict) → AsksNone (verdict_plan upgrade new v)
+judged-none upgrade new (Legal steps) verdict answers = legal-none upgrade new steps verdict answers
+judged-none upgrade new (Illegal line kept found) verdict answers = refl
+judged-none upgrade new (BadLine line) verdict answers = refl
+
+replay-none : (upgrade : Bool) (seed : List ℕ) (moment : ℕ) → AsksNone (replay_plan upgrade seed moment)
+replay-none upgrade seed moment None answers = refl
+replay-none upgrade seed moment (Some j) answers = judged-none upgrade j.upgrade j.verdict None answers
 
 -- ---- the table
 
-pub plan-calls : (c : Command) → HasTexts c → (verdict : Option Verdict) (answers : List Answer)
+pub plan-calls : (c : Command) → HasTexts c → (verdict : Option Judgement) (answers : List Answer)
     → entries (plan_of c) verdict answers ≡ calls_of c answers
 plan-calls (command.Create c) h verdict =
     asks-once (create_request c) id_in (λ id. prints id done) verdict (class.create c) (create-class c h) (λ id v a. refl)
@@ -243,4 +248,4 @@ plan-calls command.VolumeList h verdict =
     asks-once volume_list_request volume_names_in (λ names. prints_all names done) verdict class.volume_list volume-list-class all-printed
 plan-calls command.Journal h verdict =
     streams-once Copied journal_request done verdict class.journal journal-class (λ v a. refl)
-plan-calls (command.Replay seed moment) h verdict = replay-none seed moment verdict
+plan-calls (command.Replay upgrade seed moment) h verdict = replay-none upgrade seed moment verdict

@@ -39,4 +39,4 @@ HasTexts (command.VolumeInspect name) = IsUtf8 name
 HasTexts (command.VolumeRemove name) = IsUtf8 name
 HasTexts command.VolumeList = ⊤
 HasTexts command.Journal = ⊤
-HasTexts (command.Replay seed moment) = ⊤
+HasTexts (command.Replay upgrade seed moment) = ⊤

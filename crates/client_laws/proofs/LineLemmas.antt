@@ -5,9 +5,9 @@ use Rattle.std.specs.Option.{option_map_or}
 use Rattle.engine_line.specs.Lines.{port_in, seed_of, moment_in}
 use Rattle.engine_text.specs.Texts.{same_bytes}
 use Rattle.engine_text.specs.declared.pairs.Pair.{Pair}
-use Rattle.journal_lines.specs.declared.verdict.Verdict.{Verdict}
 use Rattle.json_laws.specs.Pairs.{AreWordsUtf8}
 use Rattle.response_reader.specs.Answers.{Answer}
+use Rattle.client_model.specs.Judgement.{Judgement}
 use Rattle.client_model.specs.Words.{one_word, has_flag, value_of}
 use Rattle.client_model.specs.Plans.{fails}
 use Rattle.client_model.specs.Lines.{Table, read_by, volume_commands, commands, line_with, line_of}
@@ -30,7 +30,7 @@ use Rattle.client_model.specs.declared.command.Line.{Line}
 use Rattle.client_model.specs.declared.fault.Fault.TheVariants as F
 use Rattle.client_laws.specs.Table.{calls_of, calls_for}
 use Rattle.client_laws.proofs.CommandTexts.{IsRestart, IsContainer, HasTexts}
-use Rattle.client_model.specs.Runs.{Exchange, AreAnswered, LacksVerdict, BreaksBehind, BreaksWithin}
+use Rattle.client_model.specs.Runs.{Exchange, AreAnswered, LacksJudgement, BreaksBehind, BreaksWithin}
 use Rattle.client_laws.specs.Asked.{entries_of, AsksCalls, EndsByCalls, AreAnsweredFirst, AreToldSoFar, BreaksOffByCalls}
 use Rattle.engine_text.specs.Words.{AreUtf8}
 use Rattle.client_laws.proofs.JsonByteLemmas.{then-good, map-good}
@@ -60,15 +60,15 @@ exec-gives given h (target ∷ word ∷ words) w = (w.0, w.1)
 -- ---- replay
 
 any-replay : (given : List Pair) (word : List ℕ) → IfSome (replay_of given word) HasTexts
-any-replay given word = by-seed (seed_of (value_of (codes "--seed") given))
+any-replay given word = by-seed (has_flag (codes "--upgrade") given) (seed_of (value_of (codes "--seed") given))
   where
-    by-moment : (seed : List ℕ) (o : Option ℕ) → IfSome (option_map (command.Replay seed) o) HasTexts
-    by-moment seed None = tt
-    by-moment seed (Some moment) = tt
+    by-moment : (upgrade : Bool) (seed : List ℕ) (o : Option ℕ) → IfSome (option_map (command.Replay upgrade seed) o) HasTexts
+    by-moment upgrade seed None = tt
+    by-moment upgrade seed (Some moment) = tt
 
-    by-seed : (o : Option (List ℕ)) → IfSome (option_and_then (λ seed. option_map (command.Replay seed) (moment_in word)) o) HasTexts
-    by-seed None = tt
-    by-seed (Some seed) = by-moment seed (moment_in word)
+    by-seed : (upgrade : Bool) (o : Option (List ℕ)) → IfSome (option_and_then (λ seed. option_map (command.Replay upgrade seed) (moment_in word)) o) HasTexts
+    by-seed upgrade None = tt
+    by-seed upgrade (Some seed) = by-moment upgrade seed (moment_in word)
 
 replay-gives : (given : List Pair) → AreValues given → Gives (replay_in given)
 replay-gives given h [] w = any-replay given (codes "0")
@@ -190,7 +190,7 @@ line-good (address ∷ words) w = by (port_in address)
     by None = tt
     by (Some port) = map-good HasTexts IsLine (read_by commands words) (line_with address) (table-gives commands commands-give words w.1) (λ c h. h)
 
-line-calls : (line : Option Line) (verdict : Option Verdict) (answers : List Answer) → IfSome line IsLine
+line-calls : (line : Option Line) (verdict : Option Judgement) (answers : List Answer) → IfSome line IsLine
     → entries (option_map_or (λ l. plan_of l.command) line (fails F.Words)) verdict answers ≡ option_map_or (λ l. calls_of l.command answers) line []
 line-calls None verdict answers h = refl
 line-calls (Some line) verdict answers h = plan-calls line.command h verdict answers
@@ -202,12 +202,12 @@ asks-calls words texts verdict answers = line-calls (line_of words) verdict answ
 -- and so is what a call of the client asked
 pub ends-by-calls : (words : List (List ℕ)) → AreUtf8 words → EndsByCalls words
 ends-by-calls words texts status o o' run =
-    ap (λ said. entries_of said.asked) run.says ∙ asks-calls words texts run.verdict run.answers
+    ap (λ said. entries_of said.asked) run.says ∙ asks-calls words texts run.judgement run.answers
 
 pub breaks-off-by-calls : (words : List (List ℕ)) → AreUtf8 words → BreaksOffByCalls words
 breaks-off-by-calls words texts status o o' run = by run.breaks
   where
-    by : LacksVerdict (plan_for words) run.fault run.course o o' ⊎ (BreaksBehind (plan_for words) run.fault run.course o o' ⊎ BreaksWithin (plan_for words) run.fault run.course o o')
+    by : LacksJudgement (plan_for words) run.fault run.course o o' ⊎ (BreaksBehind (plan_for words) run.fault run.course o o' ⊎ BreaksWithin (plan_for words) run.fault run.course o o')
         → (answers : List Answer) × (AreAnsweredFirst run.course.xs run.course.said.asked answers ⊎ AreToldSoFar run.course.xs run.course.said.asked answers) × (entries_of run.course.said.asked ≡ calls_for words answers)
     by (inl b) = (
       [],
@@ -217,10 +217,10 @@ breaks-off-by-calls words texts status o o' run = by run.breaks
     by (inr (inl b)) = (
       b.answers,
       inl (b.done, b.more, b.asked, b.whole.answered),
-      ap (λ said. entries_of said.asked) b.says ∙ asks-calls words texts run.course.verdict b.answers,
+      ap (λ said. entries_of said.asked) b.says ∙ asks-calls words texts run.course.judgement b.answers,
     )
     by (inr (inr b)) = (
       b.answers ++ b.answer ∷ [],
       inr (b.before, b.last, b.answers, b.answer, b.xs_are, refl, (b.done, b.now ∷ b.more, b.asked, b.whole.answered), b.tells),
-      ap (λ said. entries_of said.asked) b.says ∙ asks-calls words texts run.course.verdict (b.answers ++ b.answer ∷ []),
+      ap (λ said. entries_of said.asked) b.says ∙ asks-calls words texts run.course.judgement (b.answers ++ b.answer ∷ []),
     )

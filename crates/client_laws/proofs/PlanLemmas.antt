@@ -3,9 +3,9 @@ use Rattle.std.proofs.Common.{◌≡◌, ℕ, ◌&&◌, Bool, true, false, List,
 use Rattle.std.specs.Prelude.{nat_lt}
 use Rattle.std.specs.Option.{option_map_or}
 use Rattle.http_edge.specs.Message.{Request}
-use Rattle.journal_lines.specs.declared.verdict.Verdict.{Verdict}
 use Rattle.response_reader.specs.Answers.{Answer, NoHead, Answered}
 use Rattle.api_routes.specs.Class.{class_of, or_refusal}
+use Rattle.client_model.specs.Judgement.{Judgement}
 use Rattle.client_model.specs.Bodies.{message_in}
 use Rattle.client_model.specs.Plans.{Plan, Ends, Asks, Judges, Written, Asked, nothing, to_out, writes, prints_all, done, fails, goes_on, reads, refuses, kept, by_answer, asks}
 use Rattle.client_model.specs.Streams.{shows, may_end, streams}
@@ -18,15 +18,15 @@ use Rattle.client_laws.specs.Table.{Entry, alone, fed, if_whole, body_by, then_b
 use Rattle.client_laws.specs.Asked.{entry_of, entries_of}
 
 -- what a plan asks, as the daemon classifies it
-abbrev pub entries : Plan → Option Verdict → List Answer → List Entry
+abbrev pub entries : Plan → Option Judgement → List Answer → List Entry
 entries plan verdict answers = entries_of (said_by plan verdict answers).asked
 
 -- it asks nothing
 abbrev pub AsksNone : Plan → Type 0
-AsksNone plan = (verdict : Option Verdict) (answers : List Answer) → entries plan verdict answers ≡ []
+AsksNone plan = (verdict : Option Judgement) (answers : List Answer) → entries plan verdict answers ≡ []
 
 -- what is written first asks nothing more
-pub writes-asks : (w : Written) (plan : Plan) (verdict : Option Verdict) (answers : List Answer)
+pub writes-asks : (w : Written) (plan : Plan) (verdict : Option Judgement) (answers : List Answer)
     → entries (writes w plan) verdict answers ≡ entries plan verdict answers
 writes-asks w (Ends v ending) verdict answers = refl
 writes-asks w (Asks v asked next) verdict [] = refl
@@ -41,10 +41,10 @@ all-printed (line ∷ lines) verdict answers = writes-asks (to_out (line ++ code
 -- ---- the way on behind an answer
 
 -- what a plan asks behind an answer, where it goes on by what is read of it
-abbrev GoesBy : {A : Type 0} → (Answer → Plan) → Option Verdict → (Answer → Option A) → (A → List Answer → List Entry) → Type 0
+abbrev GoesBy : {A : Type 0} → (Answer → Plan) → Option Judgement → (Answer → Option A) → (A → List Answer → List Entry) → Type 0
 GoesBy next verdict read after = (answer : Answer) (answers : List Answer) → entries (next answer) verdict answers ≡ option_map_or (λ x. after x answers) (read answer) []
 
-pub asked-first : {A : Type 0} (w : Written) (asked : Asked) (next : Answer → Plan) (verdict : Option Verdict) (entry : Entry)
+pub asked-first : {A : Type 0} (w : Written) (asked : Asked) (next : Answer → Plan) (verdict : Option Judgement) (entry : Entry)
     (read : Answer → Option A) (after : A → List Answer → List Entry) → entry_of asked ≡ entry → GoesBy next verdict read after
     → (answers : List Answer) → entries (Asks w asked next) verdict answers ≡ then_by entry read after answers
 asked-first w asked next verdict entry read after same on [] = ap (λ e. e ∷ []) same
@@ -57,7 +57,7 @@ pub same-entry : (request : Request) (input : Bool) (showing : Showing) (says : 
 same-entry request input showing says same = ap (λ c. record { class = c; input = input }) same
 
 -- what is read of a body
-pub read-goes : {A : Type 0} (read : List ℕ → Option A) (next : A → Plan) (body : List ℕ) (whole : Bool) (verdict : Option Verdict) (answers : List Answer) (after : A → List Entry)
+pub read-goes : {A : Type 0} (read : List ℕ → Option A) (next : A → Plan) (body : List ℕ) (whole : Bool) (verdict : Option Judgement) (answers : List Answer) (after : A → List Entry)
     → ((x : A) → read body ≡ Some x → entries (next x) verdict answers ≡ after x)
     → entries (reads read next body whole) verdict answers ≡ option_map_or after (if_whole whole (read body)) []
 read-goes {A = A} read next body true verdict answers after on = found (read body) refl
@@ -73,12 +73,12 @@ none-read None = refl
 none-read (Some x) = refl
 
 -- a refusal ends the command
-pub refused : (whole : Bool) (body : List ℕ) (verdict : Option Verdict) (answers : List Answer) → entries (refuses body whole) verdict answers ≡ []
+pub refused : (whole : Bool) (body : List ℕ) (verdict : Option Judgement) (answers : List Answer) → entries (refuses body whole) verdict answers ≡ []
 refused whole body verdict answers =
     read-goes message_in (λ message. fails (F.Refused message)) body whole verdict answers (λ message. []) (λ message same. refl)
     ∙ none-read (if_whole whole (message_in body))
 
-body-goes-by : {A : Type 0} (read : List ℕ → Option A) (next : A → Plan) (verdict : Option Verdict) (after : A → List Answer → List Entry)
+body-goes-by : {A : Type 0} (read : List ℕ → Option A) (next : A → Plan) (verdict : Option Judgement) (after : A → List Answer → List Entry)
     → ((x : A) (body : List ℕ) → read body ≡ Some x → (answers : List Answer) → entries (next x) verdict answers ≡ after x answers)
     → GoesBy (by_answer (λ h body whole. reads read next body whole)) verdict (body_by read) after
 body-goes-by {A = A} read next verdict after on NoHead answers = refl
@@ -90,7 +90,7 @@ body-goes-by {A = A} read next verdict after on (Answered h body whole) answers 
     by false = refused whole body verdict answers
 
 -- it asks, and goes on by what is read of the body
-pub asks-calls : {A : Type 0} (request : Request) (read : List ℕ → Option A) (next : A → Plan) (verdict : Option Verdict) (says : class.Meaning)
+pub asks-calls : {A : Type 0} (request : Request) (read : List ℕ → Option A) (next : A → Plan) (verdict : Option Judgement) (says : class.Meaning)
     (after : A → List Answer → List Entry) → class_of request ≡ or_refusal says
     → ((x : A) (body : List ℕ) → read body ≡ Some x → (answers : List Answer) → entries (next x) verdict answers ≡ after x answers)
     → (answers : List Answer) → entries (asks request read next) verdict answers ≡ then_by (alone says) (body_by read) after answers
@@ -102,7 +102,7 @@ asks-calls request read next verdict says after same on =
 abbrev pub if_ended : (List ℕ → Bool) → List ℕ → Option (List ℕ)
 if_ended may_end body = cond (may_end body) (Some body) None
 
-stream-goes-by : (showing : Showing) (next : Plan) (verdict : Option Verdict) (after : List Answer → List Entry)
+stream-goes-by : (showing : Showing) (next : Plan) (verdict : Option Judgement) (after : List Answer → List Entry)
     → ((answers : List Answer) → entries next verdict answers ≡ after answers)
     → GoesBy (by_answer (λ h body whole. writes (shows showing body) (cond (whole && may_end showing body) next (fails F.Answer)))) verdict
     (body_by (if_ended (may_end showing))) (λ body. after)
@@ -124,7 +124,7 @@ stream-goes-by showing next verdict after on (Answered h body whole) answers = b
     by false = refused whole body verdict answers
 
 -- it asks, writes what comes, and goes on behind it
-pub streams-calls : (showing : Showing) (request : Request) (input : Bool) (next : Plan) (verdict : Option Verdict)
+pub streams-calls : (showing : Showing) (request : Request) (input : Bool) (next : Plan) (verdict : Option Judgement)
     (says : class.Meaning) (after : List Answer → List Entry) → class_of request ≡ or_refusal says
     → ((answers : List Answer) → entries next verdict answers ≡ after answers)
     → (answers : List Answer) → entries (streams showing request input next) verdict answers ≡ then_by (fed input says) (body_by (if_ended (may_end showing))) (λ body. after) answers
@@ -144,13 +144,13 @@ none-behind {A = A} says read (answer ∷ answers) = by (read answer)
     by None = refl
     by (Some x) = refl
 
-pub asks-once : {A : Type 0} (request : Request) (read : List ℕ → Option A) (next : A → Plan) (verdict : Option Verdict) (says : class.Meaning)
+pub asks-once : {A : Type 0} (request : Request) (read : List ℕ → Option A) (next : A → Plan) (verdict : Option Judgement) (says : class.Meaning)
     → class_of request ≡ or_refusal says → ((x : A) → AsksNone (next x))
     → (answers : List Answer) → entries (asks request read next) verdict answers ≡ once says
 asks-once request read next verdict says same none answers =
     asks-calls request read next verdict says (λ x answers. []) same (λ x body found. none x verdict) answers ∙ none-behind says (body_by read) answers
 
-pub streams-once : (showing : Showing) (request : Request) (next : Plan) (verdict : Option Verdict)
+pub streams-once : (showing : Showing) (request : Request) (next : Plan) (verdict : Option Judgement)
     (says : class.Meaning) → class_of request ≡ or_refusal says → AsksNone next
     → (answers : List Answer) → entries (streams showing request false next) verdict answers ≡ once says
 streams-once showing request next verdict says same none answers =

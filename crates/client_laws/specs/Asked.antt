@@ -1,9 +1,9 @@
 -- What the client's requests are for the daemon (own).
 use Rattle.std.specs.Prelude.{ℕ, ◌≡◌, ◌⊎◌, List, [], ◌∷◌, ◌++◌, map, Option}
 use Rattle.engine_text.specs.Words.{AreUtf8}
-use Rattle.journal_lines.specs.declared.verdict.Verdict.{Verdict}
 use Rattle.response_reader.specs.Answers.{Answer, TellsSoFar}
 use Rattle.api_routes.specs.Class.{class_of}
+use Rattle.client_model.specs.Judgement.{Judgement}
 use Rattle.client_model.specs.Plans.{Asked}
 use Rattle.client_model.specs.Client.{plan_for, said_by}
 use Rattle.client_model.specs.Runs.{Outside, Exchange, AreAnswered, IsEnded, IsBrokenOff}
@@ -20,8 +20,8 @@ entries_of = map entry_of
 -- the line's words and by the answers before each; so there are as many as the table has up to the first answer that ends the
 -- command.
 abbrev pub AsksCalls : List (List ℕ) → Type 0
-AsksCalls words = (verdict : Option Verdict) (answers : List Answer)
-    → entries_of (said_by (plan_for words) verdict answers).asked ≡ calls_for words answers
+AsksCalls words = (judgement : Option Judgement) (answers : List Answer)
+    → entries_of (said_by (plan_for words) judgement answers).asked ≡ calls_for words answers
 
 -- so of all words that are texts
 abbrev pub RequestsAreCalls : Type 0

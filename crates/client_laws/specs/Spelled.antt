@@ -1,8 +1,8 @@
 -- What the client's requests are to a daemon (RFC 9112, sections 3 to 6: a request line, fields, and a body by its length).
 use Rattle.std.specs.Prelude.{ℕ, ◌≤◌, ◌+◌, List, length, Option, All, sum_by}
 use Rattle.http_edge.specs.Spelling.{Spells}
-use Rattle.journal_lines.specs.declared.verdict.Verdict.{Verdict}
 use Rattle.response_reader.specs.Answers.{Answer}
+use Rattle.client_model.specs.Judgement.{Judgement}
 use Rattle.client_model.specs.Requests.{request_bytes}
 use Rattle.client_model.specs.Plans.{Asked}
 use Rattle.client_model.specs.Client.{plan_for, said_by}
@@ -22,5 +22,5 @@ IsSpelled asked = Spells (request_bytes asked.request) asked.request
 -- each request that a short line asks for, whatever the answers are, is spelled by its bytes
 abbrev pub RequestsAreSpelled : Type 0
 RequestsAreSpelled =
-    (words : List (List ℕ)) (verdict : Option Verdict) (answers : List Answer) → IsShortLine words
-    → All IsSpelled (said_by (plan_for words) verdict answers).asked
+    (words : List (List ℕ)) (judgement : Option Judgement) (answers : List Answer) → IsShortLine words
+    → All IsSpelled (said_by (plan_for words) judgement answers).asked

@@ -99,7 +99,7 @@ calls_of (command.VolumeInspect name) answers = once (class.volume_inspect name)
 calls_of (command.VolumeRemove name) answers = once (class.volume_remove name)
 calls_of command.VolumeList answers = once class.volume_list
 calls_of command.Journal answers = once class.journal
-calls_of (command.Replay seed moment) answers = []
+calls_of (command.Replay upgrade seed moment) answers = []
 
 -- those of a line; words that are no line ask nothing
 abbrev pub calls_for : List (List ℕ) → List Answer → List Entry

@@ -1,5 +1,5 @@
 -- Lines, and what they ask for (own).
-use Rattle.std.proofs.Common.{◌≡◌, ℕ, ◌==◌, List, [], ◌∷◌, true, Some, None, codes, refl}
+use Rattle.std.proofs.Common.{◌≡◌, ℕ, ◌==◌, List, [], ◌∷◌, true, false, Some, None, codes, refl}
 use Rattle.std.specs.Prelude.{replicate}
 use Rattle.std.specs.List.{slice_split}
 use Rattle.client_model.specs.Lines.{line_of, line_with}
@@ -66,9 +66,20 @@ too_late = refl
 
 -- without `--seed` it is all zeros
 replay : line_of (words_of (codes "127.0.0.1:1 replay 1700000000000"))
-    ≡ Some (line_with (codes "127.0.0.1:1") (command.Replay (replicate 32 0) 1_700_000_000_000))
+    ≡ Some (line_with (codes "127.0.0.1:1") (command.Replay false (replicate 32 0) 1_700_000_000_000))
 replay = refl
 
 -- and without MOMENT it is 0
-replay_headed : line_of (words_of (codes "127.0.0.1:1 replay")) ≡ Some (line_with (codes "127.0.0.1:1") (command.Replay (replicate 32 0) 0))
+replay_headed : line_of (words_of (codes "127.0.0.1:1 replay")) ≡ Some (line_with (codes "127.0.0.1:1") (command.Replay false (replicate 32 0) 0))
 replay_headed = refl
+
+-- `--upgrade` stands before or behind `--seed`, and once
+upgrade : line_of (words_of (codes "127.0.0.1:1 replay --upgrade 5")) ≡ Some (line_with (codes "127.0.0.1:1") (command.Replay true (replicate 32 0) 5))
+upgrade = refl
+
+upgrade_seeded : line_of (words_of (codes "127.0.0.1:1 replay --seed 0101010101010101010101010101010101010101010101010101010101010101 --upgrade"))
+    ≡ Some (line_with (codes "127.0.0.1:1") (command.Replay true (replicate 32 1) 0))
+upgrade_seeded = refl
+
+upgrade_doubled : line_of (words_of (codes "127.0.0.1:1 replay --upgrade --upgrade")) ≡ None
+upgrade_doubled = refl

@@ -20,6 +20,7 @@ use Rattle.journal_lines.specs.declared.verdict.Verdict.{Verdict}
 use Rattle.journal_lines.specs.declared.verdict.Verdict.TheVariants.{Legal, Illegal, BadLine}
 use Rattle.response_reader.specs.Answers.{Answer, NoHead, Answered}
 use Rattle.client_model.specs.Client.{Result, client_result}
+use Rattle.client_model.specs.Judgement.{Judgement}
 use Rattle.client_model.specs.Lines.{command_names}
 use Rattle.client_model.specs.Plans.{cut_fault}
 use Rattle.client_model.specs.Streams.{is_unfit}
@@ -29,9 +30,9 @@ use Rattle.client_model.specs.Faults.{status_of, fault_line}
 use Rattle.client_model.specs.declared.fault.Fault.TheVariants as F
 use Rattle.client_model.proofs.LineFacts.{words_of, address}
 
--- what a line comes to by a verdict or none, and by these answers
-abbrev result_by : List ℕ → Option Verdict → List Answer → Option Result
-result_by text verdict answers = client_result (address ∷ words_of text) verdict answers
+-- what a line comes to by a judgement or none, and by these answers
+abbrev result_by : List ℕ → Option Judgement → List Answer → Option Result
+result_by text judgement answers = client_result (address ∷ words_of text) judgement answers
 
 abbrev result_of : List ℕ → List Answer → Option Result
 result_of text answers = result_by text None answers
@@ -196,15 +197,31 @@ begins_anywhere : result_of (codes "watch 1700000000") (of_form (ChunkedJson Non
 unfolding data_of is_utf8 chars encode lex punctuate items members value content short_escape code_unit word after_number number_of scan_numeral digits escape_byte
 begins_anywhere = refl
 
+-- what a line comes to by a verdict and a text in format 2
+abbrev judged_as : List ℕ → Verdict → List ℕ → Option Result
+judged_as text verdict new = result_by text (Some (record { verdict = verdict; upgrade = new })) []
+
 -- verdicts
-legal : result_by (codes "replay 0") (Some (Legal 4)) [] ≡ ended (codes "legal 4\n") [] 0
+legal : judged_as (codes "replay 0") (Legal 4) (codes "header\nline\n") ≡ ended (codes "legal 4\n") [] 0
 unfolding digits
 legal = refl
 
-illegal : result_by (codes "replay 0") (Some (Illegal 3 (codes "204") (codes "304"))) [] ≡ ended (codes "illegal line 3\nkept 204\nfound 304\n") [] 1
+illegal : judged_as (codes "replay 0") (Illegal 3 (codes "204") (codes "304")) [] ≡ ended (codes "illegal line 3\nkept 204\nfound 304\n") [] 1
 unfolding digits
 illegal = refl
 
-bad_line : result_by (codes "replay 0") (Some (BadLine 2)) [] ≡ ended (codes "bad line 2\n") [] 3
+bad_line : judged_as (codes "replay 0") (BadLine 2) [] ≡ ended (codes "bad line 2\n") [] 3
 unfolding digits
 bad_line = refl
+
+-- in the place of `legal` the text in format 2, as it is, where that is asked for
+upgraded : judged_as (codes "replay --upgrade") (Legal 4) (codes "header\nline\n") ≡ ended (codes "header\nline\n") [] 0
+upgraded = refl
+
+illegal_upgrade : judged_as (codes "replay --upgrade") (Illegal 3 (codes "204") (codes "304")) [] ≡ ended (codes "illegal line 3\nkept 204\nfound 304\n") [] 1
+unfolding digits
+illegal_upgrade = refl
+
+bad_upgrade : judged_as (codes "replay --upgrade") (BadLine 2) [] ≡ ended (codes "bad line 2\n") [] 3
+unfolding digits
+bad_upgrade = refl

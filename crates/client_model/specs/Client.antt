@@ -1,10 +1,9 @@
 -- What the client asks, writes and ends with, by its words, by standard input and by the answers that it reads (own).
 use Rattle.std.specs.Prelude.{ℕ, ◌≡◌, List, [], ◌∷◌, ◌++◌, Option, Some, None, option_map}
 use Rattle.std.specs.Option.{option_map_or}
-use Rattle.journal_lines.specs.Verdict.{IsVerdict}
-use Rattle.journal_lines.specs.declared.verdict.Verdict.{Verdict}
 use Rattle.response_reader.specs.Answers.{Answer}
 use Rattle.client_model.specs.Faults.{status_of, fault_line}
+use Rattle.client_model.specs.Judgement.{Judgement, IsJudgement}
 use Rattle.client_model.specs.Plans.{Plan, Ends, Asks, Judges, Written, Asked, Ending, Done, Fails, nothing, joined, fails}
 use Rattle.client_model.specs.Lines.{line_of}
 use Rattle.client_model.specs.Commands.Create.{create_plan}
@@ -65,7 +64,7 @@ plan_of (command.VolumeInspect name) = volume_inspect_plan name
 plan_of (command.VolumeRemove name) = volume_remove_plan name
 plan_of command.VolumeList = volume_list_plan
 plan_of command.Journal = journal_plan
-plan_of (command.Replay seed moment) = replay_plan seed moment
+plan_of (command.Replay upgrade seed moment) = replay_plan upgrade seed moment
 
 -- words that are no line have a usage line alone
 abbrev pub plan_for : List (List ℕ) → Plan
@@ -86,19 +85,19 @@ said asked written end = record { asked = asked; written = written; end = end }
 abbrev pub said_first : Written → Asked → Said → Said
 said_first w asked rest = said (asked ∷ rest.asked) (joined w rest.written) rest.end
 
--- what a plan comes to by the verdict that it asks for, and by these answers, one to each request
-abbrev pub said_by : Plan → Option Verdict → List Answer → Said
-said_by (Ends w ending) verdict answers = said [] w (Some ending)
-said_by (Asks w asked next) verdict [] = said (asked ∷ []) w None
-said_by (Asks w asked next) verdict (answer ∷ answers) = said_first w asked (said_by (next answer) verdict answers)
+-- what a plan comes to by the judgement that it asks for, and by these answers, one to each request
+abbrev pub said_by : Plan → Option Judgement → List Answer → Said
+said_by (Ends w ending) judgement answers = said [] w (Some ending)
+said_by (Asks w asked next) judgement [] = said (asked ∷ []) w None
+said_by (Asks w asked next) judgement (answer ∷ answers) = said_first w asked (said_by (next answer) judgement answers)
 said_by (Judges charter next) None answers = said [] nothing None
-said_by (Judges charter next) (Some verdict) answers = said_by (next verdict) None answers
+said_by (Judges charter next) (Some judgement) answers = said_by (next judgement) None answers
 
--- it is the verdict on the input that the plan asks for, or none where it asks for none
-abbrev pub IsJudged : Plan → List ℕ → Option Verdict → Type 0
-IsJudged (Judges charter next) input (Some verdict) = IsVerdict charter input verdict
+-- it is the judgement on the input that the plan asks for, or none where it asks for none
+abbrev pub IsJudged : Plan → List ℕ → Option Judgement → Type 0
+IsJudged (Judges charter next) input (Some judgement) = IsJudgement charter input judgement
 IsJudged (Judges charter next) input None = ⊥
-IsJudged plan input verdict = verdict ≡ None
+IsJudged plan input judgement = judgement ≡ None
 
 -- ---- the result
 
@@ -120,8 +119,8 @@ pub record Result : Type 0 where
 abbrev pub result_at : List (List ℕ) → Written → Ending → Result
 result_at words w ending = record { out = w.out; err = w.err ++ line_at words ending; status = status_at ending }
 
--- the result of these words, by the verdict on standard input where they ask for one, and by the answers, one to each
+-- the result of these words, by the judgement on standard input where they ask for one, and by the answers, one to each
 -- request; none while an answer hasn't come
-abbrev pub client_result : List (List ℕ) → Option Verdict → List Answer → Option Result
-client_result words verdict answers =
-    let said = said_by (plan_for words) verdict answers in option_map (result_at words said.written) said.end
+abbrev pub client_result : List (List ℕ) → Option Judgement → List Answer → Option Result
+client_result words judgement answers =
+    let said = said_by (plan_for words) judgement answers in option_map (result_at words said.written) said.end

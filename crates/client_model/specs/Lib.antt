@@ -1,6 +1,7 @@
 pub mod Words
 pub mod Requests
 pub mod Bodies
+pub mod Judgement
 pub mod Plans
 pub mod Streams
 pub mod Commands

@@ -102,7 +102,7 @@ usages_of_others =
     ∷ (codes "watch", codes "watch UNTIL")
     ∷ (codes "volume", codes "volume create|inspect|rm NAME, or volume ls")
     ∷ (codes "journal", codes "journal")
-    ∷ (codes "replay", codes "replay [--seed HEX] [MOMENT]") ∷ []
+    ∷ (codes "replay", codes "replay [--upgrade] [--seed HEX] [MOMENT]") ∷ []
 
 -- of all, in the table's order
 abbrev pub usages : List (List ℕ × List ℕ)

@@ -4,9 +4,9 @@ use Rattle.std.specs.Option.{option_map_or}
 use Rattle.http_edge.specs.Message.{Request}
 use Rattle.http_edge.specs.declared.head.Head.{Head}
 use Rattle.machine_model.specs.History.{Charter}
-use Rattle.journal_lines.specs.declared.verdict.Verdict.{Verdict}
 use Rattle.response_reader.specs.Answers.{Answer, NoHead, Answered}
 use Rattle.client_model.specs.Bodies.{message_in}
+use Rattle.client_model.specs.Judgement.{Judgement}
 use Rattle.client_model.specs.declared.fault.Fault.{Fault}
 use Rattle.client_model.specs.declared.fault.Fault.TheVariants as F
 use Rattle.client_model.specs.declared.showing.Showing.{Showing}
@@ -29,11 +29,11 @@ pub data Ending : Type 0 where
   Fails : Fault → Ending
 
 -- it writes this, and ends; or it writes this, asks, and goes on by the answer; or it reads standard input to its end,
--- and goes on by the verdict on that journal of a daemon opened so
+-- and goes on by what is said of that journal of a daemon opened so
 pub data Plan : Type 0 where
   Ends : Written → Ending → Plan
   Asks : Written → Asked → (Answer → Plan) → Plan
-  Judges : Charter → (Verdict → Plan) → Plan
+  Judges : Charter → (Judgement → Plan) → Plan
 
 -- ---- writing
 
@@ -52,7 +52,7 @@ joined w v = record { out = w.out ++ v.out; err = w.err ++ v.err }
 abbrev pub writes : Written → Plan → Plan
 writes w (Ends v ending) = Ends (joined w v) ending
 writes w (Asks v asked next) = Asks (joined w v) asked next
-writes w (Judges charter next) = Judges charter (λ verdict. writes w (next verdict))
+writes w (Judges charter next) = Judges charter (λ judgement. writes w (next judgement))
 
 -- it prints a line, or each of some lines
 abbrev pub prints : List ℕ → Plan → Plan

@@ -5,11 +5,11 @@ use Rattle.engine_ports.specs.Rose.{Rose, raised}
 use Rattle.engine_ports.specs.Source.{SourceView, SourceGave, SourceEnded}
 use Rattle.engine_ports.specs.Sink.{SinkView, SinkTook, IsFront}
 use Rattle.engine_ports.specs.Link.{LinkView, Wire, others}
-use Rattle.journal_lines.specs.declared.verdict.Verdict.{Verdict}
 use Rattle.http_edge.specs.declared.head.Head.{Head}
 use Rattle.response_reader.specs.Answers.{Answer, NoHead, Answered, IsAnswer, TellsSoFar, TellsAll}
 use Rattle.client_model.specs.Requests.{request_bytes}
 use Rattle.client_model.specs.Faults.{status_of, fault_line}
+use Rattle.client_model.specs.Judgement.{Judgement}
 use Rattle.client_model.specs.Plans.{Plan, Judges, Written, nothing, Asked, Ending, Fails}
 use Rattle.client_model.specs.Lines.{address_in}
 use Rattle.client_model.specs.Streams.{is_unfit}
@@ -111,7 +111,7 @@ missed_by fault missed = missed
 
 -- ---- what is read and written
 
--- standard input is asked for: for a verdict, or to follow one of these requests
+-- standard input is asked for: to be judged, or to follow one of these requests
 abbrev pub asks_input : Plan → List Asked → Bool
 asks_input (Judges charter next) asked = true
 asks_input plan asked = list_any (λ a. a.input) asked
@@ -134,10 +134,10 @@ WroteLine v part line v' = (part ≡ line) ⊎ (IsFront part line × Rose v.faul
 
 -- ---- a call that comes to its end
 
--- whole exchanges of a plan, behind its verdict where it asks for one: each connection gave its answer, and was sent all that
+-- whole exchanges of a plan, behind its judgement where it asks for one: each connection gave its answer, and was sent all that
 -- was asked
-pub record AreWhole (plan : Plan) (verdict : Option Verdict) (input : List ℕ) (xs : List Exchange) (answers : List Answer) (asked : List Asked) : Type 0 where
-  pub judged : IsJudged plan input verdict
+pub record AreWhole (plan : Plan) (judgement : Option Judgement) (input : List ℕ) (xs : List Exchange) (answers : List Answer) (asked : List Asked) : Type 0 where
+  pub judged : IsJudged plan input judgement
   pub answered : AreAnswered xs asked answers
   pub sent : map (λ x. x.sent) xs ≡ map (sent_by input) asked
 
@@ -146,14 +146,14 @@ pub record IsEnded (words : List (List ℕ)) (status : ℕ) (o o' : Outside) : T
   pub xs : List Exchange
   pub answers : List Answer
   pub input : List ℕ
-  pub verdict : Option Verdict
+  pub judgement : Option Judgement
   pub said : Said
   pub ending : Ending
   pub part : List ℕ
   pub meets : Meets (address_in words) o o' xs input
   pub missed : o'.link.faults ≡ o.link.faults
-  pub whole : AreWhole (plan_for words) verdict input xs answers said.asked
-  pub says : said ≡ said_by (plan_for words) verdict answers
+  pub whole : AreWhole (plan_for words) judgement input xs answers said.asked
+  pub says : said ≡ said_by (plan_for words) judgement answers
   pub ended : said.end ≡ Some ending
   pub input_read : InputStands (asks_input (plan_for words) said.asked) false [] input o.input o'.input
   pub out : SinkTook o.out said.written.out o'.out
@@ -163,19 +163,19 @@ pub record IsEnded (words : List (List ℕ)) (status : ℕ) (o o' : Outside) : T
 
 -- ---- a call that a fault of the outside, or want of memory, breaks off
 
--- what there was by then: connections, what standard input gave and the verdict on it, what was said, and what of that was
+-- what there was by then: connections, what standard input gave and the judgement on it, what was said, and what of that was
 -- written
 pub record Course : Type 0 where
   pub xs : List Exchange
   pub input : List ℕ
-  pub verdict : Option Verdict
+  pub judgement : Option Judgement
   pub said : Said
   pub wrote : Written
 
--- a verdict was to come, and none did: standard input failed, or memory was refused
-pub record LacksVerdict (plan : Plan) (fault : Fault) (c : Course) (o o' : Outside) : Type 0 where
+-- a judgement was to come, and none did: standard input failed, or memory was refused
+pub record LacksJudgement (plan : Plan) (fault : Fault) (c : Course) (o o' : Outside) : Type 0 where
   pub judging : asks_input plan [] ≡ true
-  pub none : c.verdict ≡ None
+  pub none : c.judgement ≡ None
   pub unasked : c.xs ≡ []
   pub says : c.said ≡ said_by plan None []
   pub cause : (fault ≡ F.NoMemory) ⊎ ((fault ≡ F.Input) × Rose o.input.faults o'.input.faults)
@@ -191,9 +191,9 @@ but_last answer [] = []
 but_last answer (next ∷ answers) = answer ∷ but_last next answers
 
 -- what was said before the last of these answers came; nothing, where there is none
-abbrev pub said_sooner : Plan → Option Verdict → List Answer → Written
-said_sooner plan verdict [] = nothing
-said_sooner plan verdict (answer ∷ answers) = (said_by plan verdict (but_last answer answers)).written
+abbrev pub said_sooner : Plan → Option Judgement → List Answer → Written
+said_sooner plan judgement [] = nothing
+said_sooner plan judgement (answer ∷ answers) = (said_by plan judgement (but_last answer answers)).written
 
 -- why it breaks off behind exchanges: an output failed to which something was to be written that was said since; memory was
 -- refused; or, where all is written that is said, no connection could be made for the one request more
@@ -209,13 +209,13 @@ pub record BreaksBehind (plan : Plan) (fault : Fault) (c : Course) (o o' : Outsi
   pub answers : List Answer
   pub done : List Asked
   pub more : List Asked
-  pub whole : AreWhole plan c.verdict c.input c.xs answers done
-  pub says : c.said ≡ said_by plan c.verdict answers
+  pub whole : AreWhole plan c.judgement c.input c.xs answers done
+  pub says : c.said ≡ said_by plan c.judgement answers
   pub asked : c.said.asked ≡ done ++ more
   pub input_read : InputStands (asks_input plan done) false [] c.input o.input o'.input
-  pub wrote : AreFronts (said_sooner plan c.verdict answers) c.wrote
+  pub wrote : AreFronts (said_sooner plan c.judgement answers) c.wrote
   pub unfailed : (fault ≡ F.NoMemory) ⊎ IsUnfailed c.said.end
-  pub cause : CauseBehind fault c (said_sooner plan c.verdict answers) more o o'
+  pub cause : CauseBehind fault c (said_sooner plan c.judgement answers) more o o'
 
 -- why it breaks off within an exchange, by what was said before it and in it: its connection failed, all that came of the
 -- answer is counted and could be taken, and all was written; the input behind its request failed; an output failed to which
@@ -240,14 +240,14 @@ pub record BreaksWithin (plan : Plan) (fault : Fault) (c : Course) (o o' : Outsi
   pub now : Asked
   pub more : List Asked
   pub xs_are : c.xs ≡ before ++ last ∷ []
-  pub whole : AreWhole plan c.verdict c.input before answers done
+  pub whole : AreWhole plan c.judgement c.input before answers done
   pub tells : TellsSoFar last.given answer
-  pub says : c.said ≡ said_by plan c.verdict (answers ++ answer ∷ [])
+  pub says : c.said ≡ said_by plan c.judgement (answers ++ answer ∷ [])
   pub asked : c.said.asked ≡ done ++ now ∷ more
   pub sent : WasSent fault last (sent_by c.input now)
   pub input_read : InputStands (asks_input plan done) now.input last.given c.input o.input o'.input
-  pub wrote : AreFronts (said_by plan c.verdict answers).written c.wrote
-  pub cause : CauseWithin fault last answer now c (said_by plan c.verdict answers).written o o'
+  pub wrote : AreFronts (said_by plan c.judgement answers).written c.wrote
+  pub cause : CauseWithin fault last answer now c (said_by plan c.judgement answers).written o o'
 
 -- so it broke off, and fronts of what is said by then were written
 pub record IsBrokenOff (words : List (List ℕ)) (status : ℕ) (o o' : Outside) : Type 0 where
@@ -256,7 +256,7 @@ pub record IsBrokenOff (words : List (List ℕ)) (status : ℕ) (o o' : Outside)
   pub part : List ℕ
   pub meets : Meets (address_in words) o o' course.xs course.input
   pub missed : o'.link.faults ≡ missed_by fault o.link.faults
-  pub breaks : LacksVerdict (plan_for words) fault course o o'
+  pub breaks : LacksJudgement (plan_for words) fault course o o'
       ⊎ (BreaksBehind (plan_for words) fault course o o' ⊎ BreaksWithin (plan_for words) fault course o o')
   pub fronts : AreFronts course.wrote course.said.written
   pub out : SinkTook o.out course.wrote.out o'.out

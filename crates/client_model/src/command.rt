@@ -105,6 +105,7 @@ pub enum Command {
     VolumeList,
     Journal,
     Replay {
+        upgrade: bool,
         seed: [u8; 32],
         moment: u64,
     },

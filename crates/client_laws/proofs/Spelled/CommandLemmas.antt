@@ -1,5 +1,5 @@
 -- The commands that ask at most one request ask only what is spelled by its bytes.
-use Rattle.std.proofs.Common.{ℕ, zero, suc, map, ◌+◌, ◌≤◌, List, [], ◌∷◌, length, Bool, false, codes, Option, Some, None, arith}
+use Rattle.std.proofs.Common.{ℕ, zero, suc, map, ◌+◌, ◌≤◌, List, [], ◌∷◌, length, Bool, true, false, codes, Option, Some, None, arith}
 use Rattle.std.specs.Prelude.{option_map, option_and_then}
 use Rattle.std.specs.Option.{IfSome}
 use Rattle.std.proofs.lemmas.Option.{IfSome_then}
@@ -41,7 +41,7 @@ use Rattle.client_model.specs.Commands.VolumeInspect.{volume_inspect_request, re
 use Rattle.client_model.specs.Commands.VolumeRemove.{volume_remove_request, read_volume_remove}
 use Rattle.client_model.specs.Commands.VolumeList.{volume_list_request, read_volume_list}
 use Rattle.client_model.specs.Commands.Journal.{journal_request, read_journal}
-use Rattle.client_model.specs.Commands.Replay.{replay_options, replay_of, replay_in, verdict_plan, read_replay}
+use Rattle.client_model.specs.Commands.Replay.{replay_options, replay_of, replay_in, legal_plan, verdict_plan, read_replay}
 use Rattle.client_laws.proofs.Spelled.SizeLemmas.{words_size}
 use Rattle.client_laws.proofs.Spelled.WordLemmas.{IfSome-map, IfSome-and_then, IfSome-each, given_size, value_size, behind_within, length_value}
 use Rattle.client_laws.proofs.Spelled.BodyLemmas.{IsShortPolicy, policy_short}
@@ -199,17 +199,23 @@ volume_lists words short =
 pub journals : IsFit read_journal
 journals words short = none_within Fit command.Journal words (streaming Copied journal_request false done journal_spelled tt)
 
-judged : (verdict : Verdict) → AsksSpelled (verdict_plan verdict)
-judged (Legal steps) = tt
-judged (Illegal line kept found) = tt
-judged (BadLine line) = tt
+legal : (upgrade : Bool) (new : List ℕ) (steps : ℕ) → AsksSpelled (legal_plan upgrade new steps)
+legal true new steps = tt
+legal false new steps = tt
+
+judged : (upgrade : Bool) (new : List ℕ) (verdict : Verdict) → AsksSpelled (verdict_plan upgrade new verdict)
+judged upgrade new (Legal steps) = legal upgrade new steps
+judged upgrade new (Illegal line kept found) = tt
+judged upgrade new (BadLine line) = tt
 
 replayed_at : (given : List Pair) (word : List ℕ) → IfSome (replay_of given word) Fit
 replayed_at given word =
+    let upgrade = has_flag (codes "--upgrade") given in
     let seed = seed_of (value_of (codes "--seed") given) in
-    IfSome-and_then Fit (λ seed. option_map (command.Replay seed) (moment_in word)) seed
-    (IfSome-each (λ seed. IfSome (option_map (command.Replay seed) (moment_in word)) Fit) seed
-    (λ seed. IfSome-map Fit (command.Replay seed) (moment_in word) (IfSome-each (λ moment. Fit (command.Replay seed moment)) (moment_in word) (λ moment. judged))))
+    IfSome-and_then Fit (λ seed. option_map (command.Replay upgrade seed) (moment_in word)) seed
+    (IfSome-each (λ seed. IfSome (option_map (command.Replay upgrade seed) (moment_in word)) Fit) seed
+    (λ seed. IfSome-map Fit (command.Replay upgrade seed) (moment_in word)
+    (IfSome-each (λ moment. Fit (command.Replay upgrade seed moment)) (moment_in word) (λ moment j. judged upgrade j.upgrade j.verdict))))
 
 replayed : (given : List Pair) (words : List (List ℕ)) → IfSome (replay_in given words) Fit
 replayed given [] = replayed_at given (codes "0")

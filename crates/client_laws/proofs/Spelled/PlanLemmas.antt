@@ -5,8 +5,8 @@ use Rattle.std.specs.Option.{IfSome}
 use Rattle.std.proofs.lemmas.List.Elements.{All-nil, All-cons}
 use Rattle.http_edge.specs.Message.{Request}
 use Rattle.http_edge.specs.declared.head.Head.{Head}
-use Rattle.journal_lines.specs.declared.verdict.Verdict.{Verdict}
 use Rattle.response_reader.specs.Answers.{Answer, NoHead, Answered}
+use Rattle.client_model.specs.Judgement.{Judgement}
 use Rattle.client_model.specs.declared.fault.Fault.TheVariants as F
 use Rattle.client_model.specs.Bodies.{message_in}
 use Rattle.client_model.specs.Plans.{Plan, Ends, Asks, Judges, Written, to_out, writes, prints, prints_all, fails, done, goes_on, reads, refuses, by_answer, asks, asks_and_prints, asks_and_shows}
@@ -21,14 +21,14 @@ use Rattle.client_laws.proofs.Spelled.RequestLemmas.{SpellsItself}
 abbrev pub AsksSpelled : Plan → Type 0
 AsksSpelled (Ends w ending) = ⊤
 AsksSpelled (Asks w asked next) = IsSpelled asked × ((answer : Answer) → AsksSpelled (next answer))
-AsksSpelled (Judges charter next) = (verdict : Verdict) → AsksSpelled (next verdict)
+AsksSpelled (Judges charter next) = (judgement : Judgement) → AsksSpelled (next judgement)
 
 -- ---- writing
 
 pub written : (w : Written) (plan : Plan) → AsksSpelled plan → AsksSpelled (writes w plan)
 written w (Ends v ending) is = tt
 written w (Asks v asked next) is = is
-written w (Judges charter next) is = λ verdict. written w (next verdict) (is verdict)
+written w (Judges charter next) is = λ judgement. written w (next judgement) (is judgement)
 
 pub printed : (line : List ℕ) (plan : Plan) → AsksSpelled plan → AsksSpelled (prints line plan)
 printed line plan is = written (to_out (line ++ codes "\n")) plan is
@@ -93,7 +93,7 @@ streaming showing request input next is behind = (
 
 -- ---- what is said
 
-pub all_spelled : (plan : Plan) (verdict : Option Verdict) (answers : List Answer) → AsksSpelled plan
+pub all_spelled : (plan : Plan) (verdict : Option Judgement) (answers : List Answer) → AsksSpelled plan
     → All IsSpelled (said_by plan verdict answers).asked
 all_spelled (Ends w ending) verdict answers is = All-nil IsSpelled
 all_spelled (Asks w asked next) verdict [] is = All-cons IsSpelled asked [] is.0 (All-nil IsSpelled)

@@ -4,12 +4,12 @@ use Rattle.std.specs.List.{AllZip}
 use Rattle.std.proofs.lemmas.List.{map-append}
 use Rattle.std.proofs.lemmas.List.Elements.{All-head, All-tail}
 use Rattle.engine_ports.specs.Sink.{IsFront}
-use Rattle.journal_lines.specs.declared.verdict.Verdict.{Verdict}
 use Rattle.response_reader.specs.Answers.{Answer}
+use Rattle.client_model.specs.Judgement.{Judgement}
 use Rattle.client_model.specs.Requests.{request_bytes}
 use Rattle.client_model.specs.Plans.{Asked}
 use Rattle.client_model.specs.Client.{Said, said_by, plan_for}
-use Rattle.client_model.specs.Runs.{Outside, Exchange, sent_by, WasSent, Course, LacksVerdict, BreaksBehind, BreaksWithin}
+use Rattle.client_model.specs.Runs.{Outside, Exchange, sent_by, WasSent, Course, LacksJudgement, BreaksBehind, BreaksWithin}
 use Rattle.client_model.specs.declared.fault.Fault.{Fault}
 use Rattle.client_model.specs.declared.fault.Fault.TheVariants as F
 use Rattle.client_laws.specs.Spelled.{IsShortLine, IsSpelled}
@@ -18,7 +18,7 @@ use Rattle.client_laws.proofs.Spelled.TableLemmas.{spelled_requests}
 
 -- ---- what was asked
 
-spelled : (words : List (List ℕ)) (verdict : Option Verdict) (answers : List Answer) (s : Said) → IsShortLine words
+spelled : (words : List (List ℕ)) (verdict : Option Judgement) (answers : List Answer) (s : Said) → IsShortLine words
     → s ≡ said_by (plan_for words) verdict answers → All IsSpelled s.asked
 spelled words verdict answers s line is =
     subst (λ (s : Said). All IsSpelled s.asked) (sym is) (spelled_requests words verdict answers line)
@@ -84,21 +84,21 @@ was_front F.Link x bytes all = all_front x bytes all
 
 pub ended_calls : EndedCallsSend
 ended_calls words status o o' call line =
-    let spells = spelled words call.verdict call.answers call.said line call.says in
+    let spells = spelled words call.judgement call.answers call.said line call.says in
     subst (λ sents. AllZip (IsSent call.input) sents call.said.asked) (sym call.whole.sent) (all_sent call.input call.said.asked spells)
 
 module _ (words : List (List ℕ)) (fault : Fault) (c : Course) (o o' : Outside) (line : IsShortLine words) where
   abbrev AreSent : Type 0
   AreSent = AreSentUpTo c.input (map (λ x. x.sent) c.xs) c.said.asked
 
-  lacking : LacksVerdict (plan_for words) fault c o o' → AreSent
+  lacking : LacksJudgement (plan_for words) fault c o o' → AreSent
   lacking b = subst (λ (xs : List Exchange). AreSentUpTo c.input (map (λ x. x.sent) xs) c.said.asked) (sym b.unasked) tt
 
   behind : BreaksBehind (plan_for words) fault c o o' → AreSent
   behind b =
       subst (λ sents. AreSentUpTo c.input sents c.said.asked) (sym b.whole.sent)
       (subst (AreSentUpTo c.input (map (sent_by c.input) b.done)) (sym b.asked)
-      (sent_whole c.input b.done b.more (subst (All IsSpelled) b.asked (spelled words c.verdict b.answers c.said line b.says))))
+      (sent_whole c.input b.done b.more (subst (All IsSpelled) b.asked (spelled words c.judgement b.answers c.said line b.says))))
 
   within : BreaksWithin (plan_for words) fault c o o' → AreSent
   within b =
@@ -106,10 +106,10 @@ module _ (words : List (List ℕ)) (fault : Fault) (c : Course) (o o' : Outside)
       (sym (ap (map (λ (x : Exchange). x.sent)) b.xs_are ∙ map-append (λ (x : Exchange). x.sent) b.before (b.last ∷ []) ∙ ap (λ l. l ++ b.last.sent ∷ []) b.whole.sent))
       (subst (AreSentUpTo c.input (map (sent_by c.input) b.done ++ b.last.sent ∷ [])) (sym b.asked)
       (sent_up_to c.input b.last.sent b.done b.now b.more
-      (subst (All IsSpelled) b.asked (spelled words c.verdict (b.answers ++ b.answer ∷ []) c.said line b.says))
+      (subst (All IsSpelled) b.asked (spelled words c.judgement (b.answers ++ b.answer ∷ []) c.said line b.says))
       (was_front fault b.last (sent_by c.input b.now) b.sent)))
 
-  broken : LacksVerdict (plan_for words) fault c o o' ⊎ (BreaksBehind (plan_for words) fault c o o' ⊎ BreaksWithin (plan_for words) fault c o o') → AreSent
+  broken : LacksJudgement (plan_for words) fault c o o' ⊎ (BreaksBehind (plan_for words) fault c o o' ⊎ BreaksWithin (plan_for words) fault c o o') → AreSent
   broken (inl b) = lacking b
   broken (inr (inl b)) = behind b
   broken (inr (inr b)) = within b
