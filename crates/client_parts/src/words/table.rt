@@ -40,7 +40,7 @@ fn usage_of_others(name: &str) -> &'static str
         "watch" => "watch UNTIL",
         "volume" => "volume create|inspect|rm NAME, or volume ls",
         "journal" => "journal",
-        "replay" => "replay [--seed HEX] [MOMENT]",
+        "replay" => "replay [--upgrade] [--seed HEX] [MOMENT]",
         _ => ANY,
     }
 }
