@@ -6,12 +6,12 @@ use Rattle.engine_ports.specs.Source.{SourceView, SourceGave, SourceEnded}
 use Rattle.engine_ports.specs.Sink.{SinkView}
 use Rattle.engine_ports.specs.Link.{LinkView}
 use Rattle.engine_ports.proofs.PortLemmas.{sink_none, sink_on, source_none}
-use Rattle.journal_lines.specs.declared.verdict.Verdict.{Verdict}
 use Rattle.machine_model.specs.History.{Charter}
+use Rattle.client_model.specs.Judgement.{Judgement}
 use Rattle.client_model.specs.Plans.{Plan, Ends, Asks, Judges, Asked, Done, Fails, nothing}
 use Rattle.client_model.specs.Client.{said, said_by, plan_for, IsJudged}
 use Rattle.client_model.specs.Lines.{address_in}
-use Rattle.client_model.specs.Runs.{Outside, HaveCome, AreLeft, asks_input, InputStands, AreWhole, IsEnded, LacksVerdict, BreaksBehind, missed_by, IsBrokenOff, Runs}
+use Rattle.client_model.specs.Runs.{Outside, HaveCome, AreLeft, asks_input, InputStands, AreWhole, IsEnded, LacksJudgement, BreaksBehind, missed_by, IsBrokenOff, Runs}
 use Rattle.client_model.specs.declared.fault.Fault.{Fault}
 use Rattle.client_model.specs.declared.fault.Fault.TheVariants as F
 use Rattle.client_exchange.specs.Outputs.{outputs, BothTook}
@@ -105,17 +105,17 @@ module _ (words : List (List ℕ)) (o m : Outside) (asking : IsAsking (plan_for 
       (with_input (plan_for words) s.next s.input (reach_of (address_in words) o) s.between s.walks) s.stops (λ rose. (s.loud, rose)) s.gave
       (part_read s.walks.way.asked s.stops.asks.asked.input s.stops.exchange.given s.input o.input m.input s.walks.quiet s.loud s.fed) tells)
 
--- ---- with a verdict
+-- ---- with a judgement
 
 module _ (words : List (List ℕ)) (o m : Outside) where
-  judged_ok : (status : ℕ) (charter : Charter) (next : Verdict → Plan) → plan_for words ≡ Judges charter next
-      → (j : replay.HasVerdict charter next (Ok status) o.input m.input (reach_of (address_in words) o) (reach_of (address_in words) m)) → Finishes (next j.verdict) (Done status) (reach_of (address_in words) o) (reach_of (address_in words) m)
+  judged_ok : (status : ℕ) (charter : Charter) (next : Judgement → Plan) → plan_for words ≡ Judges charter next
+      → (j : replay.HasJudgement charter next (Ok status) o.input m.input (reach_of (address_in words) o) (reach_of (address_in words) m)) → Finishes (next j.told.judgement) (Done status) (reach_of (address_in words) o) (reach_of (address_in words) m)
       → IsEnded words status o m
   judged_ok status charter next is j f = record {
     xs = [];
     answers = [];
     input = j.input;
-    verdict = Some j.verdict;
+    judgement = Some j.told.judgement;
     said = said [] f.written (Some (Done status));
     ending = Done status;
     part = [];
@@ -126,8 +126,8 @@ module _ (words : List (List ℕ)) (o m : Outside) where
       input_gave = j.gave;
     };
     missed = ap (λ (l : LinkView). l.faults) f.link;
-    whole = record { judged = subst (λ p. IsJudged p j.input (Some j.verdict)) (sym is) j.is; answered = tt; sent = refl };
-    says = sym (ap (λ p. said_by p (Some j.verdict) []) is ∙ ap (λ n. said_by n None []) f.is);
+    whole = record { judged = subst (λ p. IsJudged p j.input (Some j.told.judgement)) (sym is) j.told.is; answered = tt; sent = refl };
+    says = sym (ap (λ p. said_by p (Some j.told.judgement) []) is ∙ ap (λ n. said_by n None []) f.is);
     ended = refl;
     input_read = all_read charter next is j.input j.ended;
     out = f.took.out;
@@ -136,43 +136,43 @@ module _ (words : List (List ℕ)) (o m : Outside) where
     status_is = refl;
   }
     where
-      all_read : (charter : Charter) (next : Verdict → Plan) → plan_for words ≡ Judges charter next → (input : List ℕ) → SourceEnded o.input m.input
+      all_read : (charter : Charter) (next : Judgement → Plan) → plan_for words ≡ Judges charter next → (input : List ℕ) → SourceEnded o.input m.input
           → InputStands (asks_input (plan_for words) []) false [] input o.input m.input
       all_read charter next is input end = subst (λ p. InputStands (asks_input p []) false [] input o.input m.input) (sym is) end
 
-  judged_stops : (fault : Fault) (status : ℕ) (e : SinkView) (charter : Charter) (next : Verdict → Plan) → plan_for words ≡ Judges charter next
-      → (j : replay.HasVerdict charter next (Err fault) o.input m.input (reach_of (address_in words) o) (reach_of (address_in words) m)) → StopsBefore (next j.verdict) fault (reach_of (address_in words) o) (reach_of (address_in words) m)
+  judged_stops : (fault : Fault) (status : ℕ) (e : SinkView) (charter : Charter) (next : Judgement → Plan) → plan_for words ≡ Judges charter next
+      → (j : replay.HasJudgement charter next (Err fault) o.input m.input (reach_of (address_in words) o) (reach_of (address_in words) m)) → StopsBefore (next j.told.judgement) fault (reach_of (address_in words) o) (reach_of (address_in words) m)
       → Tells words fault status m.err e → IsBrokenOff words status o (outside_of m.link m.input m.out e)
   judged_stops fault status e charter next is j b tells =
-      broken_off words (course [] j.input (Some j.verdict) (said_by (next j.verdict) None []) b.began.part) fault status o m e
+      broken_off words (course [] j.input (Some j.told.judgement) (said_by (next j.told.judgement) None []) b.began.part) fault status o m e
       (subst (HaveCome o.link.coming []) (sym b.missed.coming) (came_none o.link.coming))
       (subst (AreLeft o.link.past []) (sym b.missed.past) (left_none o.link.past))
       b.missed.others
       j.gave (inr (inl behind)) b.began.fronts b.began.took b.missed.faults tells
     where
-      behind : BreaksBehind (plan_for words) fault (course [] j.input (Some j.verdict) (said_by (next j.verdict) None []) b.began.part) o m
+      behind : BreaksBehind (plan_for words) fault (course [] j.input (Some j.told.judgement) (said_by (next j.told.judgement) None []) b.began.part) o m
       behind = record {
         answers = [];
         done = [];
-        more = (said_by (next j.verdict) None []).asked;
-        whole = record { judged = subst (λ p. IsJudged p j.input (Some j.verdict)) (sym is) j.is; answered = tt; sent = refl };
-        says = sym (ap (λ p. said_by p (Some j.verdict) []) is);
+        more = (said_by (next j.told.judgement) None []).asked;
+        whole = record { judged = subst (λ p. IsJudged p j.input (Some j.told.judgement)) (sym is) j.told.is; answered = tt; sent = refl };
+        says = sym (ap (λ p. said_by p (Some j.told.judgement) []) is);
         asked = refl;
         input_read = subst (λ p. InputStands (asks_input p []) false [] j.input o.input m.input) (sym is) j.ended;
         wrote = fronts_none b.began.part;
         unfailed = b.unfailed;
         cause =
-            alone_cause (next j.verdict) fault (course [] j.input (Some j.verdict) (said_by (next j.verdict) None []) b.began.part) nothing nothing o m (reach_of (address_in words) o) (reach_of (address_in words) m) refl (fronts_none nothing)
-            (both_none (outputs o.out o.err)) refl (asks_one (next j.verdict) nothing b.began.part b.began.fronts) b.cause;
+            alone_cause (next j.told.judgement) fault (course [] j.input (Some j.told.judgement) (said_by (next j.told.judgement) None []) b.began.part) nothing nothing o m (reach_of (address_in words) o) (reach_of (address_in words) m) refl (fronts_none nothing)
+            (both_none (outputs o.out o.err)) refl (asks_one (next j.told.judgement) nothing b.began.part b.began.fronts) b.cause;
       }
 
-  -- no verdict came
-  unjudged : (fault : Fault) (status : ℕ) (e : SinkView) (charter : Charter) (next : Verdict → Plan) (input : List ℕ) → plan_for words ≡ Judges charter next
+  -- no judgement came
+  unjudged : (fault : Fault) (status : ℕ) (e : SinkView) (charter : Charter) (next : Judgement → Plan) (input : List ℕ) → plan_for words ≡ Judges charter next
       → SourceGave o.input input m.input → reach_of (address_in words) m ≡ reach_of (address_in words) o
       → (fault ≡ F.NoMemory) ⊎ ((fault ≡ F.Input) × Rose o.input.faults m.input.faults) → Tells words fault status m.err e
       → IsBrokenOff words status o (outside_of m.link m.input m.out e)
   unjudged fault status e charter next input is gave same cause tells =
-      broken_off words (record { xs = []; input = input; verdict = None; said = said [] nothing None; wrote = nothing }) fault status o m e
+      broken_off words (record { xs = []; input = input; judgement = None; said = said [] nothing None; wrote = nothing }) fault status o m e
       (subst (λ (r : Reach). HaveCome o.link.coming [] r.link.coming) (sym same) (came_none o.link.coming))
       (subst (λ (r : Reach). AreLeft o.link.past [] r.link.past) (sym same) (left_none o.link.past))
       (ap (λ (r : Reach). r.link.addresses) same)
@@ -207,9 +207,9 @@ module _ (words : List (List ℕ)) (o m : Outside) where
   same_err r a b is also = cc
 
   by_plan_ok : (status : ℕ) (plan : Plan) → plan_for words ≡ plan → replay.Judged plan (Ok status) o.input m.input (reach_of (address_in words) o) (reach_of (address_in words) m) → IsEnded words status o m
-  by_plan_ok status (Judges charter next) is (inl j) = by_print j.prints
+  by_plan_ok status (Judges charter next) is (inl j) = by_print j.told.prints
     where
-      by_print : PrintsOrLacks (next j.verdict) (Ok status) (reach_of (address_in words) o) (reach_of (address_in words) m) → IsEnded words status o m
+      by_print : PrintsOrLacks (next j.told.judgement) (Ok status) (reach_of (address_in words) o) (reach_of (address_in words) m) → IsEnded words status o m
       by_print (inl f) = judged_ok status charter next is j f
       by_print (inr (never, same)) = absurd (ok_err (Ok status) status F.NoMemory refl never)
   by_plan_ok status (Judges charter next) is (inr u) = absurd (ok_err (Ok status) status u.fault refl u.is)
@@ -218,9 +218,9 @@ module _ (words : List (List ℕ)) (o m : Outside) where
 
   by_plan_err : (fault : Fault) (status : ℕ) (e : SinkView) (plan : Plan) → plan_for words ≡ plan
       → replay.Judged plan (Err fault) o.input m.input (reach_of (address_in words) o) (reach_of (address_in words) m) → Tells words fault status m.err e → IsBrokenOff words status o (outside_of m.link m.input m.out e)
-  by_plan_err fault status e (Judges charter next) is (inl j) tells = by_print j.prints
+  by_plan_err fault status e (Judges charter next) is (inl j) tells = by_print j.told.prints
     where
-      by_print : PrintsOrLacks (next j.verdict) (Err fault) (reach_of (address_in words) o) (reach_of (address_in words) m)
+      by_print : PrintsOrLacks (next j.told.judgement) (Err fault) (reach_of (address_in words) o) (reach_of (address_in words) m)
           → IsBrokenOff words status o (outside_of m.link m.input m.out e)
       by_print (inl b) = judged_stops fault status e charter next is j b.1 tells
       by_print (inr (lack, same)) = unjudged fault status e charter next j.input is j.gave same (inl (same_err (Err F.NoMemory) F.NoMemory fault refl (sym lack))) tells

@@ -6,4 +6,5 @@ pub mod RunLemmas
 pub mod CallLemmas
 pub mod MomentLemmas
 pub mod LineLemmas
+pub mod ReplayLemmas
 pub mod PerformLemmas

@@ -87,14 +87,15 @@ moment_so : (o : Option ℕ) → IfSome (if_between 0 9_000_000_000_000 o) (λ m
 moment_so None = tt
 moment_so (Some n) = between_so n 9_000_000_000_000 (nat_le 0 n && nat_le n 9_000_000_000_000) refl
 
-mapped : (seed : List ℕ) (o : Option ℕ) → IfSome o (λ m. m ≤ greatest_moment) → IfSome (option_map (command.Replay seed) o) IsTimed
-mapped seed (Some m) is = is
-mapped seed None is = tt
+mapped : (upgrade : Bool) (seed : List ℕ) (o : Option ℕ) → IfSome o (λ m. m ≤ greatest_moment) → IfSome (option_map (command.Replay upgrade seed) o) IsTimed
+mapped upgrade seed (Some m) is = is
+mapped upgrade seed None is = tt
 
 replay_at : (given : List Pair) (word : List ℕ) → IfSome (replay_of given word) IsTimed
 replay_at given word =
-    if_then IsTimed (λ seed. option_map (command.Replay seed) (moment_in word)) (seed_of (value_of (codes "--seed") given))
-    (λ seed. mapped seed (moment_in word) (moment_so (number_of 13 word)))
+    let upgrade = has_flag (codes "--upgrade") given in
+    if_then IsTimed (λ seed. option_map (command.Replay upgrade seed) (moment_in word)) (seed_of (value_of (codes "--seed") given))
+    (λ seed. mapped upgrade seed (moment_in word) (moment_so (number_of 13 word)))
 
 replay_so : (given : List Pair) (words : List (List ℕ)) → IfSome (replay_in given words) IsTimed
 replay_so given [] = replay_at given (codes "0")

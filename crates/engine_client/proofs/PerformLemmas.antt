@@ -152,7 +152,7 @@ first_of now plan is = record { plan = plan; is = is }
 pub in_time : (now : Step) (plan : Plan) → IsStep now plan → IsInTime now
 in_time (step.Asks ask onward) plan is = tt
 in_time (step.Writes text status) plan is = tt
-in_time (step.Judges seed moment) plan is = is.1
+in_time (step.Judges upgrade seed moment) plan is = is.1
 
 pub performs_ask : (now : Step) (ask : Ask) (onward : Then) (plan : Plan) (result : Result Performed Fault) (v v' : SourceView) (o o' : Reach) → now ≡ step.Asks ask onward → IsStep now plan
     → ((r : Request) → ask.request.items ≡ request_bytes r → AskedSays ask.input (feeds_at onward) (asks_then (asked_as r ask.input ask.showing) (plan_at onward)) result v v' o o')
@@ -168,11 +168,11 @@ performs_text now text status plan bytes end result v o o' is begins same told p
     performs now plan v v o o' (step.Writes text status) result (sym is)
     (end, told, subst (λ p. Prints p end o o') (ap (λ b. Ends (to_out b) (Done status)) same ∙ sym (subst (λ n. IsStep n plan) is begins)) prints, refl)
 
-pub performs_verdict : (now : Step) (seed : List ℕ) (moment : ℕ) (plan : Plan) (end : Result ℕ Fault) (result : Result Performed Fault) (v v' : SourceView) (o o' : Reach) → now ≡ step.Judges seed moment → IsStep now plan
-    → result ≡ performed_of end → Judged (replay_plan seed moment) end v v' o o' → PerformSays now plan result v v' o o'
-performs_verdict now seed moment plan end result v v' o o' is begins told judged =
+pub performs_judgement : (now : Step) (upgrade : Bool) (seed : List ℕ) (moment : ℕ) (plan : Plan) (end : Result ℕ Fault) (result : Result Performed Fault) (v v' : SourceView) (o o' : Reach) → now ≡ step.Judges upgrade seed moment → IsStep now plan
+    → result ≡ performed_of end → Judged (replay_plan upgrade seed moment) end v v' o o' → PerformSays now plan result v v' o o'
+performs_judgement now upgrade seed moment plan end result v v' o o' is begins told judged =
     let s = subst (λ n. IsStep n plan) is begins in
-    performs now plan v v' o o' (step.Judges seed moment) result (sym is) (end, told, subst (λ p. Judged p end v v' o o') (sym s.0) judged)
+    performs now plan v v' o o' (step.Judges upgrade seed moment) result (sym is) (end, told, subst (λ p. Judged p end v v' o o') (sym s.0) judged)
 
 -- ---- where a command is
 
@@ -247,7 +247,7 @@ module _ (plan : Plan) (v v' v'' : SourceView) (o p q : Reach) where
       not_so : (end : Result ℕ Fault) → Ok (On after) ≡ performed_of end → ⊥
       not_so (Ok status) e = cc
       not_so (Err fault) e = cc
-  at_next (step.Judges seed moment) after at (end, is, judged) = absurd (not_so end is)
+  at_next (step.Judges upgrade seed moment) after at (end, is, judged) = absurd (not_so end is)
     where
       not_so : (end : Result ℕ Fault) → Ok (On after) ≡ performed_of end → ⊥
       not_so (Ok status) e = cc
@@ -273,7 +273,7 @@ module _ (plan : Plan) (v v' v'' : SourceView) (o p q : Reach) where
     plan_asks plan at.next v v' o p (subst IsAsking (sym at.is) tt) at.begun,
     subst (λ r. FedDoes plan r v v'' o q) (same_end result end is) (written_end plan at.next v v' v'' o p q at.fed end at.brings prints same),
   )
-  at_end (step.Judges seed moment) at result (end, is, judged) =
+  at_end (step.Judges upgrade seed moment) at result (end, is, judged) =
       subst (λ r. WasDone plan r v v'' o q) (same_end result end is)
       (by_end plan at.next v v' v'' o p q end at.begun (λ asking. subst IsAsking at.is.0 asking) judged)
 

@@ -8,13 +8,13 @@ use Rattle.engine_ports.specs.Sink.{SinkView, SinkTook, IsFront}
 use Rattle.engine_ports.specs.Link.{LinkView, others, but_for}
 use Rattle.engine_ports.proofs.PortLemmas.{sink_on, rose_since, rose_until}
 use Rattle.response_reader.specs.Answers.{Answer}
-use Rattle.journal_lines.specs.declared.verdict.Verdict.{Verdict}
+use Rattle.client_model.specs.Judgement.{Judgement}
 use Rattle.client_model.specs.Requests.{request_bytes}
 use Rattle.client_model.specs.Faults.{fault_line}
 use Rattle.client_model.specs.Lines.{address_in}
 use Rattle.client_model.specs.Plans.{Plan, Ends, Asks, Judges, Asked, Written, Ending, nothing, joined}
 use Rattle.client_model.specs.Client.{Said, said, said_by, plan_for, IsJudged, status_at, line_at}
-use Rattle.client_model.specs.Runs.{Outside, Exchange, shows_unfit, HaveCome, AreLeft, sent_by, WasSent, asks_input, InputStands, AreFronts, WroteLine, AreWhole, IsEnded, Course, LacksVerdict, but_last, said_sooner, CauseBehind, BreaksBehind, CauseWithin, BreaksWithin, missed_by, IsBrokenOff}
+use Rattle.client_model.specs.Runs.{Outside, Exchange, shows_unfit, HaveCome, AreLeft, sent_by, WasSent, asks_input, InputStands, AreFronts, WroteLine, AreWhole, IsEnded, Course, LacksJudgement, but_last, said_sooner, CauseBehind, BreaksBehind, CauseWithin, BreaksWithin, missed_by, IsBrokenOff}
 use Rattle.client_model.specs.declared.fault.Fault.{Fault}
 use Rattle.client_model.specs.declared.fault.Fault.TheVariants as F
 use Rattle.client_exchange.specs.Outputs.{Outputs, outputs, BothTook}
@@ -25,7 +25,7 @@ use Rattle.client_exchange.specs.Walks.{IsAsking, said_behind, WroteBefore, Walk
 use Rattle.client_exchange.proofs.WalkLemmas.{came_on, left_on}
 use Rattle.engine_client.specs.Running.{outside_of, reach_of, Tells}
 
--- ---- plans that ask for no verdict
+-- ---- plans that ask for no judgement
 
 not_judging : (plan : Plan) (input : List ℕ) → IsAsking plan → IsJudged plan input None
 not_judging (Ends w ending) input asking = refl
@@ -55,7 +55,7 @@ ended words input next w ending status o o' p e part asking way next_is took lin
   xs = way.xs;
   answers = way.answers;
   input = input;
-  verdict = None;
+  judgement = None;
   said = said way.asked all (Some ending);
   ending = ending;
   part = part;
@@ -215,7 +215,7 @@ as_often (F.Refused message) n m other same = same
 -- ---- broken off
 
 abbrev pub Breaks : Plan → Fault → Course → Outside → Outside → Type 0
-Breaks plan fault c o o' = LacksVerdict plan fault c o o' ⊎ (BreaksBehind plan fault c o o' ⊎ BreaksWithin plan fault c o o')
+Breaks plan fault c o o' = LacksJudgement plan fault c o o' ⊎ (BreaksBehind plan fault c o o' ⊎ BreaksWithin plan fault c o o')
 
 breaks_until : (plan : Plan) (fault : Fault) (c : Course) (o m : Outside) (e : SinkView) → m.err.faults ≤ e.faults → Breaks plan fault c o m
     → Breaks plan fault c o (outside_of m.link m.input m.out e)
@@ -231,7 +231,7 @@ breaks_until plan fault c o m e le (inr (inl b)) = inr (inl (record {
   input_read = b.input_read;
   wrote = b.wrote;
   unfailed = b.unfailed;
-  cause = behind_until fault c (said_sooner plan c.verdict b.answers) b.more o m e b.cause;
+  cause = behind_until fault c (said_sooner plan c.judgement b.answers) b.more o m e b.cause;
 }))
 breaks_until plan fault c o m e le (inr (inr b)) = inr (inr (record {
   before = b.before;
@@ -249,7 +249,7 @@ breaks_until plan fault c o m e le (inr (inr b)) = inr (inr (record {
   sent = b.sent;
   input_read = b.input_read;
   wrote = b.wrote;
-  cause = within_until fault b.last b.answer b.now c (said_by plan c.verdict b.answers).written o m e le b.cause;
+  cause = within_until fault b.last b.answer b.now c (said_by plan c.judgement b.answers).written o m e le b.cause;
 }))
 
 pub broken_off : (words : List (List ℕ)) (c : Course) (fault : Fault) (status : ℕ) (o m : Outside) (e : SinkView)
@@ -291,8 +291,8 @@ asks_one next w part fronts asks = (
   ap (λ (n : Plan). length (said_by n None []).asked) asks.is,
 )
 
-abbrev pub course : List Exchange → List ℕ → Option Verdict → Said → Written → Course
-course xs input verdict s wrote = record { xs = xs; input = input; verdict = verdict; said = s; wrote = wrote }
+abbrev pub course : List Exchange → List ℕ → Option Judgement → Said → Written → Course
+course xs input judgement s wrote = record { xs = xs; input = input; judgement = judgement; said = s; wrote = wrote }
 
 -- before anything more was asked
 pub stopped_before : (words : List (List ℕ)) (input : List ℕ) (next : Plan) (fault : Fault) (status : ℕ) (o m : Outside) (p : Reach) (e : SinkView)

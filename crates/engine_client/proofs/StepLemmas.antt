@@ -96,7 +96,7 @@ watched_asks None body whole = tt
 watched_asks (Some zero) body whole = reads_asking events_in (λ es. prints_all (map row_line (fold_of es)) done) body whole (λ es. all_printed (map row_line (fold_of es)))
 watched_asks (Some (suc n)) body whole = tt
 
--- nothing there waits for a verdict
+-- nothing there waits for a judgement
 pub places_ask : (onward : Then) (first : Option ℕ) (body : List ℕ) (whole : Bool) → IsAsking (plan_at onward first body whole)
 places_ask (place.Ends status) first body whole = reads_asking Some (λ text. ends status) body whole (λ text. tt)
 places_ask (place.Prints line) first body whole = reads_asking Some (λ text. prints line done) body whole (λ text. tt)
@@ -233,9 +233,10 @@ asked_step r had request input showing onward is bytes once = ((r, subst (λ q. 
 pub not_so : false ≡ true → ⊥
 not_so e = cc
 
--- a verdict is asked for first
-pub replayed : (command : Command) (seed : List ℕ) (moment : ℕ) → Replay seed moment ≡ command → IsTimed command → Begins (Ok (step.Judges seed moment)) (plan_of command)
-replayed command seed moment is timed = (sym (ap plan_of is), subst IsTimed (sym is) timed)
+-- a judgement is asked for first
+pub replayed : (command : Command) (upgrade : Bool) (seed : List ℕ) (moment : ℕ) → Replay upgrade seed moment ≡ command → IsTimed command
+    → Begins (Ok (step.Judges upgrade seed moment)) (plan_of command)
+replayed command upgrade seed moment is timed = (sym (ap plan_of is), subst IsTimed (sym is) timed)
 
 -- what a place does, by which one it is
 pub at_place : (result : Result Step Fault) (one onward : Then) (first : Option ℕ) (body : List ℕ) → one ≡ onward → GoesOn result (feeds_at one) (plan_at one first body true)

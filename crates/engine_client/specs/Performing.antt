@@ -20,9 +20,9 @@ pub record IsFirst (first : Step) : Type 0 where
   pub plan : Plan
   pub is : IsStep first plan
 
--- a verdict is on a journal whose daemon was opened at a moment that has a text
+-- a judgement is on a journal whose daemon was opened at a moment that has a text
 abbrev pub IsInTime : Step → Type 0
-IsInTime (step.Judges seed moment) = moment ≤ greatest_moment
+IsInTime (step.Judges upgrade seed moment) = moment ≤ greatest_moment
 IsInTime other = ⊤
 
 -- an end as it is told
@@ -51,10 +51,10 @@ AskedSays input fed plan (Ok (On after)) v v' o o' = GoesTo input fed plan after
 AskedSays input fed plan (Ok (Ended status)) v v' o o' = ⊥
 AskedSays input fed plan (Err fault) v v' o o' = DoesAs input plan (Err fault) v v' o o'
 
--- what a step comes to: a request, a text that is written, or a verdict that is printed
+-- what a step comes to: a request, a text that is written, or a judgement that is printed
 abbrev pub PerformSays : Step → Plan → Result Performed Fault → SourceView → SourceView → Reach → Reach → Type 0
 PerformSays (step.Asks ask onward) plan result v v' o o' = AskedSays ask.input (feeds_at onward) plan result v v' o o'
 PerformSays (step.Writes text status) plan result v v' o o' =
     (end : Result ℕ Fault) × (result ≡ performed_of end) × Prints plan end o o' × (v' ≡ v)
-PerformSays (step.Judges seed moment) plan result v v' o o' =
+PerformSays (step.Judges upgrade seed moment) plan result v v' o o' =
     (end : Result ℕ Fault) × (result ≡ performed_of end) × Judged plan end v v' o o'

@@ -50,7 +50,7 @@ feeds_at other = false
 abbrev pub feeds : Step → Bool
 feeds (step.Asks ask onward) = if ask.input then true else feeds_at onward
 feeds (step.Writes text status) = false
-feeds (step.Judges seed moment) = false
+feeds (step.Judges upgrade seed moment) = false
 
 -- it is the first step of this plan; standard input follows one request at most
 abbrev pub IsStep : Step → Plan → Type 0
@@ -59,7 +59,7 @@ IsStep (step.Asks ask onward) plan =
     × (plan ≡ asks_then (asked_as request ask.input ask.showing) (plan_at onward))
     × (ask.input ≡ true → feeds_at onward ≡ false)
 IsStep (step.Writes text status) plan = plan ≡ Ends (to_out text.items) (Done status)
-IsStep (step.Judges seed moment) plan = (plan ≡ replay_plan seed moment) × (moment ≤ greatest_moment)
+IsStep (step.Judges upgrade seed moment) plan = (plan ≡ replay_plan upgrade seed moment) × (moment ≤ greatest_moment)
 
 -- it is that; or the plan fails so, or memory was refused
 abbrev pub Begins : Result Step Fault → Plan → Type 0
@@ -73,5 +73,5 @@ GoesOn (Err fault) fed plan = Begins (Err fault) plan
 
 -- a journal's daemon was opened at a moment that has a text
 abbrev pub IsTimed : Command → Type 0
-IsTimed (command.Replay seed moment) = moment ≤ greatest_moment
+IsTimed (command.Replay upgrade seed moment) = moment ≤ greatest_moment
 IsTimed other = ⊤

@@ -1,13 +1,16 @@
--- `replay`: standard input read to its end, and what is printed of the verdict on it (own).
+-- `replay`: standard input read to its end, and what is printed of the judgement on it (own).
 use Rattle.std.specs.Prelude.{ℕ, ◌≡◌, ◌⊎◌, ⊤, List, [], ◌∷◌, ◌++◌, codes, decimal, Vec, Result, Ok, Err}
 use Rattle.std.specs.declared.alloc.Global.{Global}
 use Rattle.engine_ports.specs.Rose.{Rose}
 use Rattle.engine_ports.specs.Source.{SourceView, SourceGave, SourceEnded}
-use Rattle.journal_lines.specs.Verdict.{IsVerdict}
 use Rattle.journal_lines.specs.declared.verdict.Verdict.{Verdict}
 use Rattle.journal_lines.specs.declared.verdict.Verdict.TheVariants.{Legal, Illegal, BadLine}
 use Rattle.machine_model.specs.History.{Charter}
-use Rattle.client_model.specs.Plans.{Plan, Judges}
+use Rattle.history_replay.specs.declared.upgrading.Upgraded.{Upgraded}
+use Rattle.history_replay.specs.declared.upgrading.Upgraded.TheVariants.{Text, Not}
+use Rattle.client_model.specs.Judgement.{Judgement, IsJudgement}
+use Rattle.client_model.specs.Plans.{Plan, Ends, Judges, Done, to_out}
+use Rattle.client_model.specs.Commands.Replay.{verdict_plan}
 use Rattle.client_model.specs.declared.fault.Fault.{Fault}
 use Rattle.client_model.specs.declared.fault.Fault.TheVariants as F
 use Rattle.client_exchange.specs.Exchanges.{Reach}
@@ -36,7 +39,7 @@ abbrev pub ReadsInput : Result (Vec ℕ Global) Fault → SourceView → SourceV
 ReadsInput (Ok text) v v' = SourceGave v text.items v' × SourceEnded v v'
 ReadsInput (Err fault) v v' = IsUnread fault v v'
 
--- ---- the verdict
+-- ---- the verdict, and the journal in format 2
 
 -- the lines of a verdict
 abbrev pub verdict_lines : Verdict → List (List ℕ)
@@ -51,19 +54,32 @@ verdict_status (Legal steps) = 0
 verdict_status (Illegal line kept found) = 1
 verdict_status (BadLine line) = 3
 
--- ---- a plan that asks for a verdict
+-- what is told of a journal that is asked for in format 2
+abbrev pub upgraded_plan : Upgraded → Plan
+upgraded_plan (Text new) = Ends (to_out new) (Done 0)
+upgraded_plan (Not verdict) = verdict_plan false [] verdict
 
--- standard input was read to its end, this is the verdict on it, and what goes on by it was printed
-pub record HasVerdict (charter : Charter) (next : Verdict → Plan) (result : Result ℕ Fault) (v v' : SourceView) (o o' : Reach) : Type 0 where
+-- ---- a plan that asks for a judgement
+
+-- this is the judgement on the text, and what goes on by it was printed
+pub record IsTold (charter : Charter) (next : Judgement → Plan) (text : List ℕ) (result : Result ℕ Fault) (o o' : Reach) : Type 0 where
+  pub judgement : Judgement
+  pub is : IsJudgement charter text judgement
+  pub prints : PrintsOrLacks (next judgement) result o o'
+
+-- that, or nothing was printed for want of memory
+abbrev pub IsToldOrLacks : Charter → (Judgement → Plan) → List ℕ → Result ℕ Fault → Reach → Reach → Type 0
+IsToldOrLacks charter next text result o o' = IsTold charter next text result o o' ⊎ ((result ≡ Err F.NoMemory) × (o' ≡ o))
+
+-- standard input was read to its end, this is the judgement on it, and what goes on by it was printed
+pub record HasJudgement (charter : Charter) (next : Judgement → Plan) (result : Result ℕ Fault) (v v' : SourceView) (o o' : Reach) : Type 0 where
   pub input : List ℕ
   pub gave : SourceGave v input v'
   pub ended : SourceEnded v v'
-  pub verdict : Verdict
-  pub is : IsVerdict charter input verdict
-  pub prints : PrintsOrLacks (next verdict) result o o'
+  pub told : IsTold charter next input result o o'
 
--- there is no verdict, and nothing was printed
-pub record HasNoVerdict (result : Result ℕ Fault) (v v' : SourceView) (o o' : Reach) : Type 0 where
+-- there is no judgement, and nothing was printed
+pub record HasNoJudgement (result : Result ℕ Fault) (v v' : SourceView) (o o' : Reach) : Type 0 where
   pub fault : Fault
   pub is : result ≡ Err fault
   pub unread : IsUnread fault v v'
@@ -71,5 +87,5 @@ pub record HasNoVerdict (result : Result ℕ Fault) (v v' : SourceView) (o o' : 
 
 abbrev pub Judged : Plan → Result ℕ Fault → SourceView → SourceView → Reach → Reach → Type 0
 Judged (Judges charter next) result v v' o o' =
-    HasVerdict charter next result v v' o o' ⊎ HasNoVerdict result v v' o o'
+    HasJudgement charter next result v v' o o' ⊎ HasNoJudgement result v v' o o'
 Judged plan result v v' o o' = ⊥

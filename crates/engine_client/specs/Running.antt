@@ -19,7 +19,7 @@ outside_of link input out err = record { link = link; input = input; out = out; 
 abbrev pub reach_of : List ℕ → Outside → Reach
 reach_of address o = reach (but_for address o.link) o.out o.err
 
--- what was done of a plan by requests to this address, before a fault is told; one that asks for a verdict does that alone
+-- what was done of a plan by requests to this address, before a fault is told; one that asks for a judgement does that alone
 abbrev pub Ran : List ℕ → Plan → Result ℕ Fault → Outside → Outside → Type 0
 Ran address plan result o o' =
     (IsAsking plan × FedDoes plan result o.input o'.input (reach_of address o) (reach_of address o'))

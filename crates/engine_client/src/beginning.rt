@@ -103,7 +103,12 @@ pub fn begin(alloc: Global, command: &Command) -> Result<Step, Fault>
         Command::VolumeRemove { name } => printed!(volume_remove_request(name.as_str()), name),
         Command::VolumeList => kept!(volume_list_request(), Then::PrintsVolumes),
         Command::Journal => shown!(journal_request(), Showing::Copied),
-        Command::Replay { seed, moment } => Ok(Step::Judges {
+        Command::Replay {
+            upgrade,
+            seed,
+            moment,
+        } => Ok(Step::Judges {
+            upgrade: *upgrade,
             seed: *seed,
             moment: *moment,
         }),

@@ -88,9 +88,14 @@ fn perform<W: Wait, L: Link, N: Source, K: Sink, E: Sink>(
     match step {
         Step::Asks { ask, place } => ask_and_go_on(rt, alloc, outside, address, ask, place),
         Step::Writes { text, status } => ended(write_all(&mut outside.out, text, *status)),
-        Step::Judges { seed, moment } => ended(replay_journal(
+        Step::Judges {
+            upgrade,
+            seed,
+            moment,
+        } => ended(replay_journal(
             rt,
             alloc,
+            *upgrade,
             *seed,
             *moment,
             &mut outside.input,

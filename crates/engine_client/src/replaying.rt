@@ -1,21 +1,21 @@
 // `replay`, by its plan.
-ghost use Rattle.std.specs.Prelude.{◌≡◌, ◌≤◌, ◌++◌, ◌∷◌, [], codes, IfOk};
+ghost use Rattle.std.specs.Prelude.{◌≡◌, ◌≤◌, ◌++◌, ◌∷◌, [], false, true, codes, IfOk};
 ghost use Rattle.engine_ports.specs.Link.{LinkView};
 ghost use Rattle.engine_ports.specs.Sink.{SinkView};
 ghost use Rattle.machine_model.specs.History.{greatest_moment};
-ghost use Rattle.client_model.specs.Commands.Replay.{verdict_plan, replay_plan};
+ghost use Rattle.client_model.specs.Commands.Replay.{opened, verdict_plan, judgement_plan, replay_plan};
 ghost use Rattle.client_exchange.specs.Exchanges.{reach};
 ghost use Rattle.engine_client.specs.Writing.{PrintsOrLacks};
 ghost use Rattle.engine_client.specs.Replaying as spec;
 
 use crate::input::read_input;
-use crate::writing::write_lines;
+use crate::writing::{write_all, write_lines};
 use client_model::Fault;
 use engine_ports::{Sink, Source};
 use engine_text::{NoMemory, Text, Words};
-use history_replay::check;
+use history_replay::{Upgraded, check, law_upgrade, upgrade};
 use itoa::Buffer;
-use journal_lines::Verdict;
+use journal_lines::{Verdict, seed_bytes};
 use std::alloc::Global;
 use std::sync::Wait;
 
@@ -86,7 +86,8 @@ fn verdict_status(verdict: &Verdict) -> u8
 
 /// It prints the verdict.
 fn print_verdict<K: Sink>(alloc: Global, verdict: &Verdict, out: &mut K) -> Result<u8, Fault>
-    ensures { (link : LinkView) (e : SinkView) → PrintsOrLacks (verdict_plan verdict.now) result
+    ensures { (link : LinkView) (e : SinkView)
+        → PrintsOrLacks (verdict_plan false [] verdict.now) result
         (reach link (K.takes out.old) e) (reach link (K.takes out.new) e) }
 {
     match verdict_lines(alloc, verdict) {
@@ -95,26 +96,97 @@ fn print_verdict<K: Sink>(alloc: Global, verdict: &Verdict, out: &mut K) -> Resu
     }
 }
 
-/// It reads standard input to its end, and prints the verdict on that journal.
+/// It prints a journal in format 2 as it is, or the verdict on what isn't legal.
+fn print_upgraded<K: Sink>(alloc: Global, upgraded: &Upgraded, out: &mut K) -> Result<u8, Fault>
+    ensures { (link : LinkView) (e : SinkView)
+        → PrintsOrLacks (spec.upgraded_plan upgraded.now) result
+        (reach link (K.takes out.old) e) (reach link (K.takes out.new) e) }
+{
+    match upgraded {
+        Upgraded::Text(text) => write_all(out, text.as_slice(), 0),
+        Upgraded::Not(verdict) => print_verdict(alloc, verdict, out),
+    }
+}
+
+/// The verdict on this journal is printed.
+fn tell_verdict<K: Sink>(
+    alloc: Global,
+    text: &[u8],
+    seed: [u8; 32],
+    moment: u64,
+    out: &mut K,
+) -> Result<u8, Fault>
+    requires { moment ≤ greatest_moment }
+    ensures { (link : LinkView) (e : SinkView)
+        → spec.IsToldOrLacks (opened seed moment) (judgement_plan false) text.now result
+        (reach link (K.takes out.old) e) (reach link (K.takes out.new) e) }
+{
+    seed_bytes(&seed);
+    law_upgrade();
+    match check(alloc, text, seed, moment) {
+        Ok(verdict) => print_verdict(alloc, &verdict, out),
+        Err(_) => Err(Fault::NoMemory),
+    }
+}
+
+/// This journal is printed in format 2, or the verdict on it where it isn't legal.
+fn tell_upgrade<K: Sink>(
+    alloc: Global,
+    text: &[u8],
+    seed: [u8; 32],
+    moment: u64,
+    out: &mut K,
+) -> Result<u8, Fault>
+    requires { moment ≤ greatest_moment }
+    ensures { (link : LinkView) (e : SinkView)
+        → spec.IsToldOrLacks (opened seed moment) (judgement_plan true) text.now result
+        (reach link (K.takes out.old) e) (reach link (K.takes out.new) e) }
+{
+    match upgrade(alloc, text, seed, moment) {
+        Ok(upgraded) => print_upgraded(alloc, &upgraded, out),
+        Err(_) => Err(Fault::NoMemory),
+    }
+}
+
+/// The one or the other.
+fn tell<K: Sink>(
+    alloc: Global,
+    upgrade: bool,
+    text: &[u8],
+    seed: [u8; 32],
+    moment: u64,
+    out: &mut K,
+) -> Result<u8, Fault>
+    requires { moment ≤ greatest_moment }
+    ensures { (link : LinkView) (e : SinkView)
+        → spec.IsToldOrLacks (opened seed moment) (judgement_plan upgrade) text.now result
+        (reach link (K.takes out.old) e) (reach link (K.takes out.new) e) }
+{
+    if upgrade {
+        return tell_upgrade(alloc, text, seed, moment, out);
+    }
+    tell_verdict(alloc, text, seed, moment, out)
+}
+
+/// It reads standard input to its end, and prints the verdict on that journal, or, where that is asked for, a legal
+/// one in format 2.
 pub(crate) fn replay_journal<W: Wait, N: Source, K: Sink>(
     rt: &W,
     alloc: Global,
+    upgrade: bool,
     seed: [u8; 32],
     moment: u64,
     input: &mut N,
     out: &mut K,
 ) -> Result<u8, Fault>
     requires { moment ≤ greatest_moment }
-    ensures { (link : LinkView) (e : SinkView) → spec.Judged (replay_plan seed moment) result
+    ensures { (link : LinkView) (e : SinkView)
+        → spec.Judged (replay_plan upgrade seed moment) result
         (N.gives input.old) (N.gives input.new)
         (reach link (K.takes out.old) e) (reach link (K.takes out.new) e) }
 {
-    let text = match read_input(rt, alloc, input) {
-        Ok(text) => text,
-        Err(fault) => return Err(fault),
-    };
-    match check(alloc, &text, seed, moment) {
-        Ok(verdict) => print_verdict(alloc, &verdict, out),
-        Err(_) => Err(Fault::NoMemory),
+    match read_input(rt, alloc, input) {
+        Ok(text) => tell(alloc, upgrade, &text, seed, moment, out),
+        Err(fault) => Err(fault),
     }
 }

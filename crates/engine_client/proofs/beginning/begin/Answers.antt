@@ -104,4 +104,4 @@ pub returns-in-Journal : goal.returns-in-Journal
 returns-in-Journal c = begun _ false _ _ (ap plan_of (sym c.in-Journal.is)) (c.asks-in-Journal.ensures (journal_request) c.journal_request.ensures (λ never. refl))
 
 pub returns-in-Replay : goal.returns-in-Replay
-returns-in-Replay c = replayed _ c.in-Replay.seed c.in-Replay.moment (sym c.in-Replay.is) c.requires
+returns-in-Replay c = replayed _ c.in-Replay.upgrade c.in-Replay.seed c.in-Replay.moment (sym c.in-Replay.is) c.requires

@@ -1,4 +1,4 @@
-use Rattle.engine_client.proofs.PerformLemmas.{performs_ask, performs_text, performs_verdict}
+use Rattle.engine_client.proofs.PerformLemmas.{performs_ask, performs_text, performs_judgement}
 use Rattle.engine_client.proofs.performing.perform.Goals as goal
 
 pub returns-in-Asks : goal.returns-in-Asks
@@ -10,4 +10,4 @@ returns-in-Writes g c = λ plan is.
 
 pub returns-in-Judges : goal.returns-in-Judges
 returns-in-Judges g c = λ plan is.
-    performs_verdict c.args.step.now c.in-Judges.seed c.in-Judges.moment plan c.replay_journal.result c.ended-in-Judges.result _ _ _ _ c.in-Judges.is is c.ended-in-Judges.ensures (c.replay_journal.ensures _ _)
+    performs_judgement c.args.step.now c.in-Judges.upgrade c.in-Judges.seed c.in-Judges.moment plan c.replay_journal.result c.ended-in-Judges.result _ _ _ _ c.in-Judges.is is c.ended-in-Judges.ensures (c.replay_journal.ensures _ _)
