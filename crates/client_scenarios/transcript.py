@@ -184,6 +184,8 @@ usage("update web", "update --restart POLICY[:MAX] REF")
 usage("update --restart always", "update --restart POLICY[:MAX] REF")
 usage("update --restart on-failure:many web", "update --restart POLICY[:MAX] REF")
 usage("volume prune", "volume create|inspect|rm NAME, or volume ls")
+usage("replay --upgrade --upgrade", "replay [--upgrade] [--seed HEX] [MOMENT]")
+usage("replay 5 --upgrade", "replay [--upgrade] [--seed HEX] [MOMENT]")
 usage("version 2", "version")
 usage("--help")
 
@@ -218,6 +220,20 @@ for text in (TAKE.replace('"ticket":7', '"ticket":7,"ticket":7'), TAKE.replace('
 line("replay 1700000000000", f"illegal line 2\nkept {compact(told(204))}\nfound no ticket\n", status=1, connections=0,
      given=CREATE + TAKE.replace('"ticket":7', f'"ticket":{2 ** 64 - 1}'))
 line("replay 1700000000000", "legal 0\n", connections=0)
+
+# in format 2: what a legal one becomes that names its opening or doesn't, or is empty; of another the verdict
+UPGRADE = "replay --upgrade 1700000000000"
+line(UPGRADE, in_second(JOURNAL), connections=0, given=JOURNAL)
+line(UPGRADE, in_second("".join(TWO_STARTS)), connections=0, given="".join(TWO_STARTS))
+line("replay --upgrade", in_second(JOURNAL), connections=0, given=in_second(JOURNAL))
+STARTED = CREATE + entry(START, 1, 0, told(204))
+line(UPGRADE, in_second(STARTED).replace('"auto":false', '"auto":true'), connections=0, given=STARTED.replace('"image"', '"auto":true,"image"'))
+for given in ("--upgrade --seed " + "5a" * 32, "--seed " + "5a" * 32 + " --upgrade"):
+    line(f"replay {given} 7", compact({"format": 2, "moment": 7, "seed": "5a" * 32}) + "\n", connections=0)
+line(UPGRADE, f"illegal line 2\nkept {compact(told(304))}\nfound {compact(told(204))}\n", status=1, connections=0,
+     given=CREATE + entry(START, 1, 0, told(304)) + WAITED)
+line(UPGRADE, "bad line 2\n", status=3, connections=0, given=CREATE + "x\n" + WAITED)
+line(UPGRADE, "bad line 2\n", status=3, connections=0, given=in_second("") + JOURNAL)
 
 # ---- in the place of the daemon: streams whole and cut, answers that are none, and what fails outside
 
@@ -317,6 +333,7 @@ by("start web", answer(204), "output fails", err="dockc: standard output can't b
 by("logs web", FRAMES + chunk(HI) + LAST, "output fails", err="dockc: standard output can't be written\n", status=122)
 by("logs web", FRAMES + chunk("\2" + HI[1:]) + LAST, "errors fail", status=122)
 by("replay 1700000000000", "input fails", err="dockc: standard input can't be read\n", status=122, given=CREATE)
+by("replay --upgrade", "output fails", err="dockc: standard output can't be written\n", status=122, given=in_second(JOURNAL))
 by("run -i engine/tools cat", created(0), answer(204), TAKEN, "input fails", err="dockc: standard input can't be read\n", status=122, given="abc\n")
 by("frob", "errors fail", status=2)
 
