@@ -68,7 +68,17 @@ found {\"body\":\"\",\"status\":304}\n";
     )
 }
 
-/// The journal of three requests, replayed as it is, with another status, and cut.
+// Whether the journal as it was in format 1, without a header, becomes itself again.
+fn is_upgraded<W: Wait>(rt: &W, alloc: Global, journal: &str) -> Result<bool, Short> {
+    let Some((_, lines)) = journal.split_once('\n') else {
+        return Ok(false);
+    };
+    let first = lines.replace(alloc, "\"auto\":false,\"health\":null,", "")?;
+    let line = "127.0.0.1:1 replay --upgrade 1700000000000";
+    Ok(run_client_over(rt, alloc, line, first.as_bytes(), &[])?.is(0, journal.as_bytes()))
+}
+
+/// The journal of three requests, replayed as it is, with another status, and cut; and upgraded.
 pub fn a_journal_is_replayed<R: Threads + Wait + Sync>(
     rt: &R,
     alloc: Global,
@@ -80,7 +90,11 @@ pub fn a_journal_is_replayed<R: Threads + Wait + Sync>(
     };
     let told = run_client_over(rt, alloc, "127.0.0.1:1 journal", b"", &[answer.as_bytes()])?;
     match str::from_utf8(told.out.bytes()) {
-        Ok(journal) => Ok(journal.lines().count() == 4 && is_judged(rt, alloc, journal)?),
+        Ok(journal) => Ok(
+            journal.lines().count() == 4
+                && is_judged(rt, alloc, journal)?
+                && is_upgraded(rt, alloc, journal)?,
+        ),
         Err(_) => Ok(false),
     }
 }
