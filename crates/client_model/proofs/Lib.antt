@@ -1,3 +1,4 @@
 pub mod LineFacts
 pub mod RequestFacts
 pub mod RunFacts
+pub mod HealthFacts

@@ -31,6 +31,10 @@ update : line_of (words_of (codes "127.0.0.1:2375 update --restart on-failure:5 
     ≡ Some (line_with address (command.Update (codes "web") (record { policy = codes "on-failure"; most = 5 })))
 update = refl
 
+health : line_of (words_of (codes "127.0.0.1:2375 health 1700000003.5 web"))
+    ≡ Some (line_with address (command.Health (codes "1700000003.5") (codes "web")))
+health = refl
+
 -- what isn't an option of its command is its first other word
 other_word : line_of (words_of (codes "127.0.0.1:2375 start -f")) ≡ Some (line_with address (command.Start (codes "-f")))
 other_word = refl
@@ -44,6 +48,9 @@ no_value = refl
 
 no_policy : line_of (words_of (codes "127.0.0.1:2375 update web")) ≡ None
 no_policy = refl
+
+no_time : line_of (words_of (codes "127.0.0.1:2375 health soon web")) ≡ None
+no_time = refl
 
 too_many : line_of (words_of (codes "127.0.0.1:2375 start web db")) ≡ None
 too_many = refl

@@ -9,6 +9,7 @@ use Rattle.client_model.specs.Plans.{Plan, Ends, Asks, Judges}
 use Rattle.client_model.specs.Client.{plan_for}
 use Rattle.client_model.specs.Commands.Attach.{attach_request}
 use Rattle.client_model.specs.Commands.Exec.{exec_start_request, exec_inspect_request}
+use Rattle.client_model.specs.Commands.Health.{container_events_request}
 use Rattle.client_model.proofs.LineFacts.{words_of, address}
 
 -- the first request of a plan
@@ -127,6 +128,15 @@ events = refl
 watch : asked (codes "watch 1700000000") ≡ closing (codes "GET /v1.43/events?since=0&until=1700000000")
 unfolding first_of byte_serialize percent_encode_byte
 watch = refl
+
+health : asked (codes "health 1700000000 web") ≡ closing (codes "GET /v1.43/containers/web/json")
+unfolding first_of byte_serialize percent_encode_byte
+health = refl
+
+container_events : request_bytes (container_events_request (codes "1700000000") (codes "1f"))
+    ≡ closing (codes "GET /v1.43/events?since=0&until=1700000000&filters=%7B%22container%22%3A%5B%221f%22%5D%7D")
+unfolding escape_byte byte_serialize percent_encode_byte
+container_events = refl
 
 volume_create : asked (codes "volume create data")
     ≡ codes "POST /v1.43/volumes/create HTTP/1.1\r\nHost: engine\r\nConnection: close\r\nContent-Length: 15\r\nContent-Type: application/json\r\n\r\n{\"Name\":\"data\"}"

@@ -103,7 +103,7 @@ link_failed = refl
 
 -- words that are no line
 no_line : result_of (codes "top web") []
-    ≡ ended [] (codes "usage: dockc ADDR create|run|start|pause|unpause|stop|restart|kill|rm|rename|update|ps|inspect|version|logs|attach|exec|wait|events|watch|volume|journal|replay [OPTIONS] [WORD..] (ADDR is 127.0.0.1:PORT)\n") 2
+    ≡ ended [] (codes "usage: dockc ADDR create|run|start|pause|unpause|stop|restart|kill|rm|rename|update|ps|inspect|version|logs|attach|exec|wait|events|watch|health|volume|journal|replay [OPTIONS] [WORD..] (ADDR is 127.0.0.1:PORT)\n") 2
 no_line = refl
 
 -- no line of a command that there is

@@ -26,6 +26,7 @@ use Rattle.client_model.specs.Commands.Exec.{exec_plan}
 use Rattle.client_model.specs.Commands.Wait.{wait_plan}
 use Rattle.client_model.specs.Commands.Events.{events_plan}
 use Rattle.client_model.specs.Commands.Watch.{watch_plan}
+use Rattle.client_model.specs.Commands.Health.{health_plan}
 use Rattle.client_model.specs.Commands.VolumeCreate.{volume_create_plan}
 use Rattle.client_model.specs.Commands.VolumeInspect.{volume_inspect_plan}
 use Rattle.client_model.specs.Commands.VolumeRemove.{volume_remove_plan}
@@ -59,6 +60,7 @@ plan_of (command.Exec target words input) = exec_plan target words input
 plan_of (command.Wait target) = wait_plan target
 plan_of (command.Events since until) = events_plan since until
 plan_of (command.Watch until) = watch_plan until
+plan_of (command.Health until target) = health_plan until target
 plan_of (command.VolumeCreate name) = volume_create_plan name
 plan_of (command.VolumeInspect name) = volume_inspect_plan name
 plan_of (command.VolumeRemove name) = volume_remove_plan name

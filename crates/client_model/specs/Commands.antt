@@ -19,6 +19,7 @@ pub mod Exec
 pub mod Wait
 pub mod Events
 pub mod Watch
+pub mod Health
 pub mod VolumeCreate
 pub mod VolumeInspect
 pub mod VolumeRemove

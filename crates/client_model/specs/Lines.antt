@@ -22,6 +22,7 @@ use Rattle.client_model.specs.Commands.Exec.{read_exec}
 use Rattle.client_model.specs.Commands.Wait.{read_wait}
 use Rattle.client_model.specs.Commands.Events.{read_events}
 use Rattle.client_model.specs.Commands.Watch.{read_watch}
+use Rattle.client_model.specs.Commands.Health.{read_health}
 use Rattle.client_model.specs.Commands.VolumeCreate.{read_volume_create}
 use Rattle.client_model.specs.Commands.VolumeInspect.{read_volume_inspect}
 use Rattle.client_model.specs.Commands.VolumeRemove.{read_volume_remove}
@@ -69,6 +70,7 @@ commands =
     ∷ (codes "wait", read_wait)
     ∷ (codes "events", read_events)
     ∷ (codes "watch", read_watch)
+    ∷ (codes "health", read_health)
     ∷ (codes "volume", read_by volume_commands)
     ∷ (codes "journal", read_journal)
     ∷ (codes "replay", read_replay) ∷ []
@@ -100,6 +102,7 @@ usages_of_others =
     ∷ (codes "wait", codes "wait REF")
     ∷ (codes "events", codes "events SINCE UNTIL")
     ∷ (codes "watch", codes "watch UNTIL")
+    ∷ (codes "health", codes "health UNTIL REF")
     ∷ (codes "volume", codes "volume create|inspect|rm NAME, or volume ls")
     ∷ (codes "journal", codes "journal")
     ∷ (codes "replay", codes "replay [--upgrade] [--seed HEX] [MOMENT]") ∷ []

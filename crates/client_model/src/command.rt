@@ -93,6 +93,10 @@ pub enum Command {
     Watch {
         until: Text,
     },
+    Health {
+        until: Text,
+        target: Text,
+    },
     VolumeCreate {
         name: Text,
     },

@@ -16,6 +16,8 @@ pub enum Fault {
     Answer,
     /// An exec shows no exit code.
     NoCode,
+    /// A container shows no health check.
+    NoCheck,
     /// The first events are kept no more.
     EventsGone,
     /// A body has more bytes than are kept.
