@@ -3,3 +3,4 @@ pub mod BodyLemmas
 pub mod RequestLemmas
 pub mod WordLemmas
 pub mod CodeLemmas
+pub mod TimeLemmas

@@ -2,13 +2,15 @@
 #![tactic(auto)]
 
 mod answers;
+mod lines;
 pub mod requests;
 mod unread;
 mod words;
 
 pub use answers::{
-    container_lines_in, exit_code_in, fault_line, id_in, message_in, status_code_in, status_of,
-    volume_names_in, write_fault,
+    checked_in, container_lines_in, exit_code_in, fault_line, id_in, message_in, status_code_in,
+    status_of, volume_names_in, write_fault,
 };
+pub use lines::{change_line, standing_line};
 pub use unread::Unread;
-pub use words::read_line;
+pub use words::{read_line, time_of};

@@ -8,8 +8,11 @@ mod replays;
 mod split;
 mod table;
 mod targets;
+mod times;
 mod views;
 mod volumes;
 
+pub(crate) use few::copied;
 pub use table::read_line;
 pub(crate) use table::{ANY, usage_of};
+pub use times::time_of;

@@ -3,6 +3,7 @@ pub mod Printing
 pub mod Steps
 pub mod Places
 pub mod Cutting
+pub mod Telling
 pub mod Writing
 pub mod Replaying
 pub mod Performing

@@ -7,6 +7,7 @@ use Rattle.client_model.specs.Requests.{request_bytes}
 use Rattle.client_model.specs.Bodies.{id_in, status_code_in, container_lines_in, volume_names_in}
 use Rattle.client_model.specs.Plans.{Plan, Ends, Done, to_out, cut_fault, reads, prints, prints_all, ends, done, fails}
 use Rattle.client_model.specs.Commands.Exec.{exit_code_in}
+use Rattle.client_model.specs.Commands.Health.{checked_in, told_health}
 use Rattle.client_model.specs.Commands.Replay.{replay_plan}
 use Rattle.client_model.specs.Commands.Run.{removes}
 use Rattle.client_model.specs.Commands.Watch.{watched}
@@ -15,7 +16,7 @@ use Rattle.client_model.specs.declared.command.Command.TheVariants as command
 use Rattle.client_model.specs.declared.fault.Fault.{Fault}
 use Rattle.client_model.specs.declared.fault.Fault.TheVariants as F
 use Rattle.client_exchange.specs.Asking.{asked_as, asks_then}
-use Rattle.engine_client.specs.Steps.{starts, attaches, waits, executes, inspects}
+use Rattle.engine_client.specs.Steps.{starts, attaches, waits, executes, inspects, by_check}
 use Rattle.engine_client.specs.declared.onward.Then.{Then}
 use Rattle.engine_client.specs.declared.onward.Then.TheVariants as place
 use Rattle.engine_client.specs.declared.step.Step.{Step}
@@ -38,6 +39,8 @@ plan_at (place.Removes id remove) first body whole = reads status_code_in (λ co
 plan_at (place.Executes input) first body whole = reads id_in (λ id. executes input id) body whole
 plan_at (place.Inspects id) first body whole = reads Some (λ text. inspects id) body whole
 plan_at place.EndsExec first body whole = reads exit_code_in (λ code. option_map_or ends code (fails F.NoCode)) body whole
+plan_at (place.AsksEvents until) first body whole = reads checked_in (λ checked. by_check until checked) body whole
+plan_at (place.PrintsHealth until checked) first body whole = told_health until checked first body whole
 
 -- standard input follows a request from there on
 abbrev pub feeds_at : Then → Bool

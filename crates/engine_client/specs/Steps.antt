@@ -1,4 +1,4 @@
--- `run`, `exec` and `watch`, from each of their steps on (docker command line reference, docker container run and exec).
+-- `run`, `exec`, `watch` and `health`, from each of their steps on (docker command line reference, docker container run and exec).
 use Rattle.std.specs.Prelude.{ℕ, List, map, Bool, Option, Some}
 use Rattle.std.specs.Option.{option_map_or}
 use Rattle.engine_text.specs.declared.event.Event.{Event}
@@ -8,10 +8,12 @@ use Rattle.client_model.specs.Plans.{Plan, asks, ends, fails, goes_on, prints_al
 use Rattle.client_model.specs.Streams.{follows}
 use Rattle.client_model.specs.Commands.Attach.{attach_request}
 use Rattle.client_model.specs.Commands.Exec.{exec_start_request, exec_inspect_request, exit_code_in}
+use Rattle.client_model.specs.Commands.Health.{asks_events}
 use Rattle.client_model.specs.Commands.Run.{removes}
 use Rattle.client_model.specs.Commands.Start.{start_request}
 use Rattle.client_model.specs.Commands.Wait.{wait_request}
 use Rattle.client_model.specs.Commands.Watch.{row_line}
+use Rattle.client_model.specs.declared.checked.Checked.{Checked}
 use Rattle.client_model.specs.declared.fault.Fault.TheVariants as F
 
 -- ---- run
@@ -43,3 +45,9 @@ executes input id = follows (exec_start_request id) input (inspects id)
 -- it prints a line of each container of which the events tell
 abbrev pub watches : Option (List Event) → Plan
 watches events = goes_on (λ es. prints_all (map row_line (fold_of es)) done) events
+
+-- ---- health
+
+-- it asks for the events of a container that has a check
+abbrev pub by_check : List ℕ → Option Checked → Plan
+by_check until checked = option_map_or (asks_events until) checked (fails F.NoCheck)

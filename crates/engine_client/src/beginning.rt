@@ -3,6 +3,7 @@ ghost use Rattle.client_model.specs.Client.{plan_of};
 ghost use Rattle.engine_client.specs.Places.{Begins, IsTimed};
 
 use crate::asking::{asks, asks_and_prints};
+use crate::checking::asks_check;
 use crate::onward::Then;
 use crate::step::Step;
 use client_model::{Command, Fault, Showing};
@@ -96,6 +97,7 @@ pub fn begin(alloc: Global, command: &Command) -> Result<Step, Fault>
             )
         }
         Command::Watch { until } => kept!(events_request("0", until.as_str()), Then::PrintsRows),
+        Command::Health { until, target } => asks_check(alloc, until, target),
         Command::VolumeCreate { name } => printed!(volume_create_request(name.as_str()), name),
         Command::VolumeInspect { name } => {
             kept!(volume_inspect_request(name.as_str()), Then::PrintsBody)

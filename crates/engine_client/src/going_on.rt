@@ -1,9 +1,12 @@
 // What a command does behind an answer that doesn't refuse.
-ghost use Rattle.std.specs.Prelude.{◌≡◌, true, false};
+ghost use Rattle.std.specs.Prelude.{◌≡◌, ℕ, List, true, false};
 ghost use Rattle.client_model.specs.Plans.{fails};
+ghost use Rattle.client_model.specs.Commands.Health.{told_health};
 ghost use Rattle.client_model.specs.Commands.Watch.{watched};
+ghost use Rattle.client_model.specs.declared.checked.Checked.{Checked};
 ghost use Rattle.engine_client.specs.Places.{GoesOn, feeds_at, plan_at};
 
+use crate::checking::{asks_events_by, prints_health};
 use crate::onward::Then;
 use crate::places::{
     attaches, ends, ends_exec, ends_run, executes, inspects, prints_containers, prints_exit,
@@ -15,9 +18,11 @@ use client_exchange::{Body, cut_fault};
 use client_model::Fault;
 use std::alloc::Global;
 
-/// What `watch` fails by, where not all of a body came.
-fn short_rows(first: Option<u64>, body: &Vec<u8>) -> Fault
-    ensures { watched first body.now.items false ≡ fails result }
+/// What `watch` and `health` fail by, where not all of a body came.
+fn short_events(first: Option<u64>, body: &Vec<u8>) -> Fault
+    ensures watch { watched first body.now.items false ≡ fails result }
+    ensures health { (until : List ℕ) (c : Checked)
+        → told_health until c first body.now.items false ≡ fails result }
 {
     match first {
         None => Fault::Answer,
@@ -31,7 +36,8 @@ fn short(place: &Then, first: Option<u64>, body: &Vec<u8>) -> Fault
     ensures { plan_at place.now first body.now.items false ≡ fails result }
 {
     match place {
-        Then::PrintsRows => short_rows(first, body),
+        Then::PrintsRows => short_events(first, body),
+        Then::PrintsHealth { .. } => short_events(first, body),
         _ => cut_fault(body),
     }
 }
@@ -56,6 +62,8 @@ fn whole(alloc: Global, place: &Then, first: Option<u64>, body: &mut Vec<u8>) ->
         Then::Executes { input } => executes(alloc, *input, body),
         Then::Inspects { id } => inspects(alloc, id),
         Then::EndsExec => ends_exec(alloc, body),
+        Then::AsksEvents { until } => asks_events_by(alloc, until, body),
+        Then::PrintsHealth { until, checked } => prints_health(alloc, until, checked, first, body),
     }
 }
 

@@ -3,6 +3,7 @@
 
 mod asking;
 mod beginning;
+mod checking;
 mod client;
 mod going_on;
 mod input;
@@ -14,6 +15,7 @@ mod printing;
 mod reading;
 mod replaying;
 mod step;
+mod telling;
 mod watching;
 mod writing;
 

@@ -1,4 +1,5 @@
 // The places that a command can be at.
+use client_model::Checked;
 use engine_text::Text;
 
 /// What a command does behind an answer that doesn't refuse.
@@ -34,4 +35,8 @@ pub enum Then {
     Inspects { id: Text },
     /// `exec`: it ends with the exit code.
     EndsExec,
+    /// `health`: it asks for the events of the container, where it has a check.
+    AsksEvents { until: Text },
+    /// `health`: it prints the changes of health that the events tell, and the health.
+    PrintsHealth { until: Text, checked: Checked },
 }

@@ -1,11 +1,12 @@
 // What is read of answers that came whole.
 ghost use Rattle.client_model.specs.Bodies as spec;
 ghost use Rattle.client_model.specs.Commands.Exec as exec;
+ghost use Rattle.client_model.specs.Commands.Health as health;
 ghost use Rattle.engine_client.specs.Reading.{ReadsOrFails};
 
-use client_model::Fault;
+use client_model::{Checked, Fault};
 use client_parts::{
-    Unread, container_lines_in, exit_code_in, id_in, status_code_in, volume_names_in,
+    Unread, checked_in, container_lines_in, exit_code_in, id_in, status_code_in, volume_names_in,
 };
 use engine_text::{Text, Words};
 use std::alloc::Global;
@@ -38,6 +39,17 @@ pub(crate) fn read_exit_code(alloc: Global, body: &[u8]) -> Result<Option<u8>, F
 {
     match exit_code_in(alloc, body) {
         Ok(code) => Ok(code),
+        Err(Unread::NoForm) => Err(Fault::Answer),
+        Err(Unread::NoMemory) => Err(Fault::NoMemory),
+    }
+}
+
+/// A container with its health check, or none where it shows no check.
+pub(crate) fn read_checked(alloc: Global, body: &[u8]) -> Result<Option<Checked>, Fault>
+    ensures { ReadsOrFails result (health.checked_in body.now) }
+{
+    match checked_in(alloc, body) {
+        Ok(checked) => Ok(checked),
         Err(Unread::NoForm) => Err(Fault::Answer),
         Err(Unread::NoMemory) => Err(Fault::NoMemory),
     }

@@ -16,7 +16,7 @@ use itoa::Buffer;
 use std::alloc::Global;
 
 /// The first line, with its line end, and what is left; none where there is no line end.
-fn cut_line(text: &[u8]) -> Option<(&[u8], &[u8])>
+pub(crate) fn cut_line(text: &[u8]) -> Option<(&[u8], &[u8])>
     ensures line { IfSome result (λ p. IsCut text.now p.0.now p.1.now) }
     ensures none { IfNone result (HasNoLineEnd text.now) }
 {
@@ -25,7 +25,7 @@ fn cut_line(text: &[u8]) -> Option<(&[u8], &[u8])>
 }
 
 /// The event that a line is, with its line end.
-fn read_event(alloc: Global, line: &[u8]) -> Result<Event, Fault>
+pub(crate) fn read_event(alloc: Global, line: &[u8]) -> Result<Event, Fault>
     ensures reads { (front : List ℕ) → line.now ≡ front ++ 10 ∷ []
         → ReadsOrFails result (event_in front) }
     ensures line { IfOk result (λ e. IsLine e) }

@@ -42,7 +42,7 @@ read_health words = None
 
 -- a whole number at a key
 abbrev pub number_at : List ℕ → Data → Option ℕ
-number_at name d = option_and_then as_u64 (option_and_then as_number (get_member name d))
+number_at name d = if_there (get_member name d) (λ n. option_and_then as_u64 (as_number n))
 
 -- nanoseconds at a key, counted down to milliseconds
 abbrev pub milliseconds_at : List ℕ → Data → Option ℕ
@@ -128,15 +128,22 @@ attributes_behind id moment found e =
 abbrev pub attributes_by : List ℕ → ℕ → List Event → List Pair
 attributes_by id moment es = fold (attributes_behind id moment) [] es
 
--- a change, told as an event of the container, with the image and the name of these attributes
+-- the image and the name of these attributes
+abbrev pub attributes_data : List Pair → Data
+attributes_data attributes = object (
+    member (codes "image") (text (attribute (codes "image") attributes)) (
+    member (codes "name") (text (attribute (codes "name") attributes)) no_members))
+
+abbrev pub actor_data : List ℕ → List Pair → Data
+actor_data id attributes = object (
+    member (codes "Attributes") (attributes_data attributes) (
+    member (codes "ID") (text id) no_members))
+
+-- a change, told as an event of the container
 abbrev pub change_data : List ℕ → List Pair → Change → Data
 change_data id attributes change = object (
     member (codes "Action") (text (status_word change.healthy)) (
-    member (codes "Actor") (object (
-        member (codes "Attributes") (object (
-            member (codes "image") (text (attribute (codes "image") attributes)) (
-            member (codes "name") (text (attribute (codes "name") attributes)) no_members))) (
-        member (codes "ID") (text id) no_members))) (
+    member (codes "Actor") (actor_data id attributes) (
     member (codes "Type") (text (codes "container")) (
     member (codes "scope") (text (codes "local")) (
     member (codes "time") (natural (change.moment / 1000)) (

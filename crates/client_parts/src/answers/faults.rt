@@ -13,7 +13,7 @@ pub fn status_of(fault: &Fault) -> u8
     match fault {
         Fault::Words => 2,
         Fault::Input | Fault::Output | Fault::Errors => 122,
-        Fault::Answer | Fault::NoCode | Fault::EventsGone | Fault::TooLong => 123,
+        Fault::Answer | Fault::NoCode | Fault::NoCheck | Fault::EventsGone | Fault::TooLong => 123,
         Fault::NoMemory => 124,
         Fault::Refused { .. } | Fault::Link | Fault::Connection => 125,
     }
@@ -34,6 +34,7 @@ pub fn fault_line<'a>(words: &'a [Text], fault: &'a Fault) -> (&'a str, &'a str,
         Fault::Errors => ("", "", ""),
         Fault::Answer => ("dockc: the answer isn't one of the Engine API's\n", "", ""),
         Fault::NoCode => ("dockc: the exec has no exit code\n", "", ""),
+        Fault::NoCheck => ("dockc: the container has no health check\n", "", ""),
         Fault::EventsGone => ("dockc: the first events are no longer kept\n", "", ""),
         Fault::TooLong => ("dockc: the answer has more than 67108864 bytes\n", "", ""),
         Fault::NoMemory => ("dockc: out of memory\n", "", ""),

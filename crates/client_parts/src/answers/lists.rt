@@ -13,7 +13,7 @@ use serde_json::Value;
 use std::alloc::Global;
 
 /// The texts of items that are all texts.
-fn texts_of(alloc: Global, items: &[Value]) -> Result<Words, Unread>
+pub(crate) fn texts_of(alloc: Global, items: &[Value]) -> Result<Words, Unread>
     ensures { Reads result (words_of (items_view items.now)) }
 {
     let mut words = Words::new(alloc);
@@ -40,7 +40,7 @@ fn name_at(alloc: Global, value: &Value) -> Result<Text, Unread>
 }
 
 /// One word more, behind a blank.
-fn with_word(line: Text, word: &str) -> Result<Text, NoMemory>
+pub(crate) fn with_word(line: Text, word: &str) -> Result<Text, NoMemory>
     ensures { IfOk result (λ t. t ≡ line ++ codes " " ++ word.now) }
 {
     let mut string = line.into_string();

@@ -1,13 +1,14 @@
-// The bodies of requests.
+// The bodies of requests, and the filters of one.
 ghost use Rattle.std.specs.Prelude.{◌≡◌, codes, IfOk, unwrap_or};
 ghost use Rattle.serde_json.specs.View.{view};
 ghost use Rattle.client_model.specs.Commands.Container as container;
 ghost use Rattle.client_model.specs.Commands.Exec as exec;
+ghost use Rattle.client_model.specs.Commands.Health as health;
 ghost use Rattle.client_model.specs.Commands.Update as update;
 ghost use Rattle.client_model.specs.Commands.VolumeCreate as volume;
 
 use client_model::{NewContainer, Restart};
-use engine_text::Text;
+use engine_text::{NoMemory, Text, Words};
 use json_objects::Object;
 use serde_json::Value;
 use std::alloc::{AllocError, Global};
@@ -81,5 +82,15 @@ pub(crate) fn volume_value(alloc: Global, name: &str) -> Result<Value, AllocErro
     ensures { IfOk result (λ v. view v ≡ volume.volume_data name.now) }
 {
     let object = Object::new(alloc).text(alloc, "Name", name)?;
+    Ok(object.value())
+}
+
+/// The filter of a container's events.
+pub(crate) fn filter_value(alloc: Global, id: &str) -> Result<Value, NoMemory>
+    ensures { IfOk result (λ v. view v ≡ health.container_filter id.now) }
+{
+    let mut ids = Words::new(alloc);
+    ids.push(alloc, Text::of(alloc, id)?)?;
+    let object = Object::new(alloc).words(alloc, "container", ids.as_slice())?;
     Ok(object.value())
 }

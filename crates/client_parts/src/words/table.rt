@@ -9,8 +9,8 @@ use super::execs::read_exec;
 use super::optioned::{read_kill, read_logs, read_remove, read_restart, read_stop};
 use super::replays::read_replay;
 use super::targets::{
-    read_attach, read_events, read_inspect, read_pause, read_rename, read_start, read_unpause,
-    read_wait, read_watch,
+    read_attach, read_events, read_health, read_inspect, read_pause, read_rename, read_start,
+    read_unpause, read_wait, read_watch,
 };
 use super::views::{read_journal, read_list, read_version};
 use super::volumes::read_volume;
@@ -22,7 +22,7 @@ use std::alloc::Global;
 
 /// What stands behind ADDR of any command.
 pub(crate) const ANY: &str =
-    "create|run|start|pause|unpause|stop|restart|kill|rm|rename|update|ps|inspect|version|logs|attach|exec|wait|events|watch|volume|journal|replay [OPTIONS] [WORD..]";
+    "create|run|start|pause|unpause|stop|restart|kill|rm|rename|update|ps|inspect|version|logs|attach|exec|wait|events|watch|health|volume|journal|replay [OPTIONS] [WORD..]";
 
 // What stands behind ADDR of the command of this name that changes no container, or of any.
 fn usage_of_others(name: &str) -> &'static str
@@ -38,6 +38,7 @@ fn usage_of_others(name: &str) -> &'static str
         "wait" => "wait REF",
         "events" => "events SINCE UNTIL",
         "watch" => "watch UNTIL",
+        "health" => "health UNTIL REF",
         "volume" => "volume create|inspect|rm NAME, or volume ls",
         "journal" => "journal",
         "replay" => "replay [--upgrade] [--seed HEX] [MOMENT]",
@@ -92,6 +93,7 @@ fn read_named(alloc: Global, name: &str, words: &[Text]) -> Result<Command, Unre
         "wait" => read_wait(alloc, words),
         "events" => read_events(alloc, words),
         "watch" => read_watch(alloc, words),
+        "health" => read_health(alloc, words),
         "volume" => read_volume(alloc, words),
         "journal" => read_journal(words),
         "replay" => read_replay(alloc, words),

@@ -1,6 +1,7 @@
 // Commands of one word or two, without options.
 ghost use Rattle.client_model.specs.Commands.Attach.{read_attach};
 ghost use Rattle.client_model.specs.Commands.Events.{read_events};
+ghost use Rattle.client_model.specs.Commands.Health.{read_health};
 ghost use Rattle.client_model.specs.Commands.Inspect.{read_inspect};
 ghost use Rattle.client_model.specs.Commands.Pause.{read_pause};
 ghost use Rattle.client_model.specs.Commands.Rename.{read_rename};
@@ -11,6 +12,7 @@ ghost use Rattle.client_model.specs.Commands.Watch.{read_watch};
 ghost use Rattle.client_parts.specs.Reading.{Reads};
 
 use super::few::{one_word, two_words};
+use super::times::time_of;
 use crate::Unread;
 use client_model::Command;
 use engine_text::Text;
@@ -86,4 +88,17 @@ pub(crate) fn read_watch(alloc: Global, words: &[Text]) -> Result<Command, Unrea
 {
     let until = one_word(alloc, words)?;
     Ok(Command::Watch { until })
+}
+
+/// `health UNTIL REF`.
+pub(crate) fn read_health(alloc: Global, words: &[Text]) -> Result<Command, Unread>
+    ensures { Reads result (read_health words.now) }
+{
+    let [until, target] = words else {
+        return Err(Unread::NoForm);
+    };
+    time_of(until.as_str()).ok_or(Unread::NoForm)?;
+    let until = until.copy(alloc)?;
+    let target = target.copy(alloc)?;
+    Ok(Command::Health { until, target })
 }
