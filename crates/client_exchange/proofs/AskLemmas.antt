@@ -106,6 +106,7 @@ missed_does asked f fault o o' m = record {
     by_fault F.Words keeps = absurd keeps
     by_fault F.Answer keeps = absurd keeps
     by_fault F.NoCode keeps = absurd keeps
+    by_fault F.NoCheck keeps = absurd keeps
     by_fault F.EventsGone keeps = absurd keeps
     by_fault F.TooLong keeps = absurd keeps
     by_fault (F.Refused message) keeps = absurd keeps

@@ -99,6 +99,7 @@ module _ (address : List ℕ) (v v1 v2 : LinkView) (s s' : SourceView) (u u' : S
   fails_on starved F.Input x o o' came was f = absurd f
   fails_on starved F.Answer x o o' came was f = absurd f
   fails_on starved F.NoCode x o o' came was f = absurd f
+  fails_on starved F.NoCheck x o o' came was f = absurd f
   fails_on starved F.EventsGone x o o' came was f = absurd f
   fails_on starved F.TooLong x o o' came was f = absurd f
   fails_on starved (F.Refused message) x o o' came was f = absurd f
@@ -114,6 +115,7 @@ module _ (address : List ℕ) (v v1 v2 : LinkView) (s s' : SourceView) (u u' : S
   send_fails starved F.Words x o o' came was f = absurd f
   send_fails starved F.Answer x o o' came was f = absurd f
   send_fails starved F.NoCode x o o' came was f = absurd f
+  send_fails starved F.NoCheck x o o' came was f = absurd f
   send_fails starved F.EventsGone x o o' came was f = absurd f
   send_fails starved F.TooLong x o o' came was f = absurd f
   send_fails starved (F.Refused message) x o o' came was f = absurd f
@@ -144,6 +146,7 @@ module _ (address : List ℕ) (v v1 v2 : LinkView) (s s' : SourceView) (u u' : S
       sent_all F.Words r = absurd r
       sent_all F.Answer r = absurd r
       sent_all F.NoCode r = absurd r
+      sent_all F.NoCheck r = absurd r
       sent_all F.EventsGone r = absurd r
       sent_all F.TooLong r = absurd r
       sent_all (F.Refused message) r = absurd r
@@ -159,6 +162,7 @@ module _ (address : List ℕ) (v v1 v2 : LinkView) (s s' : SourceView) (u u' : S
   unsent_had starved F.Words f = absurd f
   unsent_had starved F.Answer f = absurd f
   unsent_had starved F.NoCode f = absurd f
+  unsent_had starved F.NoCheck f = absurd f
   unsent_had starved F.EventsGone f = absurd f
   unsent_had starved F.TooLong f = absurd f
   unsent_had starved (F.Refused message) f = absurd f
@@ -174,6 +178,7 @@ module _ (address : List ℕ) (v v1 v2 : LinkView) (s s' : SourceView) (u u' : S
   unsent_sent starved F.Words x bytes f silent = absurd f
   unsent_sent starved F.Answer x bytes f silent = absurd f
   unsent_sent starved F.NoCode x bytes f silent = absurd f
+  unsent_sent starved F.NoCheck x bytes f silent = absurd f
   unsent_sent starved F.EventsGone x bytes f silent = absurd f
   unsent_sent starved F.TooLong x bytes f silent = absurd f
   unsent_sent starved (F.Refused message) x bytes f silent = absurd f

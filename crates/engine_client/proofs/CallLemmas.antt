@@ -194,6 +194,7 @@ module _ (words : List (List ℕ)) (o m : Outside) where
   unread_cause F.Words r = absurd r
   unread_cause F.Answer r = absurd r
   unread_cause F.NoCode r = absurd r
+  unread_cause F.NoCheck r = absurd r
   unread_cause F.EventsGone r = absurd r
   unread_cause F.TooLong r = absurd r
   unread_cause (F.Refused message) r = absurd r
