@@ -53,6 +53,7 @@ use Rattle.client_laws.proofs.IdLemmas.{id-bytes}
 use Rattle.client_laws.proofs.ClassLemmas.{literal, start-class, pause-class, unpause-class, stop-class, restart-class, kill-class, remove-class, rename-class, inspect-class, wait-class}
 use Rattle.client_laws.proofs.StreamClassLemmas.{logs-class, attach-class, exec-start-class, exec-inspect-class, events-class, journal-class, list-class, version-class, volume-inspect-class, volume-remove-class, volume-list-class}
 use Rattle.client_laws.proofs.BodyClassLemmas.{create-class, update-class, exec-create-class, volume-create-class}
+use Rattle.client_laws.proofs.HealthLemmas.{health-calls}
 use Rattle.client_laws.proofs.PlanLemmas.{entries, AsksNone, all-printed, asked-first, asks-calls, streams-calls, none-behind, asks-once, streams-once, read-goes, none-read, refused, same-entry}
 
 -- ---- run
@@ -236,6 +237,7 @@ plan-calls (command.Events since until) h verdict =
     streams-once Copied (events_request since until) done verdict (class.events since until)
     (events-class since until h.0 h.1) (λ v a. refl)
 plan-calls (command.Watch until) h verdict = watch-calls until verdict h
+plan-calls (command.Health until target) h verdict = health-calls until target verdict h.0 h.1
 plan-calls (command.VolumeCreate name) h verdict =
     asks-once (volume_create_request name) Some (λ body. prints name done) verdict (class.volume_create name) (volume-create-class name h) (λ body v a. refl)
 plan-calls (command.VolumeInspect name) h verdict =

@@ -34,6 +34,7 @@ HasTexts (command.Exec target words input) = IsUtf8 target × AreUtf8 words
 HasTexts (command.Wait target) = IsUtf8 target
 HasTexts (command.Events since until) = IsUtf8 since × IsUtf8 until
 HasTexts (command.Watch until) = IsUtf8 until
+HasTexts (command.Health until target) = IsUtf8 until × IsUtf8 target
 HasTexts (command.VolumeCreate name) = IsUtf8 name
 HasTexts (command.VolumeInspect name) = IsUtf8 name
 HasTexts (command.VolumeRemove name) = IsUtf8 name

@@ -14,6 +14,8 @@ pub mod PlanLemmas
 pub mod JsonByteLemmas
 pub mod TokenLemmas
 pub mod IdLemmas
+pub mod CheckLemmas
+pub mod HealthLemmas
 pub mod CommandLemmas
 pub mod WordLemmas
 pub mod LineLemmas

@@ -4,6 +4,7 @@ use Rattle.std.specs.Prelude.{IfSome, option_map, option_and_then, find, ⊤}
 use Rattle.std.specs.Option.{option_map_or}
 use Rattle.engine_line.specs.Lines.{port_in, seed_of, moment_in}
 use Rattle.engine_text.specs.Texts.{same_bytes}
+use Rattle.api_routes.specs.Keys.{read_time}
 use Rattle.engine_text.specs.declared.pairs.Pair.{Pair}
 use Rattle.json_laws.specs.Pairs.{AreWordsUtf8}
 use Rattle.response_reader.specs.Answers.{Answer}
@@ -23,6 +24,7 @@ use Rattle.client_model.specs.Commands.Update.{update_options, policy_given, upd
 use Rattle.client_model.specs.Commands.List.{list_options, list_in}
 use Rattle.client_model.specs.Commands.Logs.{logs_options, logs_in}
 use Rattle.client_model.specs.Commands.Exec.{exec_options, exec_in}
+use Rattle.client_model.specs.Commands.Health.{read_health}
 use Rattle.client_model.specs.Commands.Replay.{replay_options, replay_of, replay_in}
 use Rattle.client_model.specs.declared.command.Command.{Command}
 use Rattle.client_model.specs.declared.command.Command.TheVariants as command
@@ -56,6 +58,18 @@ exec-gives : (given : List Pair) → AreValues given → Gives (exec_in given)
 exec-gives given h [] w = tt
 exec-gives given h (target ∷ []) w = tt
 exec-gives given h (target ∷ word ∷ words) w = (w.0, w.1)
+
+-- ---- health
+
+health-at : (until target : List ℕ) (time : Option ℕ) → HasTexts (command.Health until target) → IfSome (option_map (λ moment. command.Health until target) time) HasTexts
+health-at until target None h = tt
+health-at until target (Some moment) h = h
+
+health-gives : Gives read_health
+health-gives [] w = tt
+health-gives (until ∷ []) w = tt
+health-gives (until ∷ target ∷ []) w = health-at until target (read_time until) (w.0, w.1.0)
+health-gives (until ∷ target ∷ third ∷ words) w = tt
 
 -- ---- replay
 
@@ -152,10 +166,13 @@ commands-give = (
                                       (
                                         gives-one command.Watch (λ word u. u),
                                         (
-                                          table-gives volume_commands volumes-give,
+                                          health-gives,
                                           (
-                                            gives-none command.Journal tt,
-                                            (gives-behind replay_options replay_in replay-gives, tt),
+                                            table-gives volume_commands volumes-give,
+                                            (
+                                              gives-none command.Journal tt,
+                                              (gives-behind replay_options replay_in replay-gives, tt),
+                                            ),
                                           ),
                                         ),
                                       ),

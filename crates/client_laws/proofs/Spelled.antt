@@ -8,6 +8,7 @@ pub mod BodyLemmas
 pub mod PlanLemmas
 pub mod CommandLemmas
 pub mod CreatedLemmas
+pub mod HealthLemmas
 pub mod TableLemmas
 pub mod SentLemmas
 pub mod ReadLemmas

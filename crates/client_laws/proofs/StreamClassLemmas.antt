@@ -177,7 +177,7 @@ list-class all =
     ∙ ap (λ found. or_refusal (list_by found)) (looked-up query (key-set-texts (codes "all") all refl))
     ∙ ap or_refusal (list-given all)
 
-abbrev events_by : Lookup → Meaning
+abbrev pub events_by : Lookup → Meaning
 events_by found =
     in_chunks (and_then (optional_time (found (codes "since"))) (λ since.
     and_then (optional_time (found (codes "until"))) (λ until.

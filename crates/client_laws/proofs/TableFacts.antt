@@ -1,5 +1,5 @@
 -- What lines written by hand ask of the daemon (own: the table of commands; Docker Engine API v1.43).
-use Rattle.std.proofs.Common.{◌≡◌, ℕ, ◌==◌, List, [], ◌∷◌, true, false, codes, Some, None, refl}
+use Rattle.std.proofs.Common.{◌≡◌, ℕ, ◌==◌, List, [], ◌∷◌, ◌++◌, true, false, codes, Some, None, refl}
 use Rattle.std.specs.Prelude.{length, pos, negsuc}
 use Rattle.std.specs.List.{slice_split}
 use Rattle.std.specs.Str.{is_utf8, chars}
@@ -15,6 +15,7 @@ use Rattle.engine_text.specs.Signal.{number_named}
 use Rattle.engine_text.specs.declared.call.Call.TheVariants as call
 use Rattle.engine_text.specs.declared.call.CreateSpec.{CreateSpec}
 use Rattle.engine_text.specs.declared.call.Until.TheVariants.{NotRunning}
+use Rattle.engine_text.specs.declared.filter.FilterKey.TheVariants as filterkey
 use Rattle.engine_text.specs.declared.policy.Policy.TheVariants.{No, OnFailure}
 use Rattle.http_edge.specs.declared.head.Form.{Form}
 use Rattle.http_edge.specs.declared.head.Form.TheVariants.{Json, Empty, Takeover}
@@ -220,3 +221,24 @@ exec : by_words (slice_split (λ b. b == 32) (codes "exec web echo x")) (created
     ∷ plain (Ask (call.ExecInspect (codes "1f"))) ∷ []
 unfolding data_of is_utf8 chars encode lex punctuate items members value content short_escape code_unit word after_number number_of scan_numeral
 exec = refl
+
+-- of a container with a check its events are asked for, by its id; and nothing more of one without
+abbrev health_words : List (List ℕ)
+health_words = slice_split (λ b. b == 32) (codes "health 1700000000 web")
+
+abbrev long_id : List ℕ
+long_id = codes "76b8e0ada0f13d90405d6ae55386bd28bdd219b8a08ded1a0000000000000000"
+
+abbrev shown : List ℕ → Answer
+shown config = told 200 (codes "{\"Config\":{" ++ config ++ codes "},\"Id\":\"" ++ long_id ++ codes "\"}")
+
+health : by_words health_words (
+    shown (codes "\"Healthcheck\":{\"Interval\":1000000000,\"Retries\":2,\"StartPeriod\":0,\"Test\":[\"CMD\",\"flaky\",\"2\"],\"Timeout\":1000000000}") ∷ [])
+    ≡ plain (Ask (call.Inspect (codes "web")))
+    ∷ plain (Stream (call.Events (Some 0) (Some 1700000000000) (record { key = filterkey.Container; values = long_id ∷ [] } ∷ [])) takes.None) ∷ []
+unfolding data_of is_utf8 chars encode lex punctuate items members value content short_escape code_unit word after_number number_of scan_numeral
+health = refl
+
+unchecked : by_words health_words (shown [] ∷ []) ≡ only (Ask (call.Inspect (codes "web")))
+unfolding data_of is_utf8 chars encode lex punctuate items members value content short_escape code_unit word after_number number_of scan_numeral
+unchecked = refl

@@ -9,6 +9,7 @@ use Rattle.engine_text.specs.declared.call.CreateSpec.{CreateSpec}
 use Rattle.engine_text.specs.declared.call.LogAsk.{LogAsk}
 use Rattle.engine_text.specs.declared.call.AttachAsk.{AttachAsk}
 use Rattle.engine_text.specs.declared.call.Until.TheVariants.{NotRunning}
+use Rattle.engine_text.specs.declared.filter.FilterKey.TheVariants as filterkey
 use Rattle.engine_text.specs.declared.mounts.Mount.{Mount}
 use Rattle.engine_text.specs.declared.policy.Policy.{Policy}
 use Rattle.engine_text.specs.declared.policy.Policy.TheVariants.{No}
@@ -186,6 +187,12 @@ events since until =
     in_chunks (and_then (optional_time (Some since)) (λ from.
     and_then (optional_time (Some until)) (λ to.
     Ok (call.Events from to []))))
+
+-- of one container, from the first on; UNTIL is a time
+abbrev pub container_events : List ℕ → List ℕ → Meaning
+container_events until id =
+    in_chunks (and_then (optional_time (Some until)) (λ to.
+    Ok (call.Events (Some 0) to (record { key = filterkey.Container; values = id ∷ [] } ∷ []))))
 
 abbrev pub journal : Meaning
 journal = Ok (Stream call.JournalRead takes.None)

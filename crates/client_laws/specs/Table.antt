@@ -8,6 +8,7 @@ use Rattle.api_routes.specs.declared.class.Class.{Class}
 use Rattle.client_model.specs.Bodies.{id_in, status_code_in}
 use Rattle.client_model.specs.Streams.{ends_frames}
 use Rattle.client_model.specs.Lines.{line_of}
+use Rattle.client_model.specs.Commands.Health.{checked_in}
 use Rattle.client_model.specs.declared.command.NewContainer.{NewContainer}
 use Rattle.client_model.specs.declared.command.Command.{Command}
 use Rattle.client_model.specs.declared.command.Command.TheVariants as command
@@ -72,6 +73,12 @@ exec_calls target words input =
     then_by (fed input (class.exec_start id)) frames (λ streams answers.
     once (class.exec_inspect id)))
 
+-- inspect, and the events of a container that has a check
+abbrev pub health_calls : List ℕ → List ℕ → List Answer → List Entry
+health_calls until target =
+    then_by (alone (class.inspect target)) (body_by checked_in) (λ checked answers.
+    option_map_or (λ c. once (class.container_events until c.id)) checked [])
+
 -- the requests of a command
 abbrev pub calls_of : Command → List Answer → List Entry
 calls_of (command.Create c) answers = once (class.create c)
@@ -94,6 +101,7 @@ calls_of (command.Exec target words input) answers = exec_calls target words inp
 calls_of (command.Wait target) answers = once (class.wait target)
 calls_of (command.Events since until) answers = once (class.events since until)
 calls_of (command.Watch until) answers = once (class.events (codes "0") until)
+calls_of (command.Health until target) answers = health_calls until target answers
 calls_of (command.VolumeCreate name) answers = once (class.volume_create name)
 calls_of (command.VolumeInspect name) answers = once (class.volume_inspect name)
 calls_of (command.VolumeRemove name) answers = once (class.volume_remove name)

@@ -1,5 +1,5 @@
 -- The bodies that the client sends are within a daemon's limit.
-use Rattle.std.proofs.Common.{ℕ, ◌+◌, ◌*◌, ◌^◌, ◌<◌, ◌≤◌, ◌==◌, ◌++◌, List, ◌∷◌, length, Bool, true, false, codes, decimal, Option, Some, refl, arith, length-append}
+use Rattle.std.proofs.Common.{ℕ, ◌+◌, ◌*◌, ◌^◌, ◌<◌, ◌≤◌, ◌==◌, ◌++◌, List, [], ◌∷◌, length, Bool, true, false, codes, decimal, Option, Some, refl, arith, length-append}
 use Rattle.std.specs.Prelude.{unwrap_or, option_map, not}
 use Rattle.std.specs.Option.{IfSome}
 use Rattle.std.specs.List.{list_any, before_first, after_first, position_or_len}
@@ -21,6 +21,7 @@ use Rattle.client_model.specs.Commands.Container.{restart_of, read_policy, polic
 use Rattle.client_model.specs.Commands.Exec.{exec_data}
 use Rattle.client_model.specs.Commands.VolumeCreate.{volume_data}
 use Rattle.client_model.specs.Commands.Update.{update_data}
+use Rattle.client_model.specs.Commands.Health.{container_filter}
 use Rattle.client_laws.proofs.Spelled.SizeLemmas.{length_quoted, length_boolean, length_comma, words_size, length_words}
 use Rattle.client_laws.proofs.Spelled.WordLemmas.{value_size, IfSome-map}
 
@@ -114,6 +115,14 @@ exec_within words input short =
     let d : length (members_text true stdin) ≤ 27000 = member_within true (codes "AttachStdin") (boolean input) stdout 5 26000 27000 (length_boolean input) b (omega arith) in
     let all : length (members_text false (member (codes "AttachStderr") (boolean true) stdin)) ≤ 28000 =
     member_within false (codes "AttachStderr") (boolean true) stdin 5 27000 28000 (length_boolean true) d (omega arith) in
+    omega (arith, all)
+
+-- ---- filters
+
+pub filter_within : (id : List ℕ) → length id ≤ 64 → length (compact_text (container_filter id)) ≤ 500
+filter_within id few =
+    let all : length (members_text false (member (codes "container") (words_data (id ∷ [])) no_members)) ≤ 460 =
+    member_within false (codes "container") (words_data (id ∷ [])) no_members 392 1 460 (omega (arith, length_words (id ∷ []), few)) no_more (omega arith) in
     omega (arith, all)
 
 -- ---- volumes

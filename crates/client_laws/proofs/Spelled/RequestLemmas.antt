@@ -32,10 +32,11 @@ use Rattle.client_model.specs.Commands.VolumeInspect.{volume_inspect_request}
 use Rattle.client_model.specs.Commands.VolumeRemove.{volume_remove_request}
 use Rattle.client_model.specs.Commands.VolumeList.{volume_list_request}
 use Rattle.client_model.specs.Commands.Journal.{journal_request}
+use Rattle.client_model.specs.Commands.Health.{container_filter, container_events_request}
 use Rattle.client_laws.proofs.Spelled.SpellingLemmas.{target_size, token, spelled}
 use Rattle.client_laws.proofs.Spelled.SizeLemmas.{words_size}
 use Rattle.client_laws.proofs.Spelled.WordLemmas.{value_size}
-use Rattle.client_laws.proofs.Spelled.BodyLemmas.{IsShort, IsShortPolicy, container_within, update_within, exec_within, volume_within}
+use Rattle.client_laws.proofs.Spelled.BodyLemmas.{IsShort, IsShortPolicy, container_within, update_within, exec_within, filter_within, volume_within}
 
 -- its bytes are one spelling of it
 abbrev pub SpellsItself : Request → Type 0
@@ -146,6 +147,14 @@ version_spelled = got (codes "version" ∷ []) [] (omega arith)
 
 pub events_spelled : (since until : List ℕ) → length since + length until ≤ 4096 → SpellsItself (events_request since until)
 events_spelled since until short = got (codes "events" ∷ []) (key (codes "since") since ++ key (codes "until") until) (omega arith)
+
+filtered : (until filter : List ℕ) → length until ≤ 4096 → length filter ≤ 500
+    → SpellsItself (get (codes "events" ∷ []) (key (codes "since") (codes "0") ++ key (codes "until") until ++ key (codes "filters") filter))
+filtered until filter short few =
+    got (codes "events" ∷ []) (key (codes "since") (codes "0") ++ key (codes "until") until ++ key (codes "filters") filter) (omega arith)
+
+pub container_events_spelled : (until id : List ℕ) → length until ≤ 4096 → length id ≤ 64 → SpellsItself (container_events_request until id)
+container_events_spelled until id short few = filtered until (compact_text (container_filter id)) short (filter_within id few)
 
 pub journal_spelled : SpellsItself journal_request
 journal_spelled = got (codes "engine" ∷ codes "journal" ∷ []) [] (omega arith)

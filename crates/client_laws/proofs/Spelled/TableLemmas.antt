@@ -18,6 +18,7 @@ use Rattle.client_laws.proofs.Spelled.WordLemmas.{IfSome-map, IfSome-and_then, I
 use Rattle.client_laws.proofs.Spelled.PlanLemmas.{AsksSpelled, all_spelled}
 use Rattle.client_laws.proofs.Spelled.CommandLemmas.{Fit, IsFit, starts, pauses, unpauses, stops, restarts, kills, removes_one, renames, updates, lists, inspects, versions, logs, attaches, waits, events, watches, volume_creates, volume_inspects, volume_removes, volume_lists, journals, replays}
 use Rattle.client_laws.proofs.Spelled.CreatedLemmas.{creates, runs, execs}
+use Rattle.client_laws.proofs.Spelled.HealthLemmas.{healths}
 
 -- ---- the table
 
@@ -76,7 +77,7 @@ rows = (
                               logs,
                               (
                                 attaches,
-                                (execs, (waits, (events, (watches, (by_table volume_commands volume_rows, (journals, (replays, tt))))))),
+                                (execs, (waits, (events, (watches, (healths, (by_table volume_commands volume_rows, (journals, (replays, tt)))))))),
                               ),
                             ),
                           ),
