@@ -8,3 +8,5 @@ pub mod MomentLemmas
 pub mod LineLemmas
 pub mod ReplayLemmas
 pub mod PerformLemmas
+pub mod EventLemmas
+pub mod TellLemmas

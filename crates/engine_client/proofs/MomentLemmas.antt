@@ -4,6 +4,7 @@ use Rattle.std.specs.Prelude.{⊤, nat_le, ◌&&◌, if◌then◌else◌}
 use Rattle.std.proofs.lemmas.Bool.Decides.{nat_tests}
 use Rattle.engine_text.specs.Texts.{same_bytes}
 use Rattle.engine_text.specs.declared.pairs.Pair.{Pair}
+use Rattle.api_routes.specs.Keys.{read_time}
 use Rattle.api_routes.specs.Numeral.{number_of}
 use Rattle.engine_line.specs.Lines.{if_between, moment_in, port_in, seed_of}
 use Rattle.machine_model.specs.History.{greatest_moment}
@@ -20,6 +21,7 @@ use Rattle.client_model.specs.Commands.Update.{update_options, policy_given, upd
 use Rattle.client_model.specs.Commands.List.{list_options, list_in}
 use Rattle.client_model.specs.Commands.Logs.{logs_options, logs_in}
 use Rattle.client_model.specs.Commands.Exec.{exec_options, exec_in}
+use Rattle.client_model.specs.Commands.Health.{read_health}
 use Rattle.client_model.specs.Commands.Replay.{replay_options, replay_of, replay_in}
 use Rattle.client_model.specs.declared.command.Command.{Command}
 use Rattle.client_model.specs.declared.command.Command.TheVariants as command
@@ -66,6 +68,12 @@ exec_so : (given : List Pair) (words : List (List ℕ)) → IfSome (exec_in give
 exec_so given [] = tt
 exec_so given (target ∷ []) = tt
 exec_so given (target ∷ word ∷ words) = tt
+
+health_so : (words : List (List ℕ)) → IfSome (read_health words) IsTimed
+health_so [] = tt
+health_so (until ∷ []) = tt
+health_so (until ∷ target ∷ []) = if_map IsTimed (λ moment. command.Health until target) (read_time until) (λ moment. tt)
+health_so (until ∷ target ∷ third ∷ words) = tt
 
 -- ---- a moment
 
@@ -181,10 +189,13 @@ commands_so = (
                                       (
                                         (λ ws. one command.Watch ws (λ w. tt)),
                                         (
-                                          (λ ws. read_so volume_commands volumes_so ws),
+                                          health_so,
                                           (
-                                            (λ ws. none command.Journal ws tt),
-                                            ((λ ws. options replay_options replay_in ws replay_so), tt),
+                                            (λ ws. read_so volume_commands volumes_so ws),
+                                            (
+                                              (λ ws. none command.Journal ws tt),
+                                              ((λ ws. options replay_options replay_in ws replay_so), tt),
+                                            ),
                                           ),
                                         ),
                                       ),

@@ -14,8 +14,10 @@ use Rattle.client_model.specs.Bodies.{id_in, status_code_in, container_lines_in,
 use Rattle.client_model.specs.Plans.{Plan, Ends, cut_fault, goes_on, reads, prints, prints_all, ends, done, fails}
 use Rattle.client_model.specs.Streams.{events_in}
 use Rattle.client_model.specs.Commands.Exec.{exit_code_in}
+use Rattle.client_model.specs.Commands.Health.{checked_in, lines_in, told_health}
 use Rattle.client_model.specs.Commands.Run.{removes}
 use Rattle.client_model.specs.Commands.Watch.{row_line, watched}
+use Rattle.client_model.specs.declared.checked.Checked.{Checked}
 use Rattle.client_model.specs.declared.fault.Fault.{Fault}
 use Rattle.client_model.specs.declared.fault.Fault.TheVariants as F
 use Rattle.client_model.specs.Client.{plan_of}
@@ -24,7 +26,7 @@ use Rattle.client_model.specs.declared.command.Command.TheVariants.{Replay}
 use Rattle.client_exchange.specs.Walks.{IsAsking}
 use Rattle.client_exchange.specs.Asking.{asked_as, asks_then, FailsShort}
 use Rattle.engine_client.specs.Reading.{ReadsOrFails}
-use Rattle.engine_client.specs.Steps.{starts, attaches, waits, executes, inspects, watches}
+use Rattle.engine_client.specs.Steps.{starts, attaches, waits, executes, inspects, watches, by_check}
 use Rattle.engine_client.specs.Places.{plan_at, feeds_at, GoesOn, Begins, IsTimed}
 use Rattle.engine_client.specs.declared.onward.Then.{Then}
 use Rattle.engine_client.specs.declared.onward.Then.TheVariants as place
@@ -97,6 +99,15 @@ watched_asks None body whole = tt
 watched_asks (Some zero) body whole = reads_asking events_in (λ es. prints_all (map row_line (fold_of es)) done) body whole (λ es. all_printed (map row_line (fold_of es)))
 watched_asks (Some (suc n)) body whole = tt
 
+check_asks : (until : List ℕ) (checked : Option Checked) → IsAsking (by_check until checked)
+check_asks until (Some c) = tt
+check_asks until None = tt
+
+told_asks : (until : List ℕ) (c : Checked) (first : Option ℕ) (body : List ℕ) (whole : Bool) → IsAsking (told_health until c first body whole)
+told_asks until c None body whole = tt
+told_asks until c (Some zero) body whole = reads_asking (lines_in until c) (λ lines. prints_all lines done) body whole all_printed
+told_asks until c (Some (suc n)) body whole = tt
+
 -- nothing there waits for a judgement
 pub places_ask : (onward : Then) (first : Option ℕ) (body : List ℕ) (whole : Bool) → IsAsking (plan_at onward first body whole)
 places_ask (place.Ends status) first body whole = reads_asking Some (λ text. ends status) body whole (λ text. tt)
@@ -114,11 +125,18 @@ places_ask (place.Removes id remove) first body whole = reads_asking status_code
 places_ask (place.Executes input) first body whole = reads_asking id_in (λ id. executes input id) body whole (λ id. tt)
 places_ask (place.Inspects id) first body whole = reads_asking Some (λ text. inspects id) body whole (λ text. tt)
 places_ask place.EndsExec first body whole = reads_asking exit_code_in (λ code. option_map_or ends code (fails F.NoCode)) body whole code_asks
+places_ask (place.AsksEvents until) first body whole = reads_asking checked_in (λ checked. by_check until checked) body whole (check_asks until)
+places_ask (place.PrintsHealth until c) first body whole = told_asks until c first body whole
 
 watched_cut : (first : Option ℕ) (body : List ℕ) → (fault : Fault) × (watched first body false ≡ fails fault)
 watched_cut None body = (F.Answer, refl)
 watched_cut (Some zero) body = (cut_fault body, refl)
 watched_cut (Some (suc n)) body = (F.EventsGone, refl)
+
+told_cut : (until : List ℕ) (c : Checked) (first : Option ℕ) (body : List ℕ) → (fault : Fault) × (told_health until c first body false ≡ fails fault)
+told_cut until c None body = (F.Answer, refl)
+told_cut until c (Some zero) body = (cut_fault body, refl)
+told_cut until c (Some (suc n)) body = (F.EventsGone, refl)
 
 -- behind a body that isn't whole each fails
 pub places_short : (onward : Then) → FailsShort (plan_at onward)
@@ -137,26 +155,35 @@ places_short (place.Removes id remove) first body = (cut_fault body, refl)
 places_short (place.Executes input) first body = (cut_fault body, refl)
 places_short (place.Inspects id) first body = (cut_fault body, refl)
 places_short place.EndsExec first body = (cut_fault body, refl)
+places_short (place.AsksEvents until) first body = (cut_fault body, refl)
+places_short (place.PrintsHealth until c) first body = told_cut until c first body
 
 pub short_rows_at : (onward : Then) (first : Option ℕ) (body : List ℕ) (fault : Fault) → onward ≡ place.PrintsRows → watched first body false ≡ fails fault → plan_at onward first body false ≡ fails fault
 short_rows_at onward first body fault is fails_so = ap (λ t. plan_at t first body false) is ∙ fails_so
 
-pub short_at : (onward : Then) (first : Option ℕ) (body : List ℕ) (fault : Fault) → (onward ≡ place.PrintsRows → ⊥) → fault ≡ cut_fault body → plan_at onward first body false ≡ fails fault
-short_at (place.Ends status) first body fault other is = sym (ap fails is)
-short_at (place.Prints line) first body fault other is = sym (ap fails is)
-short_at place.PrintsBody first body fault other is = sym (ap fails is)
-short_at place.PrintsId first body fault other is = sym (ap fails is)
-short_at place.PrintsContainers first body fault other is = sym (ap fails is)
-short_at place.PrintsVolumes first body fault other is = sym (ap fails is)
-short_at place.PrintsCode first body fault other is = sym (ap fails is)
-short_at place.PrintsRows first body fault other is = absurd (other refl)
-short_at (place.Starts input remove) first body fault other is = sym (ap fails is)
-short_at (place.Attaches id input remove) first body fault other is = sym (ap fails is)
-short_at (place.Waits id remove) first body fault other is = sym (ap fails is)
-short_at (place.Removes id remove) first body fault other is = sym (ap fails is)
-short_at (place.Executes input) first body fault other is = sym (ap fails is)
-short_at (place.Inspects id) first body fault other is = sym (ap fails is)
-short_at place.EndsExec first body fault other is = sym (ap fails is)
+pub short_health_at : (onward : Then) (until : List ℕ) (c : Checked) (first : Option ℕ) (body : List ℕ) (fault : Fault) → onward ≡ place.PrintsHealth until c
+    → told_health until c first body false ≡ fails fault → plan_at onward first body false ≡ fails fault
+short_health_at onward until c first body fault is fails_so = ap (λ t. plan_at t first body false) is ∙ fails_so
+
+pub short_at : (onward : Then) (first : Option ℕ) (body : List ℕ) (fault : Fault) → (onward ≡ place.PrintsRows → ⊥) → ((until : List ℕ) (c : Checked) → onward ≡ place.PrintsHealth until c → ⊥)
+    → fault ≡ cut_fault body → plan_at onward first body false ≡ fails fault
+short_at (place.Ends status) first body fault other told is = sym (ap fails is)
+short_at (place.Prints line) first body fault other told is = sym (ap fails is)
+short_at place.PrintsBody first body fault other told is = sym (ap fails is)
+short_at place.PrintsId first body fault other told is = sym (ap fails is)
+short_at place.PrintsContainers first body fault other told is = sym (ap fails is)
+short_at place.PrintsVolumes first body fault other told is = sym (ap fails is)
+short_at place.PrintsCode first body fault other told is = sym (ap fails is)
+short_at place.PrintsRows first body fault other told is = absurd (other refl)
+short_at (place.Starts input remove) first body fault other told is = sym (ap fails is)
+short_at (place.Attaches id input remove) first body fault other told is = sym (ap fails is)
+short_at (place.Waits id remove) first body fault other told is = sym (ap fails is)
+short_at (place.Removes id remove) first body fault other told is = sym (ap fails is)
+short_at (place.Executes input) first body fault other told is = sym (ap fails is)
+short_at (place.Inspects id) first body fault other told is = sym (ap fails is)
+short_at place.EndsExec first body fault other told is = sym (ap fails is)
+short_at (place.AsksEvents until) first body fault other told is = sym (ap fails is)
+short_at (place.PrintsHealth until c) first body fault other told is = absurd (told until c refl)
 
 -- ---- events, by their first number and by what was folded of them
 
@@ -224,6 +251,36 @@ short_first first n body fault is begins same = ap (λ f. watched f body false) 
 
 pub short_later : (first : Option ℕ) (n : ℕ) (body : List ℕ) → first ≡ Some n → (n ≡ 0 → ⊥) → watched first body false ≡ fails F.EventsGone
 short_later first n body is not = ap (λ f. watched f body false) is ∙ later n body false not
+
+-- ---- health, by the number of the first event
+
+pub health_untold : (until : List ℕ) (c : Checked) (first : Option ℕ) (body : List ℕ) → first ≡ None → GoesOn (Err F.Answer) false (told_health until c first body true)
+health_untold until c first body is = inr (ap (λ f. told_health until c f body true) is)
+
+pub health_told : (until : List ℕ) (c : Checked) (first : Option ℕ) (n : ℕ) (body : List ℕ) (result : Result Step Fault) → first ≡ Some n
+    → GoesOn result false (told_health until c (Some n) body true) → GoesOn result false (told_health until c first body true)
+health_told until c first n body result is goes =
+    step_as result false (told_health until c (Some n) body true) (told_health until c first body true) (sym (ap (λ f. told_health until c f body true) is)) goes
+
+pub health_first : (until : List ℕ) (c : Checked) (n : ℕ) (body : List ℕ) (result : Result Step Fault) → n ≡ 0
+    → GoesOn result false (goes_on (λ lines. prints_all lines done) (lines_in until c body)) → GoesOn result false (told_health until c (Some n) body true)
+health_first until c n body result begins goes =
+    step_as result false (goes_on (λ lines. prints_all lines done) (lines_in until c body)) (told_health until c (Some n) body true)
+    (sym (ap (λ m. told_health until c (Some m) body true) begins)) goes
+
+gone : (until : List ℕ) (c : Checked) (n : ℕ) (body : List ℕ) (whole : Bool) → (n ≡ 0 → ⊥) → told_health until c (Some n) body whole ≡ fails F.EventsGone
+gone until c zero body whole not = absurd (not refl)
+gone until c (suc n) body whole not = refl
+
+pub health_gone : (until : List ℕ) (c : Checked) (n : ℕ) (body : List ℕ) → (n ≡ 0 → ⊥) → GoesOn (Err F.EventsGone) false (told_health until c (Some n) body true)
+health_gone until c n body not = inr (gone until c n body true not)
+
+pub health_short_first : (until : List ℕ) (c : Checked) (first : Option ℕ) (n : ℕ) (body : List ℕ) (fault : Fault) → first ≡ Some n → n ≡ 0 → fault ≡ cut_fault body
+    → told_health until c first body false ≡ fails fault
+health_short_first until c first n body fault is begins same = ap (λ f. told_health until c f body false) (is ∙ ap Some begins) ∙ sym (ap fails same)
+
+pub health_short_later : (until : List ℕ) (c : Checked) (first : Option ℕ) (n : ℕ) (body : List ℕ) → first ≡ Some n → (n ≡ 0 → ⊥) → told_health until c first body false ≡ fails F.EventsGone
+health_short_later until c first n body is not = ap (λ f. told_health until c f body false) is ∙ gone until c n body false not
 
 -- ---- steps that ask
 

@@ -115,7 +115,7 @@ split_some (x ∷ xs) = by_test (x == 10)
     by_test false = onto_some x (slice_split (λ b. b == 10) xs)
 
 -- the events of a text, by those of its first line and of the rest
-events_cut : (text line rest front : List ℕ) → HasNoLineEnd front → line ≡ front ++ 10 ∷ [] → line ++ rest ≡ text
+pub events_cut : (text line rest front : List ℕ) → HasNoLineEnd front → line ≡ front ++ 10 ∷ [] → line ++ rest ≡ text
     → events_in text ≡ if_there (event_in front) (λ e. option_map (λ es. e ∷ es) (events_in rest))
 events_cut text line rest front none ends is =
     let s = split_some rest in
@@ -186,7 +186,7 @@ last_none (Some e) = refl
 last_none None = refl
 
 -- without a line end nothing is an event
-unended : (b : ℕ) (bs : List ℕ) → HasNoLineEnd (b ∷ bs) → events_in (b ∷ bs) ≡ None
+pub unended : (b : ℕ) (bs : List ℕ) → HasNoLineEnd (b ∷ bs) → events_in (b ∷ bs) ≡ None
 unended b bs none = ap events_of_lines (slice_split_none (λ x. x == 10) (b ∷ bs) none) ∙ last_none (event_in (b ∷ bs))
 
 pub some_text : (text : List ℕ) → (length text == 0) ≡ false → 0 < length text

@@ -88,6 +88,9 @@ returns-in-Events c = begun _ false _ _ (ap₂ events_plan c.as_str-in-Events.en
 pub returns-in-Watch : goal.returns-in-Watch
 returns-in-Watch c = begun _ false _ _ (ap watch_plan c.as_str-in-Watch.ensures ∙ ap plan_of (sym c.in-Watch.is)) (c.asks-in-Watch.ensures (events_request (codes "0") c.as_str-in-Watch.result.now) c.events_request-in-Watch.ensures (λ never. refl))
 
+pub returns-in-Health : goal.returns-in-Health
+returns-in-Health c = begun _ false _ _ (ap plan_of (sym c.in-Health.is)) c.asks_check.ensures
+
 pub returns-in-VolumeCreate : goal.returns-in-VolumeCreate
 returns-in-VolumeCreate c = begun _ false _ _ (ap (λ t. asks_and_prints (volume_create_request t) c.in-VolumeCreate.name) c.as_str-in-VolumeCreate.ensures ∙ ap plan_of (sym c.in-VolumeCreate.is)) (c.asks_and_prints-in-VolumeCreate.ensures (volume_create_request c.as_str-in-VolumeCreate.result.now) c.volume_create_request.ensures)
 

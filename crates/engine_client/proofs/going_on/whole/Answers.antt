@@ -47,3 +47,9 @@ returns-in-Inspects c = at_place _ _ _ c.args.first c.args.body.now.items (sym c
 
 pub returns-in-EndsExec : goal.returns-in-EndsExec
 returns-in-EndsExec c = at_place _ _ _ c.args.first c.args.body.now.items (sym c.in-EndsExec.is) c.ends_exec.ensures
+
+pub returns-in-AsksEvents : goal.returns-in-AsksEvents
+returns-in-AsksEvents c = at_place _ _ _ c.args.first c.args.body.now.items (sym c.in-AsksEvents.is) c.asks_events_by.ensures
+
+pub returns-in-PrintsHealth : goal.returns-in-PrintsHealth
+returns-in-PrintsHealth c = at_place _ _ _ c.args.first c.args.body.now.items (sym c.in-PrintsHealth.is) c.prints_health.ensures
