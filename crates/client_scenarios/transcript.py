@@ -10,7 +10,7 @@ sys.path.insert(0, os.path.join(HERE, "..", "engine_scenarios"))
 from exchange import answer, compact, created, id_of, message, shown, volume  # noqa: E402
 
 COMMANDS = ("create|run|start|pause|unpause|stop|restart|kill|rm|rename|update|ps|inspect|version|logs|attach|exec|wait|events|watch"
-            "|volume|journal|replay")
+            "|health|volume|journal|replay")
 ANY = f"{COMMANDS} [OPTIONS] [WORD..]"
 WEB, GONE, LONG, FLAKY, TRAP = (id_of(n) for n in range(5))
 LINES = []
@@ -46,10 +46,11 @@ def body(answer):
     return answer.split("\r\n\r\n", 1)[1]
 
 
-def event(action, **more):
-    named = dict(sorted({**more, "image": "engine/tools:latest", "name": "web"}.items()))
+def event(action, behind=0, **more):
+    """An event of the container, so many milliseconds behind 1700000000."""
+    named = dict(sorted({"image": "engine/tools:latest", "name": "web", **more}.items()))
     return compact({"Action": action, "Actor": {"Attributes": named, "ID": WEB}, "Type": "container", "scope": "local",
-                    "time": 1700000000, "timeNano": 1700000000000000000}) + "\n"
+                    "time": 1700000000 + behind // 1000, "timeNano": (1700000000000 + behind) * 1000000}) + "\n"
 
 
 def entry(call, conn, dues, reply):
@@ -101,6 +102,8 @@ line("events 1700000000 1700000000",
 
 WEB_ROW = f"{WEB} web not-live not-paused 7\n"
 line("watch 1700000000", WEB_ROW)
+NO_CHECK = "dockc: the container has no health check\n"
+line("health 1700000000 web", err=NO_CHECK, status=123)
 line("create --name gone engine/tools", GONE + "\n")
 line("watch 1700000000", WEB_ROW + f"{GONE} gone not-live not-paused 0\n")
 names("rm gone")
@@ -172,6 +175,7 @@ line("volume ls")
 # ---- refusals, and words that are no line
 
 refused("start nobody", "No such container: nobody")
+refused("health 1700000000 nobody", "No such container: nobody")
 refused("volume inspect none", "get none: no such volume")
 line("version", compact({"ApiVersion": "1.43", "Arch": "amd64", "MinAPIVersion": "1.24", "Os": "linux", "Version": "1.0.0"}) + "\n")
 usage("frob")
@@ -183,6 +187,8 @@ usage("run --rm", "run [--rm] [--name NAME] [--restart POLICY[:MAX]] [-i] [-v VO
 usage("update web", "update --restart POLICY[:MAX] REF")
 usage("update --restart always", "update --restart POLICY[:MAX] REF")
 usage("update --restart on-failure:many web", "update --restart POLICY[:MAX] REF")
+usage("health soon web", "health UNTIL REF")
+usage("health 1700000000", "health UNTIL REF")
 usage("volume prune", "volume create|inspect|rm NAME, or volume ls")
 usage("replay --upgrade --upgrade", "replay [--upgrade] [--seed HEX] [MOMENT]")
 usage("replay 5 --upgrade", "replay [--upgrade] [--seed HEX] [MOMENT]")
@@ -322,6 +328,65 @@ KILLED = (event("create"), event("start"), event("pause"), event("kill", signal=
 by("watch 1700000000", FIRST + chunk("".join(KILLED)) + LAST, out=f"{WEB} web not-live not-paused 137\n")
 by("watch 1700000000", FIRST + "".join(map(chunk, KILLED[:3])) + LAST, out=f"{WEB} web live paused 0\n")
 by("watch 1700000000", LATER + LAST, err="dockc: the first events are no longer kept\n", status=123)
+
+# ---- the health of a container, by its check and its events
+
+
+def checked(words, retries=1, start=0, interval=1000, timeout=1000, name=WEB):
+    """An inspect of a container with this check; its times are milliseconds."""
+    check = {"Interval": interval * 1000000, "Retries": retries, "StartPeriod": start * 1000000, "Test": ["CMD", *words.split(" ")],
+             "Timeout": timeout * 1000000}
+    return answer(200, compact({"Config": {"Cmd": ["deaf"], "Healthcheck": check, "Image": "engine/tools:latest"}, "Id": name}))
+
+
+def events(*told):
+    return FIRST + "".join(map(chunk, told)) + LAST
+
+
+def bad(behind, **more):
+    return event("health_status: unhealthy", behind, **more)
+
+
+def good(behind, **more):
+    return event("health_status: healthy", behind, **more)
+
+
+STARTED = (event("create"), event("start"))
+# it recovers; and a failure while it starts counts nothing, but one behind the start period does
+by("health 1700000003 web", checked("flaky 2", retries=2), events(*STARTED), out=bad(2000) + good(3000) + f"{WEB} healthy 0\n")
+by("health 1700000001.999 web", checked("flaky 2", retries=2), events(*STARTED), out=f"{WEB} starting 1\n")
+by("health 1700000004 web", checked("sleep 5000", start=3000), events(*STARTED), out=bad(4000) + f"{WEB} unhealthy 1\n")
+# one failure is enough, or a thousand are; of more failures no change comes
+by("health 1700000002 web", checked("exit 3"), events(*STARTED), out=bad(1000) + f"{WEB} unhealthy 2\n")
+by("health 1700000001 web", checked("exit 1", retries=1000, interval=1), events(*STARTED), out=bad(1000) + f"{WEB} unhealthy 1000\n")
+by("health 1700000000.999 web", checked("exit 1", retries=1000, interval=1), events(*STARTED), out=f"{WEB} starting 999\n")
+# a pause over a due moment, one that ends at it, one of no length, and one that stays open; the last event tells the name
+by("health 1700000002 web", checked("hello"), events(*STARTED, event("pause", 900), event("unpause", 1500)), out=good(1500) + f"{WEB} healthy 0\n")
+by("health 1700000002 web", checked("hello"), events(*STARTED, event("pause", 900), event("unpause", 1000)), out=good(1000) + f"{WEB} healthy 0\n")
+by("health 1700000002 web", checked("hello"), events(*STARTED, event("pause", 1000), event("unpause", 1000)), out=good(1000) + f"{WEB} healthy 0\n")
+by("health 1700000002 web", checked("hello"), events(*STARTED, event("pause", 900)), out=f"{WEB} starting 0\n")
+by("health 1700000002 web", checked("hello"), events(*STARTED, event("rename", 1000, name="last", oldName="web")),
+   out=good(1000, name="last") + f"{WEB} healthy 0\n")
+by("health 1700000002 web", checked("hello"), events(*STARTED, event("rename", 1001, name="last", oldName="web")), out=good(1000) + f"{WEB} healthy 0\n")
+# a restart begins with the first probe; behind an end there is no health, and a result at the end doesn't count
+by("health 1700000004.6 web", checked("flaky 2", retries=2), events(*STARTED, event("die", 2500, exitCode="0"), event("start", 2600)),
+   out=bad(2000) + bad(4600) + f"{WEB} unhealthy 2\n")
+by("health 1700000003 web", checked("flaky 2", retries=2), events(*STARTED, event("die", 3000, exitCode="0")), out=bad(2000) + f"{WEB} none 0\n")
+by("health 1700000003 web", checked("hello"), events(event("create")), out=f"{WEB} none 0\n")
+by("health 1700000003 web", checked("hello"), events(), out=f"{WEB} none 0\n")
+# without a check, by events that aren't all, by moments that fall or are behind UNTIL, and by what is none
+by("health 1700000003 web", shown(0, "web", ["deaf"], "running", pid=1000), err=NO_CHECK, status=123)
+by("health 1700000003 web", checked("hello"), LATER + LAST, err="dockc: the first events are no longer kept\n", status=123)
+no_answer("health 1700000003 web", checked("hello"), events(event("create", 1), event("start")))
+no_answer("health 1700000003 web", checked("hello"), events(*STARTED, event("pause", 3001)))
+no_answer("health 1700000003 web", checked("hello"), events(bad(1)))
+no_answer("health 1700000003 web", checked("hello"), FIRST + chunk(event("create")))
+no_answer("health 1700000003 web", checked("hello", name="1f"))
+no_answer("health 1700000003 web", checked("hello", retries=1001))
+no_answer("health 1700000003 web", checked("hello", interval=0), events())
+by("health 1700000003 web", message(404, "No such container: web"), err="No such container: web\n", status=125)
+by("health 1700000003 web", checked("hello"), err=NO_CONNECTION, status=125, missed=1)
+
 by("update --restart always web", message(409, "AutoRemove excludes a restart policy"), err="AutoRemove excludes a restart policy\n", status=125)
 by("start web", "nowhere", err=NO_CONNECTION, status=125, missed=1)
 by("start web", "read fails", err=NO_MORE, status=125)
