@@ -12,7 +12,7 @@ use Rattle.json_laws.proofs.Sound.{object-sound, words-sound}
 use Rattle.json_laws.proofs.Utf8.{IsUtf8-compact_text}
 use Rattle.response_reader.specs.Answers.{Answer, NoHead, Answered}
 use Rattle.response_reader.specs.Heads.{first_in}
-use Rattle.journal_lines.specs.declared.verdict.Verdict.{Verdict}
+use Rattle.client_model.specs.Judgement.{Judgement}
 use Rattle.engine_text.specs.declared.call.Call.TheVariants as call
 use Rattle.engine_text.specs.declared.filter.FilterKey.TheVariants as filterkey
 use Rattle.api_json.specs.Fault.{or_fault}
@@ -99,7 +99,7 @@ told-on until c (Answered h body whole) verdict answers = by (nat_lt h.status 40
 abbrev nothing_read : Answer → Option (List ℕ)
 nothing_read answer = None
 
-events-asked : (until : List ℕ) (c : Checked) (verdict : Option Verdict) → IsUtf8 until → HasId c → (answers : List Answer)
+events-asked : (until : List ℕ) (c : Checked) (verdict : Option Judgement) → IsUtf8 until → HasId c → (answers : List Answer)
     → entries (asks_events until c) verdict answers ≡ once (class.container_events until c.id)
 events-asked until c verdict u id answers =
     let says = class.container_events until c.id in
@@ -109,13 +109,13 @@ events-asked until c verdict u id answers =
     (λ answer answers. told-on until c answer verdict answers) answers
     ∙ none-behind says nothing_read answers
 
-check-asked : (until : List ℕ) (checked : Option Checked) (verdict : Option Verdict) → IsUtf8 until → IfSome checked HasId → (answers : List Answer)
+check-asked : (until : List ℕ) (checked : Option Checked) (verdict : Option Judgement) → IsUtf8 until → IfSome checked HasId → (answers : List Answer)
     → entries (option_map_or (asks_events until) checked (fails F.NoCheck)) verdict answers
     ≡ option_map_or (λ (c : Checked). once (class.container_events until c.id)) checked []
 check-asked until None verdict u id answers = refl
 check-asked until (Some c) verdict u id answers = events-asked until c verdict u id answers
 
-pub health-calls : (until target : List ℕ) (verdict : Option Verdict) → IsUtf8 until → IsUtf8 target
+pub health-calls : (until target : List ℕ) (verdict : Option Judgement) → IsUtf8 until → IsUtf8 target
     → (answers : List Answer) → entries (health_plan until target) verdict answers ≡ health_calls until target answers
 health-calls until target verdict u t =
     asks-calls (inspect_request target) checked_in (λ checked. option_map_or (asks_events until) checked (fails F.NoCheck)) verdict (class.inspect target)
