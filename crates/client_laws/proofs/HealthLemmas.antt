@@ -2,7 +2,7 @@
 use Rattle.std.proofs.Common.{◌≡◌, ℕ, zero, suc, Bool, true, false, List, [], ◌∷◌, ◌++◌, cond, codes, IsUtf8, Option, Some, None, Ok, refl, subst, ap, ◌∙◌}
 use Rattle.std.specs.Prelude.{nat_lt, IfSome, option_and_then}
 use Rattle.std.specs.Option.{option_map_or}
-use Rattle.serde_json.specs.Data.{Data, object, Members, no_members, member}
+use Rattle.serde_json.specs.Data.{Data, Members, no_members, member}
 use Rattle.serde_json.specs.Find.{as_object}
 use Rattle.serde_json.specs.Written.{compact_text}
 use Rattle.json_laws.specs.Pairs.{words_data}
@@ -32,7 +32,7 @@ use Rattle.client_model.specs.Plans.{prints_all, done, fails, refuses, nothing, 
 use Rattle.client_model.specs.Commands.Inspect.{inspect_request}
 use Rattle.client_model.specs.Commands.Health.{checked_in, container_filter, container_events_request, lines_in, told_health, asks_events, health_plan}
 use Rattle.client_laws.specs.Classes as class
-use Rattle.client_laws.specs.Table.{Entry, alone, if_whole, once, health_calls}
+use Rattle.client_laws.specs.Table.{alone, if_whole, once, health_calls}
 use Rattle.client_laws.proofs.ByteLemmas.{utf8-bytes}
 use Rattle.client_laws.proofs.CheckLemmas.{HasId, hex-text, checked-good}
 use Rattle.client_laws.proofs.RequestLemmas.{class-routed}

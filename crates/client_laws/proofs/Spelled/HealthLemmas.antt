@@ -1,5 +1,5 @@
 -- `health` asks only what is spelled by its bytes.
-use Rattle.std.proofs.Common.{ℕ, zero, suc, ◌+◌, ◌≤◌, List, [], ◌∷◌, length, Bool, codes, Option, Some, None, arith}
+use Rattle.std.proofs.Common.{ℕ, zero, suc, ◌≤◌, List, [], ◌∷◌, length, Bool, Option, Some, None, arith}
 use Rattle.std.specs.Option.{IfSome, option_map_or}
 use Rattle.std.proofs.lemmas.Option.{IfSome_then}
 use Rattle.response_reader.specs.Heads.{first_in}

@@ -128,7 +128,7 @@ fn checked_by(
     check: Option<&Value>,
 ) -> Result<Option<Checked>, Unread>
     ensures { Reads result
-        (spec.checked_by (view value.now) (option_map (λ v. view v.now) check)) }
+        (spec.checked_by (view value.now) (option_map (λ v. view v.now) check.entry)) }
 {
     match check {
         None => Ok(None),

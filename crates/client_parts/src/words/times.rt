@@ -21,7 +21,6 @@ fn around_dot(text: &str) -> (&str, &str)
 }
 
 /// Whether these are digits alone.
-#[tactic(auto, using(crate::proofs::TimeLemmas::digits_alone))]
 fn are_digits(bytes: &[u8]) -> bool
     ensures { result ≡ all_ascii_digits bytes.now }
 {

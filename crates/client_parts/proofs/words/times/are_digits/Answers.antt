@@ -1,0 +1,13 @@
+use Rattle.std.proofs.Common.{◌≡◌, ◌∙◌, rules, tests}
+use Rattle.std.specs.Char.{is_ascii_digit}
+use Rattle.std.specs.List.{list_all}
+use Rattle.std.proofs.lemmas.Iterator.{YieldsList-from_slice}
+use Rattle.std.proofs.lemmas.Iterator.Search.{all_from_yields_List}
+use Rattle.client_parts.proofs.TimeLemmas.{digits_alone}
+use Rattle.client_parts.proofs.words.times.are_digits.Goals as goal
+
+pub returns : goal.returns
+returns c =
+    let all : c.all.result ≡ list_all is_ascii_digit c.args.bytes.now
+    = all_from_yields_List is_ascii_digit _ _ c.all.result c.all.ensures.ran (YieldsList-from_slice _ c.iter.ensures.rest) (λ x b q k. search (rules, tests)) in
+    all ∙ digits_alone c.args.bytes.now
