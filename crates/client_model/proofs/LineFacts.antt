@@ -80,13 +80,9 @@ replay = refl
 replay_headed : line_of (words_of (codes "127.0.0.1:1 replay")) ≡ Some (line_with (codes "127.0.0.1:1") (command.Replay false (replicate 32 0) 0))
 replay_headed = refl
 
--- `--upgrade` stands before or behind `--seed`, and once
+-- `--upgrade` stands before MOMENT, and once
 upgrade : line_of (words_of (codes "127.0.0.1:1 replay --upgrade 5")) ≡ Some (line_with (codes "127.0.0.1:1") (command.Replay true (replicate 32 0) 5))
 upgrade = refl
-
-upgrade_seeded : line_of (words_of (codes "127.0.0.1:1 replay --seed 0101010101010101010101010101010101010101010101010101010101010101 --upgrade"))
-    ≡ Some (line_with (codes "127.0.0.1:1") (command.Replay true (replicate 32 1) 0))
-upgrade_seeded = refl
 
 upgrade_doubled : line_of (words_of (codes "127.0.0.1:1 replay --upgrade --upgrade")) ≡ None
 upgrade_doubled = refl

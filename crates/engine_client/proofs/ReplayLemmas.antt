@@ -46,7 +46,10 @@ module _ (given : Charter) (text : List ℕ) where
   by_verdict some (BadLine line) said = (record { verdict = BadLine line; upgrade = [] }, (said, refl), refl)
 
   not_legal : (v : Verdict) → IsVerdict given text v → IsFalse (is_legal v) → Told true (verdict_plan false [] v)
-  not_legal (Legal steps) said never = absurd never
+  not_legal (Legal steps) said never = absurd (both never)
+    where
+      both : true ≡ false → ⊥
+      both e = cc
   not_legal (Illegal line kept found) said never = (record { verdict = Illegal line kept found; upgrade = [] }, (said, refl), refl)
   not_legal (BadLine line) said never = (record { verdict = BadLine line; upgrade = [] }, (said, refl), refl)
 
