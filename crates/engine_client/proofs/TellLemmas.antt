@@ -1,13 +1,15 @@
 -- `health`: the changes told as events are seen, up to the end.
-use Rattle.std.proofs.Common.{◌≡◌, ◌<◌, ◌≤◌, ℕ, zero, suc, ◌+◌, ◌-◌, List, [], ◌∷◌, ◌++◌, map, Option, Some, None, Bool, true, false, ◌&&◌, nat_le, nat_lt, if◌then◌else◌, refl, sym, ap, ap₂, ◌∙◌, subst, append_assoc, append-nil, arith}
+use Rattle.std.proofs.Common.{◌≡◌, ◌<◌, ◌≤◌, ℕ, zero, suc, ◌+◌, ◌-◌, List, [], ◌∷◌, ◌++◌, length, take, drop, get_or, map, Option, Some, None, Result, Ok, Err, Bool, true, false, ◌&&◌, nat_le, nat_lt, if◌then◌else◌, refl, sym, ap, ap₂, ◌∙◌, subst, append_assoc, append-nil, arith}
+use Rattle.std.specs.Prelude.{OnOk}
 use Rattle.std.specs.List.{AllByRecursion}
 use Rattle.std.proofs.lemmas.Bool.{and_parts}
 use Rattle.std.proofs.lemmas.Bool.Decides.{nat_tests}
-use Rattle.std.proofs.lemmas.List.{map-append}
+use Rattle.std.proofs.lemmas.List.{map-append, take_more, take_all, drop_all, at_drop_more}
 use Rattle.std.proofs.lemmas.List.Sums.{fold-append}
 use Rattle.serde_json.specs.Written.{compact_text}
 use Rattle.engine_text.specs.Texts.{same_bytes}
 use Rattle.engine_text.specs.declared.event.Event.{Event}
+use Rattle.engine_text.specs.declared.memory.NoMemory.{NoMemory}
 use Rattle.engine_text.specs.declared.pairs.Pair.{Pair}
 use Rattle.health_watch.specs.Runs.{is_container, marks_by, marks_of}
 use Rattle.health_watch.specs.Health.{Standing, health_at, health_of}
@@ -299,3 +301,45 @@ far_all c end events w x lines lines' attributes far tells =
     tells.lines_so ∙ ap₂ (λ (a b : List (List ℕ)). a ++ b) far.lines_are same ∙ sym (map-append (change_line c.id events) (given w) tells.changes)
     ∙ ap (map (change_line c.id events)) (sym tells.given_so) ∙ ap (λ (s : Standing). map (change_line c.id events) s.changes) health in
     ap₂ (λ (ls : List (List ℕ)) (s : Standing). ls ++ standing_line c.id s ∷ []) all health
+
+-- ---- the same by places
+
+pub far_can : (c : Checked) (end : ℕ) (es : List Event) (i : ℕ) (e : Event) (w : Watched) (lines : List (List ℕ)) (attributes : List Pair) → i < length es → e ≡ get_or es i e
+    → IsSoFar c end (take i es) (drop i es) w lines attributes → MayFollow w e.moment × (e.moment ≤ end)
+far_can c end es i e w lines attributes low is far =
+    let dropped : drop i es ≡ e ∷ drop (i + 1) es = at_drop_more (λ (xs : List Event). xs) es i e low ∙ ap (λ (x : Event). x ∷ drop (i + 1) es) (sym is) in
+    let here = subst (λ (rest : List Event). IsSoFar c end (take i es) rest w lines attributes) dropped far in
+    (far_follows c end (take i es) (drop (i + 1) es) e w lines attributes here, far_bound c end (take i es) (drop (i + 1) es) e w lines attributes here)
+
+pub far_next : (c : Checked) (end : ℕ) (es : List Event) (i : ℕ) (e : Event) (id : List ℕ) (w x : Watched) (lines lines' : List (List ℕ)) (attributes attributes' : List Pair)
+    → i < length es → e ≡ get_or es i e → id ≡ c.id → IsSoFar c end (take i es) (drop i es) w lines attributes → Sees id attributes e w x lines lines' → attributes' ≡ latest id attributes e
+    → IsSoFar c end (take (i + 1) es) (drop (i + 1) es) x lines' attributes'
+far_next c end es i e id w x lines lines' attributes attributes' low is id_is far sees latest_is =
+    let dropped : drop i es ≡ e ∷ drop (i + 1) es = at_drop_more (λ (xs : List Event). xs) es i e low ∙ ap (λ (x : Event). x ∷ drop (i + 1) es) (sym is) in
+    let taken : take (i + 1) es ≡ take i es ++ e ∷ [] = take_more es i e low ∙ ap (λ (x : Event). take i es ++ x ∷ []) (sym is) in
+    subst (λ (seen : List Event). IsSoFar c end seen (drop (i + 1) es) x lines' attributes') (sym taken)
+    (far_more c end (take i es) (drop (i + 1) es) e w lines attributes x lines' attributes'
+    (subst (λ (rest : List Event). IsSoFar c end (take i es) rest w lines attributes) dropped far)
+    (subst (λ (n : List ℕ). Sees n attributes e w x lines lines') id_is sees) (latest_is ∙ ap (λ (n : List ℕ). latest n attributes e) id_is))
+
+pub far_end : (c : Checked) (end : ℕ) (es : List Event) (i : ℕ) (id : List ℕ) (w x : Watched) (lines lines' all : List (List ℕ)) (attributes : List Pair) (line : List ℕ)
+    → length es ≤ i → id ≡ c.id → IsSoFar c end (take i es) (drop i es) w lines attributes → Tells id attributes end w x lines lines' → line ≡ standing_line id (health_told x)
+    → all ≡ lines' ++ line ∷ [] → all ≡ health_lines c end es
+far_end c end es i id w x lines lines' all attributes line high id_is far tells line_is added =
+    let whole : IsSoFar c end es [] w lines attributes =
+    subst (λ (seen : List Event). IsSoFar c end seen [] w lines attributes) (take_all es i high)
+    (subst (λ (rest : List Event). IsSoFar c end (take i es) rest w lines attributes) (drop_all i es high) far) in
+    added ∙ ap (λ (l : List ℕ). lines' ++ l ∷ []) (line_is ∙ ap (λ (n : List ℕ). standing_line n (health_told x)) id_is)
+    ∙ far_all c end es w x lines lines' attributes whole (subst (λ (n : List ℕ). Tells n attributes end w x lines lines') id_is tells)
+
+-- ---- where memory was had
+
+pub before_if : (r : Result (Unit {0}) NoMemory) (id : List ℕ) (attributes : List Pair) (m : ℕ) (w x : Watched) (lines lines' : List (List ℕ)) → (m ≡ 0 → ⊥)
+    → OnOk r (Tells id attributes (m - 1) w x lines lines') → OnOk r (TellsBefore id attributes m w x lines lines')
+before_if (Ok u) id attributes m w x lines lines' not tells = before_some id attributes m w x lines lines' not tells
+before_if (Err e) id attributes m w x lines lines' not tells = tt
+
+pub sees_if : (r : Result (Unit {0}) NoMemory) (id : List ℕ) (attributes : List Pair) (e : Event) (w before x : Watched) (lines lines' : List (List ℕ))
+    → TellsBefore id attributes e.moment w before lines lines' → OnOk r (x ≡ with_event e before) → health_told x ≡ health_told before → OnOk r (Sees id attributes e w x lines lines')
+sees_if (Ok u) id attributes e w before x lines lines' tells is same = record { before = before; tells = tells; is = is; same = same }
+sees_if (Err fault) id attributes e w before x lines lines' tells is same = tt
