@@ -87,6 +87,9 @@ pub lines_by : (c : Checked) (end : ℕ) (bytes : List ℕ) (es : List Event) (r
     → ReadsOrFails result (Lines c end (if_rising end es)) → ReadsOrFails result (Lines c end (if_there (events_in bytes) (if_rising end)))
 lines_by c end bytes es result is reads = subst (λ (o : Option (List Event)). ReadsOrFails result (Lines c end (if_there o (if_rising end)))) (sym is) reads
 
+pub rising_as : (c : Checked) (end : ℕ) (es es' : List Event) (result : Result (List (List ℕ)) Fault) → es ≡ es' → ReadsOrFails result (Lines c end (if_rising end es)) → ReadsOrFails result (Lines c end (if_rising end es'))
+rising_as c end es es' result is reads = subst (λ (xs : List Event). ReadsOrFails result (Lines c end (if_rising end xs))) is reads
+
 pub lines_wrong : (fault : Fault) (c : Checked) (end : ℕ) (events : Option (List Event)) → ReadsList {A = Event} (Err fault) events
     → ReadsOrFails {A = List (List ℕ)} (Err fault) (Lines c end (if_there events (if_rising end)))
 lines_wrong F.Answer c end events is = ap (λ (o : Option (List Event)). Lines c end (if_there o (if_rising end))) is

@@ -327,7 +327,7 @@ pub far_end : (c : Checked) (end : ℕ) (es : List Event) (i : ℕ) (id : List �
     → all ≡ lines' ++ line ∷ [] → all ≡ health_lines c end es
 far_end c end es i id w x lines lines' all attributes line high id_is far tells line_is added =
     let whole : IsSoFar c end es [] w lines attributes =
-    subst (λ (seen : List Event). IsSoFar c end seen [] w lines attributes) (take_all es i high)
+    subst (λ (seen : List Event). IsSoFar c end seen [] w lines attributes) (take_all i es high)
     (subst (λ (rest : List Event). IsSoFar c end (take i es) rest w lines attributes) (drop_all i es high) far) in
     added ∙ ap (λ (l : List ℕ). lines' ++ l ∷ []) (line_is ∙ ap (λ (n : List ℕ). standing_line n (health_told x)) id_is)
     ∙ far_all c end es w x lines lines' attributes whole (subst (λ (n : List ℕ). Tells n attributes end w x lines lines') id_is tells)
