@@ -112,8 +112,10 @@ verdict('line 4: {"body":"","status":204} but no ticket', NEW, WAIT, START, take
 verdict('line 3: {"body":"","status":204} but not ready', NEW, WAIT, take(None, dues=0, moment=OPENING))
 verdict('line 2: {"fed":false} but not ready', NEW, FEED)
 verdict(r'line 4: {"body":"{\"StatusCode\":8}","status":200} but {"body":"{\"StatusCode\":7}","status":200}', NEW, WAIT, START, take(8))
-heading("what is no line is named: a key twice, no line end, a blank line")
+heading("what is no line is named: a key twice, a number of 65 bits, a blank behind a colon, no line end, a blank line")
 verdict("no line 3", NEW, WAIT, START.replace('"conn":2', '"conn":2,"conn":2'), take())
+verdict("no line 2", NEW, START.replace('"dues":0', f'"dues":{2 ** 64}'), take())
+verdict("no line 2", NEW, START.replace('"conn":2', '"conn": 2'), take())
 verdict("no line 2", NEW, START.removesuffix(r"\n"))
 verdict("no line 1", r"\n", NEW)
 
@@ -127,13 +129,14 @@ for call in (FULL, CHECKED | {"auto": True}, CHECKED | {"auto": False}, FULL | {
     ask(f"journal|second|{entry(call)}", "the same")
 for call in (CREATE, CREATE | {"auto": False}, CREATE | {"health": None}, CHECKED | {"auto": None}, FULL | {"health": {}}):
     ask(f"journal|second|{entry(call)}", "no line")
-heading("a header, and what is none: another number, moment or seed, another order, a blank, no line end")
+heading("a header, and what is none: another number, moment or seed, another order, a blank, no line end, a key twice, a number of 65 bits")
 for moment, seed in ((OPENING, "00" * 32), (0, "ff" * 32), (9000000000000, "0a" * 32)):
     ask("journal|header|" + HEADER.replace(str(OPENING), str(moment)).replace("00" * 32, seed), "the same")
 for text in (HEADER.replace('"format":2', '"format":1'), HEADER.replace(str(OPENING), "9000000000001"), HEADER.replace(str(OPENING), "01"),
              HEADER.replace(str(OPENING), "null"), HEADER.replace("00" * 32, "00" * 31), HEADER.replace("00" * 32, "0A" * 32),
              HEADER.replace("00" * 32, "0g" * 32), '{"moment":0,"format":2,"seed":"' + "00" * 32 + '"}' + r"\n",
-             HEADER.replace(",", ", "), HEADER.removesuffix(r"\n"), "", START):
+             HEADER.replace(",", ", "), HEADER.removesuffix(r"\n"), "", START, HEADER.replace('"format":2', '"format":2,"format":2'),
+             HEADER.replace(str(OPENING), str(2 ** 64 + OPENING))):
     ask("journal|header|" + text, "no header")
 
 
@@ -152,6 +155,11 @@ verdict("line 5: 2 but 1", HEADER, in_second(NEW), WAIT, START, take(dues=2))
 verdict("no line 2", HEADER, HEADER)
 verdict("no line 3", HEADER, WAIT.replace("web", "nobody").replace('{"ticket":0}', r'{"body":"{\"message\":\"No such container: nobody\"}","status":404}'), HEADER)
 verdict("no line 1", HEADER.replace('"format":2', '"format":3'), in_second(NEW))
+heading("behind a header too what is no line is named: a key twice, a number of 65 bits, a blank, no line end, also of the header")
+for text in (START.replace('"conn":2', '"conn":2,"conn":2'), START.replace('"dues":0', f'"dues":{2 ** 64}'),
+             START.replace('"conn":2', '"conn": 2'), START.removesuffix(r"\n")):
+    verdict("no line 3", HEADER, in_second(NEW), text)
+verdict("no line 1", HEADER.removesuffix(r"\n"))
 
 
 def upgraded(said, *lines):

@@ -62,5 +62,7 @@ heading("a bad chunk is told by its first byte")
 STREAM = (r"HTTP/1.1 200 OK\r\n" + API + r"Content-Type: text/plain; charset=utf-8\r\nServer: engined\r\n"
           r"Transfer-Encoding: chunked\r\n\r\n2\r\nok\r\n")
 AT = len(STREAM.replace(r"\r", "\r").replace(r"\n", "\n"))
-for chunk in ("g", r"1\r\nab", r"0\r\n:"):
+for chunk in ("g", "10000000000000000", r"1\r\nab", r"0\r\n:"):
     ask(f"response|1|{STREAM}{chunk}", f"200 from None (ok{'a' if 'ab' in chunk else ''}) BadChunk {{ at: {AT} }}")
+heading("a size of sixteen digits may still be a chunk's")
+ask(f"response|1|{STREAM}1000000000000000", "200 from None (ok) CutShort")
