@@ -38,6 +38,7 @@ ASKED = [
     ("journal", "GET", "/engine/journal", None),
 ]
 NO_MEMORY = (500, b'{"message":"out of memory"}')
+HEADER = {"format": 2, "moment": 1700000000000, "seed": "00" * 32}
 
 
 def request(method, target, body):
@@ -139,7 +140,7 @@ class Runs:
         return answers, cut, ran.wait(timeout=60), journal
 
     def verdict(self, journal):
-        said = subprocess.run([self.dockc, "127.0.0.1:1", "replay", CLOCK.split(":")[0]], input=journal, stdout=subprocess.PIPE, check=False)
+        said = subprocess.run([self.dockc, "127.0.0.1:1", "replay"], input=journal, stdout=subprocess.PIPE, check=False)
         return said.stdout.decode().strip()
 
 
@@ -224,8 +225,10 @@ def faults_of_one(op, answer, entries):
 
 def faults_of(answers, journal):
     """What isn't as it has to be, of the answers and the journal."""
-    entries = collections.deque(it for it in map(json.loads, journal.splitlines()) if it["conn"] == 0)
-    faults = [fault for (op, *_), answer in zip(ASKED, answers) for fault in faults_of_one(op, answer, entries)]
+    header, *lines = map(json.loads, journal.splitlines())
+    entries = collections.deque(it for it in lines if it["conn"] == 0)
+    faults = [] if header == HEADER else [f"another header: {header}"]
+    faults += [fault for (op, *_), answer in zip(ASKED, answers) for fault in faults_of_one(op, answer, entries)]
     rest = [it["call"]["op"] for it in entries]
     ahead = ASKED[len(answers)][0] if len(answers) < len(ASKED) else None
     if rest not in ([], [ahead], [ahead, "drop"], [ahead, "take"]):
