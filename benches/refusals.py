@@ -9,6 +9,8 @@ run, once, by refusals.c (gcc). Each N is tried twice: over standard input and o
 connection reads the journal behind the exchange. A run is as it has to be where
   - the program ends by itself: with 6 where it can't begin or a session ends early (with 4 where there is no memory to bind the port),
     else with 0; a connection for which there is no memory is let go, and the next one is taken in;
+  - the journal can be read: at a port wherever the program came to listen, over standard input wherever the session came to it and it
+    wasn't what was refused;
   - each answer is whole, or it is the last one, and the connection ends with it;
   - each that isn't 500 `out of memory` is the reply of the journal's next entry (of the ticket's take, where it has a ticket);
   - a 500 has no entry, or that of a ticket, which is dropped;
@@ -244,18 +246,25 @@ def told(answers, cut):
     return ", ".join(f"500: {word}" if ":" not in word else word for word in at) or "as without"
 
 
+def ends_right(runs, way, answers, status, journal):
+    """Whether the program ended as it has to, and its journal is there where it can be."""
+    early = len(answers) < len(ASKED)
+    if way == runs.over_streams:
+        return status == (6 if early else 0) and (journal is not None or early or answers[-1] == NO_MEMORY)
+    if journal is None:  # (it had no daemon, or didn't come to listen)
+        return not answers and status in (4, 6)
+    return status == 6 or status == 0 and (not answers or not early)
+
+
 def judged(runs, way, number, whole):
     """What came of the run in which that allocation is refused, and what isn't as it has to be."""
     answers, cut, status, journal = way(number)
-    early = len(answers) < len(ASKED)
-    faults = [] if status == 6 or status == 0 and not early or status in (0, 4) and not answers else [f"status {status}"]
+    faults = [] if ends_right(runs, way, answers, status, journal) else [f"status {status}, {'a' if journal else 'no'} journal"]
     if any(answer[0] == 500 and answer != NO_MEMORY for answer in answers):
         faults.append("another 500")
-    if not early and NO_MEMORY not in answers and answers != whole:
+    if len(answers) == len(ASKED) and NO_MEMORY not in answers and answers != whole:
         faults.append("other answers than without")
-    if journal is None:
-        faults += [] if early or NO_MEMORY in answers or status == 6 else ["no journal"]
-    else:
+    if journal is not None:
         faults += faults_of(answers[:-1] if way == runs.over_streams else answers, journal)
         verdict = runs.verdict(journal)
         faults += [] if verdict.startswith("legal ") else [verdict]
