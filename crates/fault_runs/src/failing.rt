@@ -6,9 +6,9 @@ use std::io::{self, Write};
 use std::sync::Wait;
 use std::thread::Threads;
 
-/// What befalls a session's outside, by a number from 0.
+/// What befalls a session at each number from 0 in turn.
 #[derive(Clone, Copy, Debug, PartialEq, Eq)]
-pub enum Fault {
+pub enum Each {
     /// The read of this number fails.
     Read,
     /// The write of this number fails.
@@ -70,24 +70,24 @@ fn front(bytes: &[u8], length: usize) -> &[u8] {
     }
 }
 
-// What comes of the session that meets this fault of this number.
-fn faulty<R: Threads + Wait + Sync + AllocGlobal>(
+// What comes of the session that meets it at this number.
+fn troubled<R: Threads + Wait + Sync + AllocGlobal>(
     rt: &R,
     bytes: &[u8],
-    fault: Fault,
+    each: Each,
     number: usize,
     whole: &[u8],
 ) -> Result<Outcome, NoMemory> {
     let failing = [number as u64];
-    let (served, steps) = match fault {
-        Fault::Read => served_by_bytes(rt, bytes, &failing, &[])?,
-        Fault::Write => served_by_bytes(rt, bytes, &[], &failing)?,
-        Fault::Cut => served_by_bytes(rt, front(bytes, number), &[], &[])?,
+    let (served, steps) = match each {
+        Each::Read => served_by_bytes(rt, bytes, &failing, &[])?,
+        Each::Write => served_by_bytes(rt, bytes, &[], &failing)?,
+        Each::Cut => served_by_bytes(rt, front(bytes, number), &[], &[])?,
     };
     Ok(outcome_of(&served, steps, whole))
 }
 
-// Tells what the faults of these numbers came to.
+// Tells what came of it at these numbers.
 fn tell_outcome(rt: &impl Print, first: usize, last: usize, outcome: Outcome) -> io::Result<()> {
     let Outcome {
         ending,
@@ -102,11 +102,11 @@ fn tell_outcome(rt: &impl Print, first: usize, last: usize, outcome: Outcome) ->
     }
 }
 
-// Tells what came of each fault, those that came to the same together, up to one that the session doesn't meet.
+// Tells what came of it at each number, those that came to the same together, up to one that the session doesn't meet.
 fn tell_each<R: Threads + Wait + Sync + AllocGlobal + Print>(
     rt: &R,
     bytes: &[u8],
-    fault: Fault,
+    each: Each,
     whole: &[u8],
     unharmed: Outcome,
 ) -> io::Result<()> {
@@ -114,7 +114,7 @@ fn tell_each<R: Threads + Wait + Sync + AllocGlobal + Print>(
     let mut last = 0;
     let mut same = None;
     for number in 0..usize::MAX {
-        let Ok(outcome) = faulty(rt, bytes, fault, number, whole) else {
+        let Ok(outcome) = troubled(rt, bytes, each, number, whole) else {
             return println!(rt; "out of memory");
         };
         if same != Some(outcome) {
@@ -132,10 +132,10 @@ fn tell_each<R: Threads + Wait + Sync + AllocGlobal + Print>(
     Ok(())
 }
 
-/// Tells the session of these bytes, one at a read, and then what comes of it by each of these faults in turn.
+/// Tells the session of these bytes, one at a read, and then what comes of it where this befalls it at each number in turn.
 pub fn tell<R: Threads + Wait + Sync + AllocGlobal + Print>(
     rt: &R,
-    fault: Fault,
+    each: Each,
     bytes: &[u8],
 ) -> io::Result<()> {
     let Ok((served, steps)) = served_by_bytes(rt, bytes, &[], &[]) else {
@@ -144,5 +144,5 @@ pub fn tell<R: Threads + Wait + Sync + AllocGlobal + Print>(
     let whole = served.sink.bytes();
     io::writer(rt).write_all(whole)?;
     println!(rt; "")?;
-    tell_each(rt, bytes, fault, whole, outcome_of(&served, steps, whole))
+    tell_each(rt, bytes, each, whole, outcome_of(&served, steps, whole))
 }

@@ -1,5 +1,5 @@
 // One line of standard input.
-use crate::failing::Fault;
+use crate::failing::Each;
 use engine_text::Text;
 use scarce_turns::Scarcity;
 use std::alloc::{AllocError, Global};
@@ -9,8 +9,8 @@ use std::alloc::{AllocError, Global};
 pub enum Kind {
     /// A session, of which turns may be refused or the clock stopped.
     Session,
-    /// A session that meets each of these faults in turn.
-    Failing(Fault),
+    /// A session that each of these befalls in turn.
+    Each(Each),
 }
 
 /// What is run, the file of `data/` that has its requests, and the words behind it.
@@ -24,9 +24,9 @@ pub struct Line {
 fn kind_of(word: &str) -> Option<Kind> {
     match word {
         "session" => Some(Kind::Session),
-        "reads" => Some(Kind::Failing(Fault::Read)),
-        "writes" => Some(Kind::Failing(Fault::Write)),
-        "cuts" => Some(Kind::Failing(Fault::Cut)),
+        "reads" => Some(Kind::Each(Each::Read)),
+        "writes" => Some(Kind::Each(Each::Write)),
+        "cuts" => Some(Kind::Each(Each::Cut)),
         _ => None,
     }
 }

@@ -22,7 +22,7 @@ fn tell<R: Threads + Wait + Sync + AllocGlobal + Files + Print>(
     let bytes = bytes.as_slice();
     match line.kind {
         Kind::Session => session::tell(rt, line, bytes),
-        Kind::Failing(fault) => failing::tell(rt, fault, bytes),
+        Kind::Each(each) => failing::tell(rt, each, bytes),
     }
 }
 
