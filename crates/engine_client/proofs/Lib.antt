@@ -1,4 +1,6 @@
 pub mod PrintLemmas
+pub mod RowLemmas
+pub mod IndexLemmas
 pub mod WatchLemmas
 pub mod StepLemmas
 pub mod InputLemmas

@@ -4,6 +4,7 @@ pub mod Steps
 pub mod Places
 pub mod Cutting
 pub mod Telling
+pub mod Rows
 pub mod Writing
 pub mod Replaying
 pub mod Performing

@@ -14,6 +14,7 @@ mod places;
 mod printing;
 mod reading;
 mod replaying;
+mod rows;
 mod step;
 mod telling;
 mod watching;

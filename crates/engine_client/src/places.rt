@@ -17,6 +17,7 @@ use crate::printing::{prints, prints_all, prints_code};
 use crate::reading::{
     read_container_lines, read_exit_code, read_id, read_status_code, read_volume_names,
 };
+use crate::rows::Rows;
 use crate::step::Step;
 use crate::watching::{fold_events, row_lines};
 use client_model::{Fault, Showing};
@@ -24,7 +25,7 @@ use client_parts::requests::containers::{
     attach_request, remove_request, start_request, wait_request,
 };
 use client_parts::requests::execs::{exec_inspect_request, exec_start_request};
-use engine_text::{FoldRow, Text};
+use engine_text::Text;
 use std::alloc::Global;
 
 /// It ends with this status.
@@ -83,10 +84,10 @@ pub(crate) fn prints_exit(alloc: Global, body: &Vec<u8>) -> Result<Step, Fault>
 }
 
 /// It prints a line of each row.
-fn prints_rows(alloc: Global, rows: &[FoldRow]) -> Result<Step, Fault>
+fn prints_rows(alloc: Global, rows: &Rows) -> Result<Step, Fault>
     ensures { GoesOn result false (prints_all (map row_line rows.now) done) }
 {
-    match row_lines(alloc, rows) {
+    match row_lines(alloc, rows.folds()) {
         Ok(lines) => prints_all(alloc, lines.as_slice()),
         Err(_) => Err(Fault::NoMemory),
     }
@@ -97,7 +98,7 @@ fn prints_events(alloc: Global, body: &Vec<u8>) -> Result<Step, Fault>
     ensures { GoesOn result false (steps.watches (events_in body.now.items)) }
 {
     match fold_events(alloc, body) {
-        Ok(fold) => prints_rows(alloc, fold.rows()),
+        Ok(rows) => prints_rows(alloc, &rows),
         Err(fault) => Err(fault),
     }
 }

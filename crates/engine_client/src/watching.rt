@@ -7,7 +7,9 @@ ghost use Rattle.client_model.specs.Streams.{event_in, events_in};
 ghost use Rattle.client_model.specs.Commands.Watch as watch;
 ghost use Rattle.engine_client.specs.Cutting.{IsCut, HasNoLineEnd, FoldsOrFails};
 ghost use Rattle.engine_client.specs.Reading.{ReadsOrFails};
+ghost use Rattle.engine_client.specs.Rows.{joined};
 
+use crate::rows::Rows;
 use api_json::{Refused, read_event_line};
 use client_model::Fault;
 use engine_text::{Event, FoldRow, NoMemory, Text, Words};
@@ -38,47 +40,45 @@ pub(crate) fn read_event(alloc: Global, line: &[u8]) -> Result<Event, Fault>
 }
 
 /// The rows behind one event more.
-fn fold_event(fold: &mut Fold, alloc: Global, event: &Event) -> Result<(), Fault>
+fn fold_event(rows: &mut Rows, alloc: Global, event: &Event) -> Result<(), Fault>
     requires { IsLine event.now }
     ensures { (meaning : Option Event) → meaning ≡ Some event.now
-        → FoldsOrFails result meaning fold.old fold.new }
+        → FoldsOrFails result meaning rows.old rows.new }
 {
-    match fold.fold_step(alloc, event) {
+    match rows.fold_step(alloc, event) {
         Ok(()) => Ok(()),
         Err(_) => Err(Fault::NoMemory),
     }
 }
 
 /// The rows behind the event of one line more.
-fn fold_line(fold: &mut Fold, alloc: Global, line: &[u8]) -> Result<(), Fault>
+fn fold_line(rows: &mut Rows, alloc: Global, line: &[u8]) -> Result<(), Fault>
     ensures { (front : List ℕ) → line.now ≡ front ++ 10 ∷ []
-        → FoldsOrFails result (event_in front) fold.old fold.new }
+        → FoldsOrFails result (event_in front) rows.old rows.new }
 {
     match read_event(alloc, line) {
-        Ok(event) => fold_event(fold, alloc, &event),
+        Ok(event) => fold_event(rows, alloc, &event),
         Err(fault) => Err(fault),
     }
 }
 
 /// The rows that the events of a text of lines tell.
-pub(crate) fn fold_events(alloc: Global, body: &[u8]) -> Result<Fold, Fault>
+pub(crate) fn fold_events(alloc: Global, body: &[u8]) -> Result<Rows, Fault>
     ensures { ReadsOrFails result (option_map fold_of (events_in body.now)) }
 {
-    let Ok(mut fold) = Fold::new(alloc) else {
-        return Err(Fault::NoMemory);
-    };
+    let mut rows = Rows::new(alloc);
     let mut rest = body;
     'lines: while !rest.is_empty() {
         let Some((line, behind)) = cut_line(rest) else {
             return Err(Fault::Answer);
         };
-        match fold_line(&mut fold, alloc, line) {
+        match fold_line(&mut rows, alloc, line) {
             Ok(()) => {}
             Err(fault) => return Err(fault),
         }
         rest = behind;
     }
-    Ok(fold)
+    Ok(rows)
 }
 
 /// Whether a container lives.
@@ -117,13 +117,23 @@ fn row_line(alloc: Global, row: &FoldRow) -> Result<Text, NoMemory>
     with_word(line, digits.format(row.code))
 }
 
-/// A line of each row.
-pub(crate) fn row_lines(alloc: Global, rows: &[FoldRow]) -> Result<Words, NoMemory>
-    ensures { IfOk result (λ lines. lines ≡ map watch.row_line rows.now) }
+/// Adds a line of each row.
+fn add_lines(lines: &mut Words, alloc: Global, rows: &[FoldRow]) -> Result<(), NoMemory>
+    ensures { IfOk result (λ x. lines.new ≡ lines.old ++ map watch.row_line rows.now) }
 {
-    let mut lines = Words::new(alloc);
     'rows: for row in rows {
         lines.push(alloc, row_line(alloc, row)?)?;
+    }
+    Ok(())
+}
+
+/// A line of each row of folds.
+pub(crate) fn row_lines(alloc: Global, folds: &[Fold]) -> Result<Words, NoMemory>
+    ensures { IfOk result (λ lines. lines ≡ map watch.row_line (joined folds.now)) }
+{
+    let mut lines = Words::new(alloc);
+    'folds: for fold in folds {
+        add_lines(&mut lines, alloc, fold.rows())?;
     }
     Ok(lines)
 }
