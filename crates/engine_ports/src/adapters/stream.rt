@@ -60,7 +60,7 @@ impl Half {
             return;
         };
         let mut stream = &*self.stream;
-        let mut place = [0; 16_384];
+        let mut place = [0; 2_048];
         let mut dropped: usize = 0;
         for _ in 0..MOST_DROPPED {
             match stream.read(&mut place) {
