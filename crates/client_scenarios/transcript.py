@@ -252,7 +252,6 @@ FIRST = LATER.replace("From: 1", "From: 0")
 TAKEN = ("HTTP/1.1 101 UPGRADED\r\nContent-Type: application/vnd.docker.multiplexed-stream\r\nConnection: Upgrade\r\n"
          "Upgrade: tcp\r\n\r\n")
 HI, LAST = "\1\0\0\0\0\0\0\3hi\n", "0\r\n\r\n"
-NO_ANSWER = "dockc: the answer isn't one of the Engine API's\n"
 NO_CONNECTION, NO_MORE = "dockc: can't connect to the daemon at 127.0.0.1:2375\n", "dockc: the connection to the daemon failed\n"
 
 
@@ -260,8 +259,34 @@ def chunk(data):
     return f"{len(data):x}\r\n{data}\r\n"
 
 
-def no_answer(words, *instead, out="", given=""):
-    by(words, *instead, out=out, err=NO_ANSWER, status=123, given=given)
+# the last request of a line
+LOGS, ATTACH = "logs?stdout=1&stderr=1", "attach?logs=1&stream=1&stdout=1&stderr=1"
+EVENTS = f"GET /v1.43/events?since=0&until=1700000003&filters=%7B%22container%22%3A%5B%22{WEB}%22%5D%7D"
+INSPECT = "GET /v1.43/containers/web/json"
+REQUESTS = {
+    "logs web": f"GET /v1.43/containers/web/{LOGS}",
+    "logs -f web": f"GET /v1.43/containers/web/{LOGS}&follow=1",
+    "attach web": f"POST /v1.43/containers/web/{ATTACH}",
+    "run engine/tools": f"POST /v1.43/containers/{WEB}/{ATTACH}",
+    "exec -i web cat": f"POST /v1.43/exec/{WEB}/start",
+    "ps": "GET /v1.43/containers/json",
+    "version": "GET /v1.43/version",
+    "journal": "GET /v1.43/engine/journal",
+    "start web": "POST /v1.43/containers/web/start",
+    "create engine/tools": "POST /v1.43/containers/create",
+    "wait web": "POST /v1.43/containers/web/wait?condition=not-running",
+    "health 1700000003 web": EVENTS,
+}
+
+
+def no_answer_to(request, status):
+    """The line of an answer that isn't one of the API's."""
+    return f"dockc: the answer to {request} HTTP/1.1 isn't one of the Engine API's: {f'status {status}' if status else 'no status'}\n"
+
+
+def no_answer(words, *instead, out="", given="", status=200, request=None):
+    """A command whose last answer is none, by its status, which may be none, and the request, if that isn't the command's last."""
+    by(words, *instead, out=out, err=no_answer_to(request or REQUESTS[words], status), status=123, given=given)
 
 
 by("logs web", FRAMES + chunk(HI) + LAST, out="hi\n")
@@ -272,16 +297,16 @@ no_answer("logs web", FRAMES + chunk(HI + "\3\0\0\0\0\0\0\3hi\n") + LAST, out="h
 no_answer("logs web", FRAMES + chunk(HI), out="hi\n")
 no_answer("logs web", FRAMES + chunk(HI)[:-3], out="hi\n")
 by("attach web", TAKEN + HI, out="hi\n")
-no_answer("attach web", TAKEN + HI + HI[:3], out="hi\n")
-no_answer("attach web", TAKEN + HI + HI[:9], out="hi\nh\n")
+no_answer("attach web", TAKEN + HI + HI[:3], out="hi\n", status=101)
+no_answer("attach web", TAKEN + HI + HI[:9], out="hi\nh\n", status=101)
 # connections that stay open: nothing is waited for behind a wrong byte of a frame, of a head or of a chunk
 WRONG = "\3\0\0\0\0\0\0\3hi\n"
 no_answer("logs -f web", "open " + FRAMES + chunk(HI + WRONG), out="hi\n")
 no_answer("logs -f web", "open " + FRAMES + chunk(HI) + chunk("\1\0\1"), out="hi\n")
-no_answer("attach web", "open " + TAKEN + HI + WRONG, out="hi\n")
-no_answer("run engine/tools", created(0), answer(204), "open " + TAKEN + HI + WRONG, out="hi\n")
-no_answer("exec -i web cat", created(0), "open " + TAKEN + WRONG, given="abc\n")
-no_answer("ps", "open HTTP/1.1 200 OK\r\nServer: x")
+no_answer("attach web", "open " + TAKEN + HI + WRONG, out="hi\n", status=101)
+no_answer("run engine/tools", created(0), answer(204), "open " + TAKEN + HI + WRONG, out="hi\n", status=101)
+no_answer("exec -i web cat", created(0), "open " + TAKEN + WRONG, given="abc\n", status=101)
+no_answer("ps", "open HTTP/1.1 200 OK\r\nServer: x", status=None)
 no_answer("logs -f web", "open " + FRAMES + chunk(HI) + "x", out="hi\n")
 by("logs -f web", "open " + FRAMES + chunk(HI), out="hi\n", err=NO_MORE, status=125)
 
@@ -296,7 +321,7 @@ TWO = HI + "\2\0\0\0\0\0\0\2no"
 for length in range(len(TWO) + 1):
     ahead, whole = TWO[:length], length in (0, len(HI), len(TWO))
     by("logs web", FRAMES + "".join(map(chunk, ahead)) + LAST, out=ahead[8:len(HI)],
-       err=ahead[len(HI) + 8:] + ("" if whole else NO_ANSWER), status=0 if whole else 123)
+       err=ahead[len(HI) + 8:] + ("" if whole else no_answer_to(REQUESTS["logs web"], 200)), status=0 if whole else 123)
 
 
 def sized(digits):
@@ -311,17 +336,18 @@ def told_size(digits):
 
 # another protocol, and numbers at their limits: a length has 64 bits, and so has the size of a chunk, in sixteen digits. Behind a greater
 # one nothing is waited for, and a body that is shorter than it tells is cut
-no_answer("version", "open RTSP/1.0 200 OK\r\nContent-Length: 2\r\n\r\n{}")
-no_answer("version", "open " + sized(2 ** 64))
+no_answer("version", "open RTSP/1.0 200 OK\r\nContent-Length: 2\r\n\r\n{}", status=None)
+no_answer("version", "open " + sized(2 ** 64), status=None)
 no_answer("version", sized(10 ** 18 + 2))
 by("version", "open " + sized(10 ** 18 + 2), err=NO_MORE, status=125)
 no_answer("logs web", "open " + told_size("1000000000000000b"))
 by("logs web", "open " + told_size("100000000000000b"), out="hi\n", err=NO_MORE, status=125)
-no_answer("version", "HTTP/1.0 200 OK\r\n\r\n")
-no_answer("version", answer(200, "{}")[:-20])
+no_answer("version", "HTTP/1.0 200 OK\r\n\r\n", status=None)
+no_answer("version", answer(200, "{}")[:-20], status=None)
 no_answer("version", answer(200, "{}")[:-1])
 no_answer("journal", TEXT + chunk("x\n"), out="x\n")
-no_answer("create engine/tools", answer(201, compact({"Warnings": []})))
+no_answer("create engine/tools", answer(201, compact({"Warnings": []})), status=201)
+no_answer("start web", answer(404, "{}"), status=404)
 no_answer("wait web", answer(200, compact({"StatusCode": "0"})))
 by("exec web exit 3", created(0), TAKEN, answer(200, compact({"ExitCode": None})), err="dockc: the exec has no exit code\n", status=123)
 KILLED = (event("create"), event("start"), event("pause"), event("kill", signal="9"), event("unpause"), event("die", exitCode="137"))
@@ -381,8 +407,8 @@ no_answer("health 1700000003 web", checked("hello"), events(event("create", 1), 
 no_answer("health 1700000003 web", checked("hello"), events(*STARTED, event("pause", 3001)))
 no_answer("health 1700000003 web", checked("hello"), events(bad(1)))
 no_answer("health 1700000003 web", checked("hello"), FIRST + chunk(event("create")))
-no_answer("health 1700000003 web", checked("hello", name="1f"))
-no_answer("health 1700000003 web", checked("hello", retries=1001))
+no_answer("health 1700000003 web", checked("hello", name="1f"), request=INSPECT)
+no_answer("health 1700000003 web", checked("hello", retries=1001), request=INSPECT)
 no_answer("health 1700000003 web", checked("hello", interval=0), events())
 by("health 1700000003 web", message(404, "No such container: web"), err="No such container: web\n", status=125)
 by("health 1700000003 web", checked("hello"), err=NO_CONNECTION, status=125, missed=1)

@@ -15,7 +15,7 @@ use Rattle.machine_model.specs.History.{Charter, Extends, events_from, events_of
 use Rattle.machine_model.proofs.Histories.{events_append}
 use Rattle.session_model.specs.declared.followed.Followed.TheVariants as F
 use Rattle.session_model.specs.declared.turned.Part.TheVariants as P
-use Rattle.session_model.specs.Exchange.{EndsSo, IsBody}
+use Rattle.session_model.specs.Exchange.{EndsSo, IsBody, IsCaughtUp}
 use Rattle.session_model.specs.Moments.{ComesTo}
 use Rattle.session_model.proofs.HistoryLemmas.{extends_same}
 use Rattle.daemon_core.specs.EventTurns.{EventsSay, comes_to, is_over, is_past}
@@ -108,11 +108,11 @@ events_broken ch first (Some u) filters a b body place t =
     (lines_of filters (Some u) (drop place (events_of ch b)), sym (all_lines ch first (Some u) filters b body place t))
 
 -- the next one is kept no more
-pub events_gone : (ch : Charter) (first : ℕ) (until : Option ℕ) (filters : List FilterRow) (a b : List Step) (handed : ℕ) (body old new : List ℕ)
+pub events_gone : (ch : Charter) (first : ℕ) (until : Option ℕ) (filters : List FilterRow) (a b : List Step) (handed : ℕ) (body old new ms : List ℕ)
     (place next oldest : ℕ) → Extends a b → TellsEvents ch first until filters b body place
     → EventsSay ch b handed filters until place (P.Gone next oldest) old new
-    → EndsSo ch (EventStream first until filters) (F.Lagged next oldest) body a b
-events_gone ch first until filters a b handed body old new place next oldest extends t says = (
+    → EndsSo ch (EventStream first until filters) (F.Lagged next oldest) body ms a b
+events_gone ch first until filters a b handed body old new ms place next oldest extends t says = (
   subst (λ n. first ≤ n) (sym says.0) t.begins,
   t.tells ∙ ap (lines_between ch b filters until first) (sym says.0),
   says.2,
@@ -168,12 +168,14 @@ none_left : {A : Type 0} (xs : List A) (place : ℕ) → place ≡ length xs →
 none_left xs place is = drop_all place xs (omega (arith, is))
 
 -- all lines were told
-pub events_told : (ch : Charter) (first : ℕ) (until : Option ℕ) (filters : List FilterRow) (a b : List Step) (handed : ℕ) (body old new : List ℕ)
+pub events_told : (ch : Charter) (first : ℕ) (until : Option ℕ) (filters : List FilterRow) (a b : List Step) (handed : ℕ) (body old new ms : List ℕ)
     (place : ℕ) → TellsEvents ch first until filters b body place → EventsSay ch b handed filters until place P.UpToDate old new
-    → EndsSo ch (EventStream first until filters) F.Stopped body a b
-events_told ch first until filters a b handed body old new place t says =
-    sym (all_lines ch first until filters b body place t
-    ∙ ap (λ es. body ++ lines_of filters until es) (none_left (events_of ch b) place says.1) ∙ append-nil body)
+    → IsCaughtUp ch ms a b → EndsSo ch (EventStream first until filters) F.Stopped body ms a b
+events_told ch first until filters a b handed body old new ms place t says caught = (
+  sym (all_lines ch first until filters b body place t
+      ∙ ap (λ es. body ++ lines_of filters until es) (none_left (events_of ch b) place says.1) ∙ append-nil body),
+  caught,
+)
 
 and_true : (x : Bool) → (x && true) ≡ false → x ≡ false
 and_true true h = absurd (false≢true (sym h))

@@ -7,13 +7,14 @@ use Rattle.engine_ports.specs.Clock.{ClockView, ClockHanded, ClockStood}
 use Rattle.engine_ports.proofs.PortLemmas.{rose_since}
 use Rattle.engine_text.specs.declared.call.Call.{Call}
 use Rattle.engine_text.specs.declared.call.Call.TheVariants as call
+use Rattle.engine_text.specs.Soundness.{IsSound}
 use Rattle.engine_text.specs.declared.owner.Owner.{Owner}
 use Rattle.engine_text.specs.declared.reply.Reply.{Reply}
 use Rattle.engine_text.specs.declared.reply.Reply.TheVariants as reply
 use Rattle.engine_text.specs.declared.step.Step.{Step}
 use Rattle.machine_model.specs.State.{State}
 use Rattle.machine_model.specs.Calls.Feed.{feed_by, feed_end_by}
-use Rattle.machine_model.specs.History.{Charter, HasNone, input_of, is_drop, moment_used, opening_state, reply_of, state_after, state_from}
+use Rattle.machine_model.specs.History.{Charter, Extends, HasNone, input_of, is_drop, moment_used, opening_state, reply_of, state_after, state_from}
 use Rattle.journal_lines.specs.Room.{HasRoom}
 use Rattle.machine_model.specs.Statuses.{is_feed}
 use Rattle.machine_model.specs.Step.{at_moment}
@@ -22,10 +23,10 @@ use Rattle.session_model.specs.declared.followed.PumpEnd.TheVariants as P
 use Rattle.session_model.specs.declared.turned.Turned.{Turned}
 use Rattle.session_model.specs.declared.turned.Turned.TheVariants as T
 use Rattle.session_model.specs.Pass.{PassView}
-use Rattle.session_model.specs.Exchange.{IsMade, IsQuiet}
+use Rattle.session_model.specs.Exchange.{IsHeldUp, IsMade, IsQuiet}
 use Rattle.session_model.specs.Progress.{Moves}
-use Rattle.session_model.specs.Turning.{HasTicket, Turn, Turns, found}
-use Rattle.session_model.proofs.HistoryLemmas.{dues_none, extends_same, made_behind, none_append, quiet_same, run_append, some_none}
+use Rattle.session_model.specs.Turning.{HasTicket, Refuses, Turn, Turns, found}
+use Rattle.session_model.proofs.HistoryLemmas.{dues_done, dues_none, extends_on, extends_same, made_behind, none_append, quiet_same, run_append, some_none}
 use Rattle.session_model.proofs.DueLemmas.{dues_clock, some_clock}
 use Rattle.session_model.proofs.AddsLemmas.{turn_adds}
 use Rattle.session_model.proofs.TurnLemmas.{clock_alone, makes_call, moves_on, moves_same, seen_made, state_made, state_seen}
@@ -179,15 +180,38 @@ heard_full k handed c p q q2 u v w f clock t =
       cause = tt;
     }
 
-pub heard_stopped : (k handed : ℕ) (c : Call) (p q q2 : PassView) (u v w x : ClockView) → Asking k p q u v
+-- a turn that refuses it as not ready finds it held up
+held_up : (n handed : ℕ) (c : Call) (a : List Step) (p q : PassView) → IsSound c → Extends a p.seen → Turn n handed (Some c) T.NotYet p q
+    → IsHeldUp p.charter c a q.seen
+held_up n handed c a p q sound from t =
+    let says = t.says.1 in
+    let u : ℕ = moment_used (found n p q t.turns) handed in
+    let same = state_seen n p q t.turns in (
+      sound,
+      (
+        q.seen,
+        extends_on a p.seen q.seen from (turn_extends n p q t.turns),
+        extends_same q.seen,
+        (
+          u,
+          subst (λ s. Refuses p.charter s u c T.NotYet []) same
+              (dues_done (found n p q t.turns) u t.turns.own says.0, says.1, says.2),
+        ),
+      ),
+    )
+
+pub heard_stopped : (k handed : ℕ) (c : Call) (p q q2 : PassView) (u v w x : ClockView) → IsSound c → Asking k p q u v
     → ClockHanded v (handed ∷ []) w → Turn (input_of k) handed (Some c) T.NotYet q q2 → ClockStood w x → Rose w.stops x.stops
     → Hears k c (Err P.Stopped) p q2 u x
-heard_stopped k handed c p q q2 u v w x f clock t stood rose =
+heard_stopped k handed c p q q2 u v w x sound f clock t stood rose =
     let g = asks_again k handed c p q q2 u v w f clock t in
     let h = asks_pause k p q2 u w x g stood in
     record {
       moves = h.moves;
-      says = λ still. asks_quiet k p q2 u x h still;
+      says = λ still. (
+        asks_quiet k p q2 u x h still,
+        subst (λ ch. IsHeldUp ch c p.seen q2.seen) f.moves.stays.charter (held_up (input_of k) handed c p.seen q q2 sound f.moves.extends t),
+      );
       cause = rose_since u.stops w.stops x.stops g.moves.clock.stops rose;
     }
 

@@ -1,4 +1,5 @@
 pub mod WaitLemmas
+pub mod AwaitLemmas
 pub mod StatusLemmas
 pub mod RunLemmas
 pub mod LogLemmas
@@ -10,9 +11,11 @@ pub mod PieceLemmas
 pub mod StillLemmas
 pub mod StandLemmas
 pub mod FollowLemmas
+pub mod PartLemmas
 pub mod OpenLemmas
 pub mod AttachLemmas
 pub mod HearLemmas
 pub mod PumpLemmas
 pub mod OverLemmas
 pub mod SideLemmas
+pub mod ViewLemmas

@@ -1,21 +1,22 @@
 -- What was told of a log, as its history goes on, and where it ends.
-use Rattle.std.proofs.Common.{◌≡◌, ◌≤◌, ◌<◌, ℕ, List, [], ◌++◌, refl, sym, ◌∙◌, ap, arith, Bool, true, false, Option, Some, None, length, length-append}
-use Rattle.std.specs.Prelude.{IsTrue}
+use Rattle.std.proofs.Common.{◌≡◌, ◌≤◌, ◌<◌, ℕ, List, [], ◌++◌, refl, sym, ◌∙◌, ap, subst, arith, Bool, true, false, Option, Some, None, length, length-append}
+use Rattle.std.specs.Prelude.{IsTrue, nat_lt}
 use Rattle.std.proofs.lemmas.Bool.{false≢true}
 use Rattle.std.proofs.lemmas.Bool.Decides.{nat_tests}
 use Rattle.engine_text.specs.declared.log.LogRecord.{LogRecord}
+use Rattle.engine_text.specs.declared.owner.Owner.{Owner}
 use Rattle.engine_text.specs.declared.reply.LogSpec.{LogSpec}
 use Rattle.engine_text.specs.declared.reply.Reply.TheVariants.{LogStream}
 use Rattle.engine_text.specs.declared.step.Step.{Step}
 use Rattle.machine_model.specs.State.{State}
-use Rattle.machine_model.specs.LogStream.{is_kept, log_of, log_reach, log_end, log_bytes}
+use Rattle.machine_model.specs.LogStream.{first_kept_removal, is_kept, log_of, log_reach, log_end, log_bytes}
 use Rattle.machine_model.specs.History.{Charter, Extends, IsLegal, state_after}
 use Rattle.machine_model.proofs.Laws.{log_grows_law}
 use Rattle.session_model.specs.declared.followed.Followed.TheVariants as F
 use Rattle.session_model.specs.declared.turned.Part.TheVariants as P
-use Rattle.session_model.specs.Exchange.{EndsBehind, EndsSo, IsBody}
+use Rattle.session_model.specs.Exchange.{EndsBehind, EndsSo, IsBody, IsCaughtUp, IsLost}
 use Rattle.session_model.proofs.HistoryLemmas.{extends_same, extends_on}
-use Rattle.daemon_core.specs.LogTurns.{LogSays, ends_by, is_whole_at}
+use Rattle.daemon_core.specs.LogTurns.{LogSays, ends_by, is_gone, is_whole_at}
 use Rattle.attach_hub.specs.Following.{MayFollow}
 use Rattle.attach_hub.proofs.LogLemmas.{bytes_join, bytes_none, bytes_on, reach_on, reach_known, known_before}
 use Rattle.attach_hub.proofs.RunLemmas.{earlier_runs, legal_runs}
@@ -118,10 +119,10 @@ goes_behind s spec place unended end is =
     let h : ends_by (Some end) place ≡ false = sym (ap (λ x. ends_by x place) is) ∙ unended in grind (arith, nat_tests, h)
 
 -- the log is no longer kept: it is told to that place, as it last was
-pub log_gone : (ch : Charter) (spec : LogSpec) (a b : List Step) (body old new : List ℕ) (place next first : ℕ) → Extends a b
+pub log_gone : (ch : Charter) (spec : LogSpec) (a b : List Step) (body old new ms : List ℕ) (place next first : ℕ) → Extends a b
     → TellsLog ch spec a b body place → LogSays (state_after ch b) spec place (P.Gone next first) old new
-    → EndsSo ch (LogStream spec) (F.Lagged next first) body a b
-log_gone ch spec a b body old new place next first extends t says =
+    → EndsSo ch (LogStream spec) (F.Lagged next first) body ms a b
+log_gone ch spec a b body old new ms place next first extends t says =
     let s : State = state_after ch b in
     let behind = says.0 in (
       place,
@@ -137,20 +138,32 @@ log_gone ch spec a b body old new place next first extends t says =
       ),
     )
 
+-- a log that isn't gone isn't lost
+not_lost : (s : State) (owner : Owner) → is_gone s owner ≡ false → (removal first : ℕ) → IsLost s owner removal first → ⊥
+not_lost s owner stands removal first x =
+    let before : removal < first_kept_removal s = subst (λ n. removal < n) x.kept x.before in
+    let less : nat_lt removal (first_kept_removal s) ≡ true = grind (arith, nat_tests, before) in
+    let gone : is_gone s owner ≡ true = rw (x.lost, x.removed) less in
+    false≢true (sym stands ∙ gone)
+
 -- it was up to date: all that the log has was told
-pub log_told : (ch : Charter) (spec : LogSpec) (a b : List Step) (body old new : List ℕ) (place : ℕ) → IsLegal ch b
-    → TellsLog ch spec a b body place → LogSays (state_after ch b) spec place P.UpToDate old new
-    → EndsSo ch (LogStream spec) F.Stopped body a b
-log_told ch spec a b body old new place legal t says =
+pub log_told : (ch : Charter) (spec : LogSpec) (a b : List Step) (body old new ms : List ℕ) (place : ℕ) → IsLegal ch b
+    → TellsLog ch spec a b body place → LogSays (state_after ch b) spec place P.UpToDate old new → IsCaughtUp ch ms a b
+    → EndsSo ch (LogStream spec) F.Stopped body ms a b
+log_told ch spec a b body old new ms place legal t says caught =
     let s : State = state_after ch b in
     let reached : length (log_of s spec.owner) ≤ place = says.1 in (
-      λ kept.
-          let more = grown ch spec a b body place t legal kept in
-          let sum = ap length more.1 ∙ length-append (log_of (state_after ch t.at) spec.owner) more.0 in
-          let logged = t.logged in
-          let same : place ≡ length (log_of s spec.owner) = omega (arith, sum, logged, reached) in
-          still_tells ch spec a b body place t legal kept ∙ ap (log_bytes s spec spec.first) same,
-      λ end is. let far = goes_behind s spec place says.0.0 end is in omega (arith, far, reached),
+      (
+        λ kept.
+            let more = grown ch spec a b body place t legal kept in
+            let sum = ap length more.1 ∙ length-append (log_of (state_after ch t.at) spec.owner) more.0 in
+            let logged = t.logged in
+            let same : place ≡ length (log_of s spec.owner) = omega (arith, sum, logged, reached) in
+            still_tells ch spec a b body place t legal kept ∙ ap (log_bytes s spec spec.first) same,
+        λ end is. let far = goes_behind s spec place says.0.0 end is in omega (arith, far, reached),
+        not_lost s spec.owner says.0.1,
+      ),
+      caught,
     )
 
 -- ---- a stream that is whole

@@ -16,13 +16,14 @@ use Rattle.session_model.specs.declared.followed.Followed.{Followed}
 use Rattle.session_model.specs.declared.followed.Followed.TheVariants as F
 use Rattle.session_model.specs.Exchange.{IsBody, is_whole}
 use Rattle.session_model.specs.Pass.{PassView}
-use Rattle.session_model.specs.Progress.{Moves}
+use Rattle.session_model.specs.Progress.{Moves, GoesOver}
 use Rattle.session_model.specs.Session.{FollowCause}
 use Rattle.session_model.proofs.AddsLemmas.{owns}
 use Rattle.session_model.proofs.HistoryLemmas.{extends_same}
 use Rattle.session_model.proofs.TurnLemmas.{same_pass}
 use Rattle.attach_hub.specs.Following.{FollowsSince, HasCause, IsTaken, IsWholeBy, MayFollow}
-use Rattle.attach_hub.specs.Sides.{GoesOver, RunsOver}
+use Rattle.attach_hub.specs.Sides.{RunsOver}
+use Rattle.attach_hub.specs.Connection.{view_of}
 
 -- ---- its body
 
@@ -70,9 +71,10 @@ goes_alone k pumped p q v v' pair moves = record {
 }
 
 -- its run takes no input
-pub runs_unfed : (k : ℕ) (spec : LogSpec) (f : Followed) (p q : PassView) (ahead : List ℕ) (s : SourceView) (u u' : SinkView)
+pub runs_unfed : {n m : ℕ} {l l1 l2 l3 : ℕ × ℕ × ℕ} (k : ℕ) (spec : LogSpec) (f : Followed) (p q : PassView) (ahead : List ℕ) (s : SourceView) (u u' : SinkView)
     (v v' : ClockView) → IsTrue p.pair → MayFollow (state_after p.charter p.seen) spec → spec.feed ≡ None
-    → FollowsSince k (LogStream spec) false f p q u u' v v' → RunsOver k spec f None p q ahead (outside s u v) (outside s u' v')
+    → FollowsSince (LogStream spec) false f (view_of k l2 p u v) (view_of m l3 q u' v') → RunsOver spec f None (view_of k l p u v) (view_of n l1 q u' v') ahead s s
+unfolding goes_alone
 runs_unfed k spec f p q ahead s u u' v v' pair may none since =
     let sent = since.since p.seen (extends_same p.seen) may in
     record {

@@ -1,12 +1,12 @@
 -- Pumping goes on piece by piece, and ends.
-use Rattle.std.proofs.Common.{◌≡◌, ◌<◌, ◌≤◌, ℕ, Bool, arith, length, List, [], ◌∷◌, ◌++◌, refl, sym, ◌∙◌, ap, subst, append_assoc, append-nil, true, false, Some, Result, Ok, Err}
+use Rattle.std.proofs.Common.{◌≡◌, ◌<◌, ◌≤◌, ℕ, Bool, arith, inl, inr, length, List, [], ◌∷◌, ◌++◌, refl, sym, ◌∙◌, ap, subst, append_assoc, append-nil, true, false, Some, Result, Ok, Err}
 use Rattle.std.specs.Prelude.{IsTrue, nat_le, ◌&&◌}
 use Rattle.std.specs.List.{concat}
 use Rattle.std.proofs.lemmas.Bool.Decides.{nat_tests}
 use Rattle.engine_text.specs.Soundness.{IsSound, is_full}
 use Rattle.engine_ports.specs.Rose.{Rose}
 use Rattle.engine_ports.specs.Source.{SourceEnded, SourceGave, SourceView}
-use Rattle.engine_ports.specs.Sink.{SinkView}
+use Rattle.engine_ports.specs.Sink.{IsFront, SinkView}
 use Rattle.engine_ports.specs.Clock.{ClockView}
 use Rattle.engine_ports.specs.Door.{outside}
 use Rattle.engine_ports.proofs.PortLemmas.{rose_since, source_none, source_on}
@@ -163,22 +163,23 @@ piece_gone k spec run p q piece a b s s' v v' feed reached h = record {
 
 -- a call that wasn't made ends the pump
 unmade_out : (ch : Charter) (k : ℕ) (owner : Owner) (run : ℕ) (piece left : List ℕ) (end : PumpEnd) (a b : List Step) (v v' : ClockView)
-    → HeardCause (Err end) v v' → HeardSays ch k (Feed owner run piece) (Err end) a b → PumpsOut ch k owner run left end a b
-unmade_out ch k owner run piece left P.Ended a b v v' cause says = absurd cause
-unmade_out ch k owner run piece left P.Gone a b v v' cause says = absurd cause
-unmade_out ch k owner run piece left P.Stopped a b v v' cause says = says
-unmade_out ch k owner run piece left P.JournalFull a b v v' cause says = says
-unmade_out ch k owner run piece left P.ReadFault a b v v' cause says = absurd cause
-unmade_out ch k owner run piece left P.NoMemory a b v v' cause says = says
+    → IsFront piece left → HeardCause (Err end) v v' → HeardSays ch k (Feed owner run piece) (Err end) a b → PumpsOut ch k owner run left end a b
+unmade_out ch k owner run piece left P.Ended a b v v' front cause says = absurd cause
+unmade_out ch k owner run piece left P.Gone a b v v' front cause says = absurd cause
+unmade_out ch k owner run piece left P.Stopped a b v v' front cause (quiet, held) =
+    (quiet, (Feed owner run piece, inl (piece, front, refl), held))
+unmade_out ch k owner run piece left P.JournalFull a b v v' front cause says = says
+unmade_out ch k owner run piece left P.ReadFault a b v v' front cause says = absurd cause
+unmade_out ch k owner run piece left P.NoMemory a b v v' front cause says = says
 
-unmade_end : (ch : Charter) (k : ℕ) (owner : Owner) (run : ℕ) (left : List ℕ) (end : PumpEnd) (a b : List Step) (v v' : ClockView)
-    → HeardCause (Err end) v v' → HeardSays ch k (FeedEnd owner run) (Err end) a b → PumpsOut ch k owner run left end a b
-unmade_end ch k owner run left P.Ended a b v v' cause says = absurd cause
-unmade_end ch k owner run left P.Gone a b v v' cause says = absurd cause
-unmade_end ch k owner run left P.Stopped a b v v' cause says = says
-unmade_end ch k owner run left P.JournalFull a b v v' cause says = says
-unmade_end ch k owner run left P.ReadFault a b v v' cause says = absurd cause
-unmade_end ch k owner run left P.NoMemory a b v v' cause says = says
+unmade_end : (ch : Charter) (k : ℕ) (owner : Owner) (run : ℕ) (end : PumpEnd) (a b : List Step) (v v' : ClockView)
+    → HeardCause (Err end) v v' → HeardSays ch k (FeedEnd owner run) (Err end) a b → PumpsOut ch k owner run [] end a b
+unmade_end ch k owner run P.Ended a b v v' cause says = absurd cause
+unmade_end ch k owner run P.Gone a b v v' cause says = absurd cause
+unmade_end ch k owner run P.Stopped a b v v' cause (quiet, held) = (quiet, (FeedEnd owner run, inr (refl, refl), held))
+unmade_end ch k owner run P.JournalFull a b v v' cause says = says
+unmade_end ch k owner run P.ReadFault a b v v' cause says = absurd cause
+unmade_end ch k owner run P.NoMemory a b v v' cause says = says
 
 unmade_cause : (end : PumpEnd) (s s' : SourceView) (u u' : SinkView) (v v' : ClockView) → HeardCause (Err end) v v'
     → PumpCause (Some end) (outside s u v) (outside s' u' v')
@@ -197,7 +198,7 @@ piece_unfed k spec run end p q piece a b s s' v v' feed reached h = record {
   read = reached.read;
   source = reached.gave;
   says = λ still. at_once p.charter k spec run end (a ++ reached.read) p.seen q.seen feed
-      (unmade_out p.charter k spec.owner run piece (a ++ reached.read) end p.seen q.seen v v' h.cause (h.says still));
+      (unmade_out p.charter k spec.owner run piece (a ++ reached.read) end p.seen q.seen v v' (b, sym reached.holds) h.cause (h.says still));
   cause = λ u u'. unmade_cause end s s' u u' v v' h.cause;
 }
 
@@ -222,7 +223,7 @@ told_by k spec run (Err end) p q s s' v v' feed gave ended h = record {
   read = [];
   source = gave;
   says = λ still. at_once p.charter k spec run end [] p.seen q.seen feed
-      (unmade_end p.charter k spec.owner run [] end p.seen q.seen v v' h.cause (h.says still));
+      (unmade_end p.charter k spec.owner run end p.seen q.seen v v' h.cause (h.says still));
   cause = λ u u'. unmade_cause end s s' u u' v v' h.cause;
 }
 
@@ -234,12 +235,12 @@ input_ended k spec run end p q a s s' v v' feed none gave ended (heard, h, is) =
 
 -- a read failed
 pub read_failed : (k : ℕ) (spec : LogSpec) (run : ℕ) (p : PassView) (a : List ℕ) (s s' : SourceView) (v : ClockView) → spec.feed ≡ Some run
-    → SourceGave s [] s' → Rose s.faults s'.faults → PumpsInput k spec P.ReadFault p p a s s' v v
-read_failed k spec run p a s s' v feed gave rose = record {
+    → a ≡ [] → SourceGave s [] s' → Rose s.faults s'.faults → PumpsInput k spec P.ReadFault p p a s s' v v
+read_failed k spec run p a s s' v feed none gave rose = record {
   moves = moves_same (input_of k) p v;
   read = [];
   source = gave;
-  says = λ still. at_once p.charter k spec run P.ReadFault (a ++ []) p.seen p.seen feed (quiet_same k p.seen);
+  says = λ still. at_once p.charter k spec run P.ReadFault (a ++ []) p.seen p.seen feed (append-nil a ∙ none, quiet_same k p.seen);
   cause = λ u u'. rose;
 }
 

@@ -28,11 +28,15 @@ use Rattle.attach_hub.specs.Pumping.{PumpsInput}
 use Rattle.attach_hub.specs.Sides.{RunsOver}
 use Rattle.attach_hub.proofs.OverLemmas.{cause_of, told_so}
 use Rattle.attach_hub.proofs.StillLemmas.{quiet_both, still_alone, still_between}
+use Rattle.attach_hub.specs.Connection.{view_of}
 
 -- ---- what was said between two histories stands between longer ones
 
 at_some : (a b c : List Step) (P : List Step → Type 0) → Extends b c → AtSome a b P → AtSome a c P
 at_some a b c P behind (at, from, to, holds) = (at, from, extends_on at b c to behind, holds)
+
+at_later : (a b c : List Step) (P : List Step → Type 0) → Extends a b → AtSome b c P → AtSome a c P
+at_later a b c P before (at, from, to, holds) = (at, extends_on a b at before from, to, holds)
 
 body_before : (ch : Charter) (spec : LogSpec) (whole : Bool) (a b c : List Step) (body : List ℕ) → Extends b c
     → IsBody ch (LogStream spec) whole a b body → IsBody ch (LogStream spec) whole a c body
@@ -44,8 +48,9 @@ out_before : (ch : Charter) (k : ℕ) (spec : LogSpec) (n : ℕ) (left : List �
 out_before ch k spec n left P.Ended a b c quiet e (none, (taken, made)) = (none, (taken, made_before ch k (input_of k) _ a b c _ made quiet))
 out_before ch k spec n left P.Gone a b c quiet e (piece, front, made) = (piece, front, made_before ch k (input_of k) _ a b c _ made quiet)
 out_before ch k spec n left P.JournalFull a b c quiet e (q, at) = (quiet_on k a b c q quiet, (at.0, at.1, extends_on at.0 b c at.2 e, at.3))
-out_before ch k spec n left P.Stopped a b c quiet e q = quiet_on k a b c q quiet
-out_before ch k spec n left P.ReadFault a b c quiet e q = quiet_on k a b c q quiet
+out_before ch k spec n left P.Stopped a b c quiet e (q, (x, asked, held)) =
+    (quiet_on k a b c q quiet, (x, asked, (held.0, at_some a b c _ e held.1)))
+out_before ch k spec n left P.ReadFault a b c quiet e (none, q) = (none, quiet_on k a b c q quiet)
 out_before ch k spec n left P.NoMemory a b c quiet e q = quiet_on k a b c q quiet
 
 out_behind : (ch : Charter) (k : ℕ) (spec : LogSpec) (n : ℕ) (left : List ℕ) (end : PumpEnd) (a b c : List Step) → IsQuiet k a b → Extends a b
@@ -53,8 +58,9 @@ out_behind : (ch : Charter) (k : ℕ) (spec : LogSpec) (n : ℕ) (left : List �
 out_behind ch k spec n left P.Ended a b c quiet e (none, (taken, made)) = (none, (taken, made_behind ch k (input_of k) _ a b c _ quiet made))
 out_behind ch k spec n left P.Gone a b c quiet e (piece, front, made) = (piece, front, made_behind ch k (input_of k) _ a b c _ quiet made)
 out_behind ch k spec n left P.JournalFull a b c quiet e (q, at) = (quiet_on k a b c quiet q, (at.0, extends_on a b at.0 e at.1, at.2, at.3))
-out_behind ch k spec n left P.Stopped a b c quiet e q = quiet_on k a b c quiet q
-out_behind ch k spec n left P.ReadFault a b c quiet e q = quiet_on k a b c quiet q
+out_behind ch k spec n left P.Stopped a b c quiet e (q, (x, asked, held)) =
+    (quiet_on k a b c quiet q, (x, asked, (held.0, at_later a b c _ e held.1)))
+out_behind ch k spec n left P.ReadFault a b c quiet e (none, q) = (none, quiet_on k a b c quiet q)
 out_behind ch k spec n left P.NoMemory a b c quiet e q = quiet_on k a b c quiet q
 
 pumps_behind : (ch : Charter) (k : ℕ) (spec : LogSpec) (n : ℕ) (end : PumpEnd) (pieces : List (List ℕ)) (left : List ℕ) (a b mid c : List Step)
@@ -113,12 +119,12 @@ only_some k h = cc
 not_input : (k : ℕ) → k ≡ input_of k → ⊥
 not_input k is = omega (arith, is)
 
-pub one_by_one : (k : ℕ) (spec : LogSpec) (end : PumpEnd) (f : Followed) (p0 p q r : PassView) (ahead : List ℕ) (s s' : SourceView) (u u' : SinkView)
+pub one_by_one : {n m : ℕ} {l l1 l2 l3 : ℕ × ℕ × ℕ} (k : ℕ) (spec : LogSpec) (end : PumpEnd) (f : Followed) (p0 p q r : PassView) (ahead : List ℕ) (s s' : SourceView) (u u' : SinkView)
     (v t mine twin w : ClockView) → IsTrue p0.pair → MayFollow (state_after p0.charter p0.seen) spec → IsUndivided p0 p → HasItsCalls p → HasItsCalls q
     → t ≡ twin_of v → w ≡ rejoined mine twin
-    → PumpsInput k spec end p q ahead s s' t twin → FollowsSince k (LogStream spec) false f q r u u' v mine → RunsOver k spec f (Some end) p0 r ahead (outside s u v) (outside s' u' w)
-one_by_one k spec end f p0 p q r ahead s s' u u' v t mine twin w pair may alone its its' at is pumped since =
-    subst (λ x. RunsOver k spec f (Some end) x r ahead (outside s u v) (outside s' u' w)) alone.same (
+    → PumpsInput k spec end p q ahead s s' t twin → FollowsSince (LogStream spec) false f (view_of k l2 q u v) (view_of m l3 r u' mine) → RunsOver spec f (Some end) (view_of k l p0 u v) (view_of n l1 r u' w) ahead s s'
+one_by_one {n = n} {l = l} {l1 = l1} k spec end f p0 p q r ahead s s' u u' v t mine twin w pair may alone its its' at is pumped since =
+    subst (λ x. RunsOver spec f (Some end) (view_of k l x u v) (view_of n l1 r u' w) ahead s s') alone.same (
     let pair' : IsTrue p.pair = subst (λ (x : PassView). IsTrue x.pair) (sym alone.same) pair in
     let every : p.number ≡ Every = ap (λ (x : PassView). x.number) alone.same ∙ alone.every in
     let stays = pumped.moves.stays in
@@ -142,7 +148,7 @@ one_by_one k spec end f p0 p q r ahead s s' u u' v t mine twin w pair may alone 
         r.seen,
         extends_on p.seen q.seen r.seen pumped.moves.extends behind,
         extends_same r.seen,
-        subst (λ ch. EndsSo ch (LogStream spec) f followed.body p.seen r.seen) stays.charter followed.ends,
+        subst (λ ch. EndsSo ch (LogStream spec) f followed.body followed.moves.handed p.seen r.seen) stays.charter followed.ends,
       );
       taken = subst (IsTaken f followed.part) followed.pieces followed.taken;
       sink = followed.sink;
@@ -179,16 +185,16 @@ still_other k p q q2 o o2 parted theirs mine = record {
   none_joined = theirs.joined_calls ∙ parted.none_joined;
 }
 
-pub is_other : (k : ℕ) (spec : LogSpec) (end : PumpEnd) (f : Followed) (p q q2 o o2 : PassView) (ahead : List ℕ) (s s' : SourceView) (u u' : SinkView)
+pub is_other : {m : ℕ} {l2 l3 : ℕ × ℕ × ℕ} (k : ℕ) (spec : LogSpec) (end : PumpEnd) (f : Followed) (p q q2 o o2 : PassView) (ahead : List ℕ) (s s' : SourceView) (u u' : SinkView)
     (v t mine twin : ClockView) → MayFollow (state_after p.charter p.seen) spec → Parted k p q o → PumpsInput k spec end o o2 ahead s s' t twin
-    → FollowsSince k (LogStream spec) false f q q2 u u' v mine → IsOther k q2 o2
+    → FollowsSince (LogStream spec) false f (view_of k l2 q u v) (view_of m l3 q2 u' mine) → IsOther k q2 o2
 is_other k spec end f p q q2 o o2 ahead s s' u u' v t mine twin may parted pumped since =
     let followed = since.since p.seen parted.behind (subst (λ ch. CanFollow ch p.seen (LogStream spec)) (sym parted.same.charter) may) in
     still_other k p q q2 o o2 parted pumped.moves.stays followed.moves.stays
 
-pub side_by_side : (k : ℕ) (spec : LogSpec) (end : PumpEnd) (f : Followed) (p q o q2 o2 r : PassView) (ahead : List ℕ) (s s' : SourceView) (u u' : SinkView)
+pub side_by_side : {n m : ℕ} {l l1 l2 l3 : ℕ × ℕ × ℕ} (k : ℕ) (spec : LogSpec) (end : PumpEnd) (f : Followed) (p q o q2 o2 r : PassView) (ahead : List ℕ) (s s' : SourceView) (u u' : SinkView)
     (v t mine twin w : ClockView) → MayFollow (state_after p.charter p.seen) spec → Parted k p q o → Rejoined k q2 o2 r → t ≡ twin_of v → w ≡ rejoined mine twin
-    → PumpsInput k spec end o o2 ahead s s' t twin → FollowsSince k (LogStream spec) false f q q2 u u' v mine → RunsOver k spec f (Some end) p r ahead (outside s u v) (outside s' u' w)
+    → PumpsInput k spec end o o2 ahead s s' t twin → FollowsSince (LogStream spec) false f (view_of k l2 q u v) (view_of m l3 q2 u' mine) → RunsOver spec f (Some end) (view_of k l p u v) (view_of n l1 r u' w) ahead s s'
 side_by_side k spec end f p q o q2 o2 r ahead s s' u u' v t mine twin w may parted joined at is pumped since =
     let charter : q.charter ≡ p.charter = parted.same.charter in
     let followed = since.since p.seen parted.behind (subst (λ ch. CanFollow ch p.seen (LogStream spec)) (sym charter) may) in
@@ -220,7 +226,7 @@ side_by_side k spec end f p q o q2 o2 r ahead s s' u u' v t mine twin w may part
         q2.seen,
         extends_on p.seen q.seen q2.seen parted.behind q_on,
         joined.mine,
-        subst (λ ch. EndsSo ch (LogStream spec) f followed.body p.seen q2.seen) charter followed.ends,
+        subst (λ ch. EndsSo ch (LogStream spec) f followed.body followed.moves.handed p.seen q2.seen) charter followed.ends,
       );
       taken = subst (IsTaken f followed.part) followed.pieces followed.taken;
       sink = followed.sink;
@@ -251,14 +257,13 @@ side_by_side k spec end f p q o q2 o2 r ahead s s' u u' v t mine twin w may part
 log_comes : (spec : LogSpec) (f : Followed) (ms : List ℕ) → ComesTo (LogStream spec) f ms
 log_comes spec f ms = tt
 
-unfinished : (base : List Step) (k : ℕ) (spec : LogSpec) (p q : PassView) (u u' u2 : SinkView) (v v' : ClockView)
-    → FollowsFrom base k (LogStream spec) false F.Whole p q u u' v v' → SinkTook u' [] u2 → Rose u'.faults u2.faults
-    → FollowsFrom base k (LogStream spec) false F.WriteFault p q u u2 v v'
+unfinished : {n m : ℕ} {l l' l1 : ℕ × ℕ × ℕ} (base : List Step) (k : ℕ) (spec : LogSpec) (p q : PassView) (u u' u2 : SinkView) (v v' : ClockView)
+    → FollowsFrom base (LogStream spec) false F.Whole (view_of k l p u v) (view_of n l' q u' v') → SinkTook u' [] u2 → Rose u'.faults u2.faults
+    → FollowsFrom base (LogStream spec) false F.WriteFault (view_of k l p u v) (view_of m l1 q u2 v')
 unfinished base k spec p q u u' u2 v v' f took rose = record {
   moves = f.moves;
   still = f.still;
   quiet = f.quiet;
-  timed = f.timed;
   whole = f.whole;
   by_end = tt;
   comes = log_comes spec (if f.whole then F.Whole else F.WriteFault) f.moves.handed;
@@ -273,14 +278,13 @@ unfinished base k spec p q u u' u2 v v' f took rose = record {
   cause = rose_since u.faults u'.faults u2.faults f.sink.faults rose;
 }
 
-finished : (base : List Step) (k : ℕ) (spec : LogSpec) (p q : PassView) (u u' u2 : SinkView) (v v' : ClockView)
-    → FollowsFrom base k (LogStream spec) false F.Whole p q u u' v v' → SinkTook u' [] u2
-    → FollowsFrom base k (LogStream spec) false F.Whole p q u u2 v v'
+finished : {n m : ℕ} {l l' l1 : ℕ × ℕ × ℕ} (base : List Step) (k : ℕ) (spec : LogSpec) (p q : PassView) (u u' u2 : SinkView) (v v' : ClockView)
+    → FollowsFrom base (LogStream spec) false F.Whole (view_of k l p u v) (view_of n l' q u' v') → SinkTook u' [] u2
+    → FollowsFrom base (LogStream spec) false F.Whole (view_of k l p u v) (view_of m l1 q u2 v')
 finished base k spec p q u u' u2 v v' f took = record {
   moves = f.moves;
   still = f.still;
   quiet = f.quiet;
-  timed = f.timed;
   whole = f.whole;
   by_end = f.by_end;
   comes = f.comes;
@@ -295,10 +299,10 @@ finished base k spec p q u u' u2 v v' f took = record {
   cause = tt;
 }
 
-pub ends_unfinished : (k : ℕ) (spec : LogSpec) (p q : PassView) (u u' u2 : SinkView) (v v' : ClockView) → FollowsSince k (LogStream spec) false F.Whole p q u u' v v'
-    → SinkTook u' [] u2 → Rose u'.faults u2.faults → FollowsSince k (LogStream spec) false F.WriteFault p q u u2 v v'
+pub ends_unfinished : {n m : ℕ} {l l' l1 : ℕ × ℕ × ℕ} (k : ℕ) (spec : LogSpec) (p q : PassView) (u u' u2 : SinkView) (v v' : ClockView) → FollowsSince (LogStream spec) false F.Whole (view_of k l p u v) (view_of n l' q u' v')
+    → SinkTook u' [] u2 → Rose u'.faults u2.faults → FollowsSince (LogStream spec) false F.WriteFault (view_of k l p u v) (view_of m l1 q u2 v')
 ends_unfinished k spec p q u u' u2 v v' f took rose = record { since = λ base e may. unfinished base k spec p q u u' u2 v v' (f.since base e may) took rose }
 
-pub ends_finished : (k : ℕ) (spec : LogSpec) (p q : PassView) (u u' u2 : SinkView) (v v' : ClockView) → FollowsSince k (LogStream spec) false F.Whole p q u u' v v'
-    → SinkTook u' [] u2 → FollowsSince k (LogStream spec) false F.Whole p q u u2 v v'
+pub ends_finished : {n m : ℕ} {l l' l1 : ℕ × ℕ × ℕ} (k : ℕ) (spec : LogSpec) (p q : PassView) (u u' u2 : SinkView) (v v' : ClockView) → FollowsSince (LogStream spec) false F.Whole (view_of k l p u v) (view_of n l' q u' v')
+    → SinkTook u' [] u2 → FollowsSince (LogStream spec) false F.Whole (view_of k l p u v) (view_of m l1 q u2 v')
 ends_finished k spec p q u u' u2 v v' f took = record { since = λ base e may. finished base k spec p q u u' u2 v v' (f.since base e may) took }

@@ -20,7 +20,7 @@ pub record Stands (k : ℕ) (p q : PassView) (v v' : ClockView) : Type 0 where
   pub still : IsStill k p.seen q.seen
   pub quiet : IsTrue p.pair → IsQuiet k p.seen q.seen
 
-pub stands_same : (k : ℕ) (p : PassView) (v : ClockView) → Stands k p p v v
+unfoldable pub stands_same : (k : ℕ) (p : PassView) (v : ClockView) → Stands k p p v v
 stands_same k p v = record { moves = moves_same k p v; still = refl; quiet = λ pair. quiet_same k p.seen }
 
 unfoldable pub stands_on : (k : ℕ) (p q r : PassView) (u v w : ClockView) → Stands k p q u v → Stands k q r v w → Stands k p r u w
@@ -79,7 +79,7 @@ turn_stands k handed p q turns v w none late clock =
     }
 
 -- that made no step at all
-pub look_stands : (k : ℕ) (p q : PassView) (turns : Turns k p q) (v w : ClockView) → turns.own ≡ [] → w ≡ v → Stands k p q v w
+unfoldable pub look_stands : (k : ℕ) (p q : PassView) (turns : Turns k p q) (v w : ClockView) → turns.own ≡ [] → w ≡ v → Stands k p q v w
 look_stands k p q turns v w unmoved same =
     let extends = turn_extends k p q turns in
     let none : HasNone k turns.own = ap (own_calls k) unmoved in

@@ -19,6 +19,7 @@ use Rattle.machine_model.specs.History.{Charter, IsLegal, AreLawful, HasNone, ow
 use Rattle.machine_model.proofs.Histories.{lawful_back}
 use Rattle.session_model.specs.declared.turned.Turned.{Turned}
 use Rattle.session_model.specs.declared.turned.Turned.TheVariants as T
+use Rattle.session_model.specs.declared.turned.Awaited.{Awaited}
 use Rattle.session_model.specs.declared.turned.Awaited.TheVariants as A
 use Rattle.session_model.specs.Pass.{PassView}
 use Rattle.session_model.specs.Turning.{Turn, Makes, HasBegun, ends_ticket, found}
@@ -30,7 +31,7 @@ use Rattle.session_model.proofs.AddsLemmas.{turn_adds}
 use Rattle.session_model.proofs.TurnLemmas.{moves_same, moves_on, makes_call, seen_made, turn_made, turn_made_at, turn_opens, turn_quiet, turn_rests, state_made, clock_alone}
 use Rattle.daemon_core.specs.Whole.{IsAnswer}
 use Rattle.daemon_core.proofs.CallLemmas.{call_at, have_replies, take_answers}
-use Rattle.attach_hub.specs.Waiting.{Awaits, AwaitsBy, Drops, IsDropped}
+use Rattle.attach_hub.specs.Waiting.{AwaitSays, AwaitsBy, IsDropped}
 
 -- ---- a ticket that was begun
 
@@ -96,6 +97,16 @@ pub begun_rests : (k n : ℕ) (p q : PassView) (v w : ClockView) → HasBegun p.
 begun_rests k n p q v w begun rests =
     subst (λ ch. HasBegun ch k n q.seen) (sym rests.moves.stays.charter) (begun_on p.charter k n p.seen q.seen begun rests.quiet)
 
+-- ---- what is told of pass and clock
+
+pub record WaitsSo (k n : ℕ) (result : Awaited) (p q : PassView) (v v' : ClockView) : Type 0 where
+  pub moves : Moves k p q v v'
+  pub says : AwaitSays p.charter k n p.seen q.seen result moves.handed v v'
+
+pub record GivesUp (k n : ℕ) (p q : PassView) (v : ClockView) : Type 0 where
+  pub made : IsDropped p.charter k n p.seen q.seen
+  pub moves : Moves k p q v v
+
 -- ---- what a turn answers to a take
 
 pub not_yet : (k handed n : ℕ) (p q : PassView) (v w : ClockView) → IsTrue p.pair → ClockHanded v (handed ∷ []) w
@@ -139,7 +150,7 @@ begun_whole : (k handed n m : ℕ) (p q : PassView) → Turn k handed (Some (Tak
 begun_whole k handed n m p q t = made_whole k handed n (reply.Begun m) (T.Begun m) p q t t.says
 
 pub taken : (k handed n : ℕ) (r : Reply) (p q q2 : PassView) (u v w : ClockView) → IsTrue q.pair → Rests k p q u v → ClockHanded v (handed ∷ []) w
-    → Turn k handed (Some (Take n)) (T.Replied r) q q2 → Awaits k n (A.Replied r) p q2 u w
+    → Turn k handed (Some (Take n)) (T.Replied r) q q2 → WaitsSo k n (A.Replied r) p q2 u w
 unfolding moves_on turn_opens
 taken k handed n r p q q2 u v w pair rests clock t =
     let m = makes_call q.charter _ k handed (Take n) t.turns.own r refl t.says.1 in
@@ -170,15 +181,16 @@ take_never k handed n x p q turn (inr (inr is)) =
 
 -- ---- a drop
 
-pub drop_says : (k n handed : ℕ) (r : Reply) (p q : PassView) → IsTrue p.pair → Turn k handed (Some (Drop n)) (T.Replied r) p q → Drops k n p q
-drop_says k n handed r p q pair t =
+pub drop_says : (k n handed : ℕ) (r : Reply) (p q : PassView) (v : ClockView) → IsTrue p.pair → Turn k handed (Some (Drop n)) (T.Replied r) p q
+    → GivesUp k n p q v
+drop_says k n handed r p q v pair t =
     let s : State = found k p q t.turns in
     let own : t.turns.own ≡ Step.Call k s.clock (Drop n) ∷ [] = t.says.1.1 in
     let last : List Step = Step.Call k s.clock (Drop n) ∷ [] in
     let at : q.seen ≡ p.seen ++ t.turns.others ++ last = t.turns.seen ∙ ap (λ x. p.seen ++ t.turns.others ++ x) own in
     record {
       made = (r, turn_made k s.clock (Drop n) r p q t.turns [] pair refl own t.says.1.0 t.says.1.2);
-      moves = λ v. record {
+      moves = record {
         extends = (t.turns.others ++ last, at ∙ append_assoc p.seen t.turns.others last);
         stays = t.turns.stays;
         adds = turn_adds k p q t.turns;
@@ -206,31 +218,29 @@ drop_never k handed n x p q turn (inr (inr (inr (inl is)))) =
 drop_never k handed n x p q turn (inr (inr (inr (inr is)))) =
     let t : Turn k handed (Some (Drop n)) T.NoMemory p q = subst (λ y. Turn k handed (Some (Drop n)) y p q) is turn in false≢true (sym t.says.0)
 
-dropped : (k n : ℕ) (p q r : PassView) (u v : ClockView) → Rests k p q u v → Drops k n q r → IsDropped p.charter k n p.seen r.seen
-dropped k n p q r u v rests d = (
+dropped : (k n : ℕ) (p q r : PassView) (u v w : ClockView) → Rests k p q u v → GivesUp k n q r w → IsDropped p.charter k n p.seen r.seen
+dropped k n p q r u v w rests d = (
   d.made.0,
   made_behind p.charter k k (Drop n) p.seen q.seen r.seen d.made.0 rests.quiet
       (subst (λ ch. IsMade ch k k (Drop n) q.seen r.seen d.made.0) rests.moves.stays.charter d.made.1),
 )
 
-pub stopped : (k n : ℕ) (p q r : PassView) (u v w : ClockView) → Rests k p q u v → ClockStood v w → Rose v.stops w.stops → Drops k n q r
-    → Awaits k n A.Stopped p r u w
+pub stopped : (k n : ℕ) (p q r : PassView) (u v w : ClockView) → Rests k p q u v → ClockStood v w → Rose v.stops w.stops → GivesUp k n q r w
+    → WaitsSo k n A.Stopped p r u w
 stopped k n p q r u v w rests stood rose d = record {
-  moves = moves_on k p q r u w w (rests_pause k p q u v w rests stood).moves (d.moves w);
-  says = (dropped k n p q r u v rests d, rose_since u.stops v.stops w.stops rests.moves.clock.stops rose);
+  moves = moves_on k p q r u w w (rests_pause k p q u v w rests stood).moves d.moves;
+  says = (dropped k n p q r u v w rests d, rose_since u.stops v.stops w.stops rests.moves.clock.stops rose);
 }
 
-pub given_up : (k n : ℕ) (p q r : PassView) (u v : ClockView) → Rests k p q u v → Drops k n q r → Awaits k n A.NoMemory p r u v
+pub given_up : (k n : ℕ) (p q r : PassView) (u v : ClockView) → Rests k p q u v → GivesUp k n q r v → WaitsSo k n A.NoMemory p r u v
 given_up k n p q r u v rests d = record {
-  moves = moves_on k p q r u v v rests.moves (d.moves v);
-  says = dropped k n p q r u v rests d;
+  moves = moves_on k p q r u v v rests.moves d.moves;
+  says = dropped k n p q r u v v rests d;
 }
 
 -- the peer was gone
-pub unread : (k n : ℕ) (p q r : PassView) (u v w : ClockView) → Rests k p q u v → w ≡ v → Drops k n q r → Awaits k n A.WriteFault p r u w
-unread k n p q r u v w rests same d =
-    subst (λ x. Awaits k n A.WriteFault p r u x) (sym same)
-    (record { moves = moves_on k p q r u v v rests.moves (d.moves v); says = dropped k n p q r u v rests d })
+pub unread : (k n : ℕ) (p q r : PassView) (u v : ClockView) → Rests k p q u v → GivesUp k n q r v → WaitsSo k n A.WriteFault p r u v
+unread k n p q r u v rests d = record { moves = moves_on k p q r u v v rests.moves d.moves; says = dropped k n p q r u v v rests d }
 
 pub unread_by : (u v w : SinkView) → v ≡ u → SinkTook v [] w → Rose v.faults w.faults → AwaitsBy A.WriteFault u w
 unread_by u v w same took rose = subst (λ x. SinkTook x [] w × Rose x.faults w.faults) same (took, rose)

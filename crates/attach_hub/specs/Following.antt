@@ -18,6 +18,7 @@ use Rattle.session_model.specs.Pass.{PassView}
 use Rattle.session_model.specs.Exchange.{IsQuiet, IsBody, EndsSo, is_whole}
 use Rattle.session_model.specs.Moments.{ComesTo}
 use Rattle.session_model.specs.Progress.{Moves}
+use Rattle.attach_hub.specs.Connection.{ConnectionView, view_of}
 
 -- ---- pieces of a body
 
@@ -58,11 +59,6 @@ abbrev pub IsWholeBy : Followed → Bool → Type 0
 IsWholeBy F.WriteFault whole = Unit {0}
 IsWholeBy followed whole = whole ≡ is_whole followed
 
--- of the journal the clock isn't asked
-abbrev pub IsTimed : Reply → ClockView → ClockView → Type 0
-IsTimed (JournalStream count) v v' = v' ≡ v
-IsTimed reply v v' = Unit {0}
-
 -- what rose outside
 abbrev pub HasCause : Followed → SinkView → SinkView → ClockView → ClockView → Type 0
 HasCause F.Stopped u u' v v' = Rose v.stops v'.stops
@@ -73,31 +69,34 @@ HasCause followed u u' v v' = Unit {0}
 abbrev pub IsStill : ℕ → List Step → List Step → Type 0
 IsStill k a b = calls_of k b ≡ calls_of k a
 
--- the stream of a reply was followed and ended so: connection k made no call, nor was any made for its standard
+-- the stream of a reply was followed and ended so: the connection made no call, nor was any made for its standard
 -- input while that number was its own; and of the body that the stream has between an earlier history and the last one
 -- the sink took these pieces
-pub record FollowsFrom (base : List Step) (k : ℕ) (reply : Reply) (chunked : Bool) (result : Followed) (p q : PassView) (u u' : SinkView) (v v' : ClockView) : Type 0 where
-  pub moves : Moves k p q v v'
-  pub still : IsStill k p.seen q.seen
-  pub quiet : IsTrue p.pair → IsQuiet k p.seen q.seen
-  pub timed : IsTimed reply v v'
+pub record FollowsFrom (base : List Step) (reply : Reply) (chunked : Bool) (result : Followed) (x y : ConnectionView) : Type 0 where
+  pub moves : Moves x.who.number x.pass y.pass x.clock y.clock
+  pub still : IsStill x.who.number x.pass.seen y.pass.seen
+  pub quiet : IsTrue x.pass.pair → IsQuiet x.who.number x.pass.seen y.pass.seen
   pub whole : Bool
   pub by_end : IsWholeBy result whole
   pub body : List ℕ
   pub sent : List ℕ
   pub part : List ℕ
-  pub tells : IsBody p.charter reply whole base q.seen body
-  pub ends : EndsSo p.charter reply result body base q.seen
+  pub tells : IsBody x.pass.charter reply whole base y.pass.seen body
+  pub ends : EndsSo x.pass.charter reply result body moves.handed base y.pass.seen
   pub comes : ComesTo reply (if whole then F.Whole else result) moves.handed
   pub pieces : IsSent chunked body sent
   pub taken : IsTaken result part sent
-  pub sink : SinkTook u part u'
-  pub cause : HasCause result u u' v v'
+  pub sink : SinkTook x.sink part y.sink
+  pub cause : HasCause result x.sink y.sink x.clock y.clock
 
 -- it was so between the two histories of the pass
-abbrev pub Follows : ℕ → Reply → Bool → Followed → PassView → PassView → SinkView → SinkView → ClockView → ClockView → Type 0
-Follows k reply chunked result p q = FollowsFrom p.seen k reply chunked result p q
+abbrev pub Follows : Reply → Bool → Followed → ConnectionView → ConnectionView → Type 0
+Follows reply chunked result x y = FollowsFrom x.pass.seen reply chunked result x y
 
 -- it was so, from whichever earlier history on it could be followed
-pub record FollowsSince (k : ℕ) (reply : Reply) (chunked : Bool) (result : Followed) (p q : PassView) (u u' : SinkView) (v v' : ClockView) : Type 0 where
-  pub since : (base : List Step) → Extends base p.seen → CanFollow p.charter base reply → FollowsFrom base k reply chunked result p q u u' v v'
+pub record FollowsSince (reply : Reply) (chunked : Bool) (result : Followed) (x y : ConnectionView) : Type 0 where
+  pub since : (base : List Step) → Extends base x.pass.seen → CanFollow x.pass.charter base reply → FollowsFrom base reply chunked result x y
+
+-- the stream of a log was followed as it is, by these turns, this sink and this clock, under whatever names they were lent
+pub record FollowsLent (k : ℕ) (spec : LogSpec) (result : Followed) (p q : PassView) (u u' : SinkView) (v v' : ClockView) : Type 0 where
+  pub since : (lent : ℕ × ℕ × ℕ) → FollowsSince (LogStream spec) false result (view_of k lent p u v) (view_of k lent q u' v')

@@ -1,3 +1,4 @@
+pub mod Connection
 pub mod Polling
 pub mod Waiting
 pub mod Streams

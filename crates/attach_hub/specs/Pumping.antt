@@ -17,7 +17,7 @@ use Rattle.journal_lines.specs.Room.{HasRoom}
 use Rattle.session_model.specs.declared.followed.PumpEnd.{PumpEnd}
 use Rattle.session_model.specs.declared.followed.PumpEnd.TheVariants as P
 use Rattle.session_model.specs.Pass.{PassView}
-use Rattle.session_model.specs.Exchange.{AtSome, IsMade, IsQuiet, Pumps}
+use Rattle.session_model.specs.Exchange.{AtSome, IsHeldUp, IsMade, IsQuiet, Pumps}
 use Rattle.session_model.specs.Progress.{Moves}
 use Rattle.session_model.specs.Session.{PumpCause}
 use Rattle.attach_hub.specs.Following.{IsStill}
@@ -30,12 +30,12 @@ IsFed (Fed taken) = Unit {0}
 IsFed reply = ⊥
 
 module _ (ch : Charter) (k : ℕ) where
-  -- it was made, and it was told whether it was taken; or it wasn't made, where the journal had no room, the wait for it was
-  -- stopped, or memory was refused
+  -- it was made, and it was told whether it was taken; or it wasn't made, where the journal had no room, it was held up when the
+  -- wait for it was stopped, or memory was refused
   abbrev pub HeardSays : Call → Result Bool PumpEnd → List Step → List Step → Type 0
   HeardSays c (Ok taken) a b = IsMade ch k (input_of k) c a b (Fed taken)
   HeardSays c (Err P.JournalFull) a b = IsQuiet k a b × AtSome a b (λ at. HasRoom ch (state_after ch at) c → ⊥)
-  HeardSays c (Err P.Stopped) a b = IsQuiet k a b
+  HeardSays c (Err P.Stopped) a b = IsQuiet k a b × IsHeldUp ch c a b
   HeardSays c (Err P.NoMemory) a b = IsQuiet k a b
   HeardSays c (Err end) a b = ⊥
 

@@ -1,17 +1,17 @@
 -- The streams that are followed, by the replies that give them, and a part of one (own).
 use Rattle.std.specs.Prelude.{ℕ, ◌≡◌, ◌<◌, ◌≤◌, List, [], ◌∷◌, length}
-use Rattle.engine_ports.specs.Clock.{ClockView, ClockHanded}
+use Rattle.engine_ports.specs.Clock.{ClockHanded}
 use Rattle.engine_text.specs.declared.reply.Reply.{Reply}
 use Rattle.engine_text.specs.declared.reply.Reply.TheVariants.{EventStream, JournalStream, LogStream}
 use Rattle.engine_text.specs.declared.step.Step.{Step}
 use Rattle.machine_model.specs.History.{Charter, events_of, state_after}
-use Rattle.session_model.specs.Pass.{PassView}
 use Rattle.session_model.specs.declared.turned.Part.{Part}
 use Rattle.session_model.specs.declared.turned.Part.TheVariants.{Whole}
 use Rattle.daemon_core.specs.EventTurns.{EventsSay}
 use Rattle.daemon_core.specs.JournalTurns.{JournalTurn}
 use Rattle.daemon_core.specs.LogTurns.{LogSays}
 use Rattle.daemon_core.specs.PartTurns.{PartTurn}
+use Rattle.attach_hub.specs.Connection.{ConnectionView}
 use Rattle.attach_hub.specs.declared.following.Stream.{Stream}
 
 -- the reply that gives it
@@ -37,15 +37,12 @@ PartSays (LogStream spec) handed place part old new ch h = LogSays (state_after 
 PartSays (EventStream first until filter) handed place part old new ch h = EventsSay ch h handed filter until place part old new
 PartSays reply handed place part old new ch h = ⊥
 
--- the journal of so many entries has a line more, its header: it is whole behind the last, without a turn; before it the next line is
--- asked for
-abbrev pub JournalPart : ℕ → ℕ → ℕ → Part → List ℕ → List ℕ → PassView → PassView → Type 0
-JournalPart k count place Whole old new p q = (count < place) × (new ≡ old) × (q ≡ p)
-JournalPart k count place part old new p q = (place ≤ count) × JournalTurn k place part old new p q
-
--- a part of it from a place on was asked for, and appended; no call was made. Of a log and of events the clock tells the moment, of the
--- journal it isn't asked
-abbrev pub PartOf : ℕ → Reply → ℕ → Part → List ℕ → List ℕ → PassView → PassView → ClockView → ClockView → Type 0
-PartOf k (JournalStream count) place part old new p q v v' = JournalPart k count place part old new p q × (v' ≡ v)
-PartOf k reply place part old new p q v v' =
-    (handed : ℕ) × ClockHanded v (handed ∷ []) v' × PartTurn k handed part (PartSays reply handed place part old new) p q
+-- a part of it from a place on was asked for, and appended; no call was made. Of a log and of events the clock tells the moment. The
+-- journal of so many entries has a line more, its header: behind the last nothing is asked, and before it its next line, without the clock
+abbrev pub PartOf : Reply → ℕ → Part → List ℕ → List ℕ → ConnectionView → ConnectionView → Type 0
+PartOf (JournalStream count) place Whole old new x y = (y ≡ x) × (count < place) × (new ≡ old)
+PartOf (JournalStream count) place part old new x y =
+    (y ≡ record x { pass = y.pass }) × (place ≤ count) × JournalTurn x.who.number place part old new x.pass y.pass
+PartOf reply place part old new x y =
+    (y ≡ record x { pass = y.pass; clock = y.clock }) × (handed : ℕ) × ClockHanded x.clock (handed ∷ []) y.clock
+    × PartTurn x.who.number handed part (PartSays reply handed place part old new) x.pass y.pass

@@ -9,10 +9,10 @@ use Rattle.engine_text.specs.declared.step.Step.{Step}
 use Rattle.machine_model.specs.History.{Charter}
 use Rattle.session_model.specs.declared.turned.Awaited.{Awaited}
 use Rattle.session_model.specs.declared.turned.Awaited.TheVariants.{Replied, Stopped, WriteFault, NoMemory}
-use Rattle.session_model.specs.Pass.{PassView}
 use Rattle.session_model.specs.Exchange.{IsMade, IsMadeAt}
 use Rattle.session_model.specs.Progress.{Moves}
 use Rattle.daemon_core.specs.Whole.{IsAnswer}
+use Rattle.attach_hub.specs.Connection.{ConnectionView}
 
 module _ (ch : Charter) (k n : ℕ) (a b : List Step) where
   -- the connection's one call is the drop of the ticket
@@ -33,12 +33,14 @@ abbrev pub AwaitsBy : Awaited → SinkView → SinkView → Type 0
 AwaitsBy WriteFault u u' = SinkTook u [] u' × Rose u.faults u'.faults
 AwaitsBy awaited u u' = u' ≡ u
 
--- connection k waited for ticket n
-pub record Awaits (k n : ℕ) (result : Awaited) (p q : PassView) (v v' : ClockView) : Type 0 where
-  pub moves : Moves k p q v v'
-  pub says : AwaitSays p.charter k n p.seen q.seen result moves.handed v v'
+-- the connection waited for ticket n
+pub record Awaits (n : ℕ) (result : Awaited) (x y : ConnectionView) : Type 0 where
+  pub moves : Moves x.who.number x.pass y.pass x.clock y.clock
+  pub says : AwaitSays x.pass.charter x.who.number n x.pass.seen y.pass.seen result moves.handed x.clock y.clock
+  pub sink : AwaitsBy result x.sink y.sink
 
 -- it gave the ticket up, and asked no clock
-pub record Drops (k n : ℕ) (p q : PassView) : Type 0 where
-  pub made : IsDropped p.charter k n p.seen q.seen
-  pub moves : (v : ClockView) → Moves k p q v v
+pub record Drops (n : ℕ) (x y : ConnectionView) : Type 0 where
+  pub made : IsDropped x.pass.charter x.who.number n x.pass.seen y.pass.seen
+  pub moves : Moves x.who.number x.pass y.pass x.clock y.clock
+  pub same : y ≡ record x { pass = y.pass }

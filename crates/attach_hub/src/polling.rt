@@ -1,6 +1,8 @@
 // Between two turns.
 ghost use Rattle.attach_hub.specs.Polling.{PollSays};
 
+use crate::connection::Connection;
+use daemon_core::Turns;
 use engine_ports::{Clock, Failed, Pause, Sink};
 
 /// How long a wait or a follower pauses between two turns, in milliseconds.
@@ -17,13 +19,12 @@ pub(crate) enum Polled {
 }
 
 /// Pauses before the next turn, where the peer is still there.
-pub(crate) fn poll<K: Sink, C: Clock>(sink: &mut K, clock: &mut C) -> Polled
-    ensures { PollSays result (K.takes sink.old) (K.takes sink.new)
-        (C.times clock.old) (C.times clock.new) }
+pub(crate) fn poll<W, T: Turns, K: Sink, C: Clock>(conn: &mut Connection<'_, W, T, K, C>) -> Polled
+    ensures { PollSays result conn.old conn.new }
 {
-    match sink.probe() {
+    match conn.sink.probe() {
         Err(Failed) => Polled::WriteFault,
-        Ok(()) => match clock.pause(POLL) {
+        Ok(()) => match conn.clock.pause(POLL) {
             Pause::Go => Polled::Again,
             Pause::Stop => Polled::Stopped,
         },

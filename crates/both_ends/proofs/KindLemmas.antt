@@ -101,7 +101,7 @@ module _ (ch : Charter) (k : ℕ) (r : Request) (behind : List ℕ) (a b : List 
       calls_none (Stream d t) h asks = h
   refused_whole h w ms (ByItsTicket c status body ns is late waited) = absurd (subst IsRefusal is h)
   refused_whole h w ms (JournalIsFull c m asks quiet full) = message_refuses (terms_of r) 503 (codes "journal is full") (omega arith) (omega arith)
-  refused_whole h w ms (OutOfMemory ns quiet asked) = message_refuses (terms_of r) 500 (codes "out of memory") (omega arith) (omega arith)
+  refused_whole h w ms (OutOfMemory ns quiet asked once) = message_refuses (terms_of r) 500 (codes "out of memory") (omega arith) (omega arith)
   refused_whole h w ms (DroppedForMemory c ns is late given) = message_refuses (terms_of r) 500 (codes "out of memory") (omega arith) (omega arith)
 
   refused_chunks : IsRefusal (class_of r) → (f : Followed) (head body ms : List ℕ) → IsSentInChunks ch k r behind a b f head body ms → ⊥
@@ -131,7 +131,7 @@ module _ (ch : Charter) (k : ℕ) (r : Request) (behind : List ℕ) (a b : List 
   asked_whole c h w ms (ByItsTicket d status body ns is late waited) =
       inl (status, body, refl, inr (ns, subst (λ e. IsWaited ch k e ns a b (Answer status body)) (subst (IsAskOf c) is h) waited))
   asked_whole c h w ms (JournalIsFull d m asks quiet full) = inr (message_refuses (terms_of r) 503 (codes "journal is full") (omega arith) (omega arith))
-  asked_whole c h w ms (OutOfMemory ns quiet asked) = inr (message_refuses (terms_of r) 500 (codes "out of memory") (omega arith) (omega arith))
+  asked_whole c h w ms (OutOfMemory ns quiet asked once) = inr (message_refuses (terms_of r) 500 (codes "out of memory") (omega arith) (omega arith))
   asked_whole c h w ms (DroppedForMemory d ns is late given) = inr (message_refuses (terms_of r) 500 (codes "out of memory") (omega arith) (omega arith))
 
   not_early : (c d : Call) → d ≡ c → IsFalse (is_early r c) → IsTrue (is_early r d) → ⊥
@@ -169,7 +169,7 @@ module _ (ch : Charter) (k : ℕ) (r : Request) (behind : List ℕ) (a b : List 
       inl (status, body, refl, inl (m, subst (λ e. IsMadeAt ch k m e a b (Answer status body)) (upgrade_call c d (class_of r) h asks) made))
   upgraded_whole c h w ms (ByItsTicket d status body ns is late waited) = absurd (subst (IsUpgradeFor c) is h)
   upgraded_whole c h w ms (JournalIsFull d m asks quiet full) = inr (message_refuses (terms_of r) 503 (codes "journal is full") (omega arith) (omega arith))
-  upgraded_whole c h w ms (OutOfMemory ns quiet asked) = inr (message_refuses (terms_of r) 500 (codes "out of memory") (omega arith) (omega arith))
+  upgraded_whole c h w ms (OutOfMemory ns quiet asked once) = inr (message_refuses (terms_of r) 500 (codes "out of memory") (omega arith) (omega arith))
   upgraded_whole c h w ms (DroppedForMemory d ns is late given) = absurd (subst (IsUpgradeFor c) is h)
 
   upgraded_chunks : (c : Call) → IsUpgradeFor c (class_of r) → (f : Followed) (head body ms : List ℕ) → IsSentInChunks ch k r behind a b f head body ms → ⊥

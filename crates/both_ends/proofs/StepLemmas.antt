@@ -24,7 +24,7 @@ use Rattle.session_model.specs.Session.{IsWritten, ending_of}
 use Rattle.engine_ports.specs.Sink.{SinkView}
 use Rattle.client_model.specs.Bodies.{id_in, status_code_in}
 use Rattle.client_model.specs.Client.{said_by, result_at, plan_for, plan_of}
-use Rattle.client_model.specs.Plans.{Plan, Asks, Written, Done, nothing, joined, writes, ends, fails, goes_on, reads, refuses, kept, by_answer, asks}
+use Rattle.client_model.specs.Plans.{Plan, Asks, Written, Done, nothing, joined, writes, ends, fails, goes_on, reads, refuses, kept, line_to, named, by_answer_to, asks}
 use Rattle.client_model.specs.Streams.{payloads_of, ends_frames, follows}
 use Rattle.client_model.specs.Commands.Attach.{attach_request}
 use Rattle.client_model.specs.Commands.Container.{create_request}
@@ -78,20 +78,30 @@ record Says (plan : Plan) (answers : List Answer) (w : Written) (code : ℕ) : T
 low_test : (status : ℕ) → status < 400 → nat_lt status 400 ≡ true
 low_test status low = grind (arith, nat_tests, low)
 
--- a body that is read
-read_goes : {A : Type 0} (read : List ℕ → Option A) (next : A → Plan) (h : Head) (body : List ℕ) (whole : Bool) (x : A) → h.status < 400 → whole ≡ true → read body ≡ Some x
-    → by_answer (λ h body whole. reads read next body whole) (Answered h body whole) ≡ next x
-read_goes read next h body whole x low all is =
-    ap (λ b. if b then reads read next body whole else refuses body whole) (low_test h.status low)
-    ∙ (ap (reads read next body) all ∙ ap (goes_on next) is)
+-- a body that is read, behind which the plan doesn't fail
+read_goes : {A : Type 0} (request : Request) (read : List ℕ → Option A) (next : A → Plan) (h : Head) (body : List ℕ) (whole : Bool) (x : A) → h.status < 400 → whole ≡ true → read body ≡ Some x
+    → named (line_to request) (Some h.status) (next x) ≡ next x
+    → by_answer_to request (λ h body whole. reads read next body whole) (Answered h body whole) ≡ next x
+read_goes request read next h body whole x low all is stays =
+    ap (named (line_to request) (Some h.status))
+    (ap (λ b. if b then reads read next body whole else refuses body whole) (low_test h.status low)
+    ∙ (ap (reads read next body) all ∙ ap (goes_on next) is))
+    ∙ stays
 
 -- a stream that came whole, and ends where it may
-stream_goes : (next : Plan) (h : Head) (body : List ℕ) (whole : Bool) → h.status < 400 → whole ≡ true → ends_frames body ≡ true
-    → by_answer (λ h body whole. writes (payloads_of body) (if whole && ends_frames body then next else fails F.Answer)) (Answered h body whole) ≡ writes (payloads_of body) next
-stream_goes next h body whole low all is =
-    ap (λ b. if b then writes (payloads_of body) (if whole && ends_frames body then next else fails F.Answer) else refuses body whole) (low_test h.status low)
+stream_goes : (request : Request) (next : Plan) (h : Head) (body : List ℕ) (whole : Bool) → h.status < 400 → whole ≡ true → ends_frames body ≡ true
+    → named (line_to request) (Some h.status) (writes (payloads_of body) next) ≡ writes (payloads_of body) next
+    → by_answer_to request (λ h body whole. writes (payloads_of body) (if whole && ends_frames body then next else fails F.Answer)) (Answered h body whole) ≡ writes (payloads_of body) next
+stream_goes request next h body whole low all is stays =
+    ap (named (line_to request) (Some h.status))
+    (ap (λ b. if b then writes (payloads_of body) (if whole && ends_frames body then next else fails F.Answer) else refuses body whole) (low_test h.status low)
     ∙ (ap (λ b. writes (payloads_of body) (if b && ends_frames body then next else fails F.Answer)) all
-    ∙ ap (λ b. writes (payloads_of body) (if b then next else fails F.Answer)) is)
+    ∙ ap (λ b. writes (payloads_of body) (if b then next else fails F.Answer)) is))
+    ∙ stays
+
+removes_stays : (line : List ℕ) (status : Option ℕ) (remove : Bool) (id : List ℕ) (code : ℕ) → named line status (removes remove id (ends code)) ≡ removes remove id (ends code)
+removes_stays line status true id code = refl
+removes_stays line status false id code = refl
 
 module _ (ch : Charter) where
   -- ---- the end, and the removal before it
@@ -103,8 +113,8 @@ module _ (ch : Charter) where
   none_left code [] got goes = refl
   none_left code (v ∷ vs) got goes = absurd goes.0
 
-  abbrev removed_by : ℕ → Answer → Plan
-  removed_by code = by_answer (λ h body whole. reads Some (λ body. ends code) body whole)
+  abbrev removed_by : List ℕ → ℕ → Answer → Plan
+  removed_by id code = by_answer_to (remove_request id false) (λ h body whole. reads Some (λ body. ends code) body whole)
 
   removed : (id : List ℕ) (code : ℕ) → All IsByte id → (vs : List Visit) (got : List Answer) → Goes ch (asks (remove_request id false) Some (λ body. ends code)) vs got
       → Says (asks (remove_request id false) Some (λ body. ends code)) got nothing code × Removes ch true id vs
@@ -115,9 +125,9 @@ module _ (ch : Charter) where
   removed id code bytes (v ∷ vs) (Answered h body whole ∷ got) goes =
       let a : Answers ch v (remove_request id false) = answers_of ch v (remove_request id false) goes.0.0 in
       let r = remove_read ch v h body whole goes.1.0.0 goes.1.0.1 id bytes a in
-      let on : removed_by code (Answered h body whole) ≡ ends code = read_goes Some (λ body. ends code) h body whole body goes.1.0.1 r.0 refl in
+      let on : removed_by id code (Answered h body whole) ≡ ends code = read_goes (remove_request id false) Some (λ body. ends code) h body whole body goes.1.0.1 r.0 refl refl in
       let none : vs ≡ [] = none_left code vs got (subst (λ p. Goes ch p vs got) on (goes.0.1, goes.1.1)) in
-      let says : Says (removed_by code (Answered h body whole)) got nothing code = subst (λ p. Says p got nothing code) (sym on) (record { out = refl; err = refl; end = refl }) in
+      let says : Says (removed_by id code (Answered h body whole)) got nothing code = subst (λ p. Says p got nothing code) (sym on) (record { out = refl; err = refl; end = refl }) in
       (record { out = says.out; err = says.err; end = says.end }, subst (λ l. Removes ch true id (v ∷ l)) (sym none) r.1)
 
   last : (remove : Bool) (id : List ℕ) (code : ℕ) → All IsByte id → (vs : List Visit) (got : List Answer) → Goes ch (removes remove id (ends code)) vs got
@@ -138,7 +148,7 @@ module _ (ch : Charter) where
 
   -- the plan from the wait on, behind what was written
   abbrev waited_by : Bool → List ℕ → Answer → Plan
-  waited_by remove id = by_answer (λ h body whole. reads status_code_in (λ code. removes remove id (ends code)) body whole)
+  waited_by remove id = by_answer_to (wait_request id) (λ h body whole. reads status_code_in (λ code. removes remove id (ends code)) body whole)
 
   abbrev wait_plan : Written → Bool → List ℕ → Plan
   wait_plan w remove id = Asks w (kept (wait_request id)) (waited_by remove id)
@@ -153,7 +163,8 @@ module _ (ch : Charter) where
       let a : Answers ch v (wait_request id) = answers_of ch v (wait_request id) goes.0.0 in
       let r = wait_read ch v h body whole goes.1.0.0 goes.1.0.1 id bytes a in
       let on : waited_by remove id (Answered h body whole) ≡ removes remove id (ends r.1) =
-      read_goes status_code_in (λ code. removes remove id (ends code)) h body whole r.1 goes.1.0.1 r.0 r.2 in
+      read_goes (wait_request id) status_code_in (λ code. removes remove id (ends code)) h body whole r.1 goes.1.0.1 r.0 r.2
+      (removes_stays (line_to (wait_request id)) (Some h.status) remove id r.1) in
       let rest : Goes ch (removes remove id (ends r.1)) vs got = subst (λ p. Goes ch p vs got) on (goes.0.1, goes.1.1) in
       let end = last remove id r.1 bytes vs got rest in
       let says : Says (waited_by remove id (Answered h body whole)) got nothing r.1 = subst (λ p. Says p got nothing r.1) (sym on) end.0 in
@@ -189,9 +200,9 @@ module _ (ch : Charter) where
   abbrev wait_asked : Bool → List ℕ → Plan
   wait_asked remove id = asks (wait_request id) status_code_in (λ code. removes remove id (ends code))
 
-  abbrev attached_by : Bool → List ℕ → Answer → Plan
-  attached_by remove id =
-      by_answer (λ h body whole. writes (payloads_of body) (if whole && ends_frames body then wait_asked remove id else fails F.Answer))
+  abbrev attached_by : Bool → List ℕ → Bool → Answer → Plan
+  attached_by remove id input =
+      by_answer_to (attach_request id input) (λ h body whole. writes (payloads_of body) (if whole && ends_frames body then wait_asked remove id else fails F.Answer))
 
   abbrev attach_asked : Bool → List ℕ → Bool → Plan
   attach_asked remove id input = follows (attach_request id input) input (wait_asked remove id)
@@ -207,11 +218,11 @@ module _ (ch : Charter) where
       let r = attach_read ch v h body whole goes.1.0.0 goes.1.0.1 id input bytes a in
       let stops : ends_frames body ≡ true = ap ends_frames r.3 ∙ framed_end (map (part_of r.1) r.2) in
       let shown : payloads_of body ≡ carried (map (part_of r.1) r.2) = ap payloads_of r.3 ∙ framed_shown (map (part_of r.1) r.2) in
-      let on : attached_by remove id (Answered h body whole) ≡ wait_plan (joined (payloads_of body) nothing) remove id =
-      stream_goes (wait_asked remove id) h body whole goes.1.0.1 r.0 stops in
+      let on : attached_by remove id input (Answered h body whole) ≡ wait_plan (joined (payloads_of body) nothing) remove id =
+      stream_goes (attach_request id input) (wait_asked remove id) h body whole goes.1.0.1 r.0 stops refl in
       let rest : Goes ch (wait_plan (joined (payloads_of body) nothing) remove id) vs got = subst (λ p. Goes ch p vs got) on (goes.0.1, goes.1.1) in
       let w = waits (joined (payloads_of body) nothing) remove id bytes vs got rest in
-      let says : Says (attached_by remove id (Answered h body whole)) got (joined (payloads_of body) nothing) w.code =
+      let says : Says (attached_by remove id input (Answered h body whole)) got (joined (payloads_of body) nothing) w.code =
       subst (λ p. Says p got (joined (payloads_of body) nothing) w.code) (sym on) w.says in
       record {
         attach = v;
@@ -247,7 +258,7 @@ module _ (ch : Charter) where
   start_asked remove id input = asks (start_request id) Some (λ body. attach_asked remove id input)
 
   abbrev started_by : Bool → List ℕ → Bool → Answer → Plan
-  started_by remove id input = by_answer (λ h body whole. reads Some (λ body. attach_asked remove id input) body whole)
+  started_by remove id input = by_answer_to (start_request id) (λ h body whole. reads Some (λ body. attach_asked remove id input) body whole)
 
   starts : (remove : Bool) (id : List ℕ) (input : Bool) → All IsByte id → (vs : List Visit) (got : List Answer) → Goes ch (start_asked remove id input) vs got
       → Starts (start_asked remove id input) remove id input vs got
@@ -259,7 +270,7 @@ module _ (ch : Charter) where
       let a : Answers ch v (start_request id) = answers_of ch v (start_request id) goes.0.0 in
       let r = start_read ch v h body whole goes.1.0.0 goes.1.0.1 id bytes a in
       let on : started_by remove id input (Answered h body whole) ≡ attach_asked remove id input =
-      read_goes Some (λ body. attach_asked remove id input) h body whole body goes.1.0.1 r.0 refl in
+      read_goes (start_request id) Some (λ body. attach_asked remove id input) h body whole body goes.1.0.1 r.0 refl refl in
       let rest : Goes ch (attach_asked remove id input) vs got = subst (λ p. Goes ch p vs got) on (goes.0.1, goes.1.1) in
       let t = attaches remove id input bytes vs got rest in
       let says : Says (started_by remove id input (Answered h body whole)) got (carried (map (part_of t.spec) t.records)) t.code =
@@ -289,7 +300,7 @@ module _ (ch : Charter) where
     pub says : Says plan got (carried (map (part_of starts.attaches.spec) starts.attaches.records)) starts.attaches.code
 
   abbrev created_by : NewContainer → Bool → Answer → Plan
-  created_by c remove = by_answer (λ h body whole. reads id_in (λ id. start_asked remove id c.input) body whole)
+  created_by c remove = by_answer_to (create_request c) (λ h body whole. reads id_in (λ id. start_asked remove id c.input) body whole)
 
   runs : (c : NewContainer) (remove : Bool) → class_of (create_request c) ≡ or_refusal (class.create c) → (vs : List Visit) (got : List Answer) → Goes ch (run_plan c remove) vs got
       → Runs (run_plan c remove) remove c.input vs got
@@ -301,7 +312,7 @@ module _ (ch : Charter) where
       let a : Answers ch v (create_request c) = answers_of ch v (create_request c) goes.0.0 in
       let r = create_read ch v h body whole goes.1.0.0 goes.1.0.1 c same a in
       let on : created_by c remove (Answered h body whole) ≡ start_asked remove r.1 c.input =
-      read_goes id_in (λ id. start_asked remove id c.input) h body whole r.1 goes.1.0.1 r.0 r.2 in
+      read_goes (create_request c) id_in (λ id. start_asked remove id c.input) h body whole r.1 goes.1.0.1 r.0 r.2 refl in
       let rest : Goes ch (start_asked remove r.1 c.input) vs got = subst (λ p. Goes ch p vs got) on (goes.0.1, goes.1.1) in
       let t = starts remove r.1 c.input (id-bytes body r.1 r.2) vs got rest in
       let says : Says (created_by c remove (Answered h body whole)) got (carried (map (part_of t.attaches.spec) t.attaches.records)) t.attaches.code =

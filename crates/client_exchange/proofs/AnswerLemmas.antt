@@ -1,5 +1,5 @@
 -- An answer, by its head.
-use Rattle.std.proofs.Common.{◌≡◌, ◌<◌, ◌≤◌, inl, inr, ℕ, List, [], ◌++◌, refl, sym, ap, ◌∙◌, subst, Option, Ok, Err, Bool, true, false, arith}
+use Rattle.std.proofs.Common.{◌≡◌, ◌<◌, ◌≤◌, inl, inr, ℕ, List, [], ◌++◌, refl, sym, ap, ◌∙◌, subst, Option, Some, None, Ok, Err, Bool, true, false, arith}
 use Rattle.std.proofs.lemmas.Bool.Decides.{nat_tests}
 use Rattle.std.specs.Prelude.{nat_lt, if◌then◌else◌}
 use Rattle.engine_ports.specs.Source.{SourceView, SourceGave}
@@ -67,15 +67,15 @@ stops_now old new why s s' fact is (at, inr now) = now.1
 given : (P : List ℕ → Type 0) (old : Reading) (s s' : SourceView) → old ≡ unread_answer → (r : Reached old.ahead s s' P) → P r.read
 given P old s s' is r = subst P (ap (λ (o : Reading). o.ahead ++ r.read) is) r.holds
 
-no_head : (showing : Showing) (s s' : SourceView) (o : Outputs) → Told false s s' NoHead → IsRefused F.Answer showing s s' o o
-no_head showing s s' o told = record { answer = NoHead; told = told; refuses = λ next. refl; took = both_none o }
+no_head : (showing : Showing) (s s' : SourceView) (o : Outputs) → Told false s s' NoHead → IsRefused F.Answer None showing s s' o o
+no_head showing s s' o told = record { answer = NoHead; has = refl; told = told; refuses = λ next. refl; took = both_none o }
 
-pub bad_head : (showing : Showing) (at : ℕ) (old new : Reading) (s s' : SourceView) (o : Outputs) → old ≡ unread_answer → HeadSays (head.BadHead at) old new s s' → IsRefused F.Answer showing s s' o o
+pub bad_head : (showing : Showing) (at : ℕ) (old new : Reading) (s s' : SourceView) (o : Outputs) → old ≡ unread_answer → HeadSays (head.BadHead at) old new s s' → IsRefused F.Answer None showing s s' o o
 bad_head showing at old new s s' o is says =
     let now = stops_now old new (stop.BadHead at) s s' _ is says in
     no_head showing s s' o (record { bytes = now.1.read; gave = now.1.gave; is = inl (given (NeverHas IsHead) old s s' is now.1) })
 
-pub cut_head : (showing : Showing) (old new : Reading) (s s' : SourceView) (o : Outputs) → s.ends ≡ 0 → old ≡ unread_answer → HeadSays head.CutShort old new s s' → IsRefused F.Answer showing s s' o o
+pub cut_head : (showing : Showing) (old new : Reading) (s s' : SourceView) (o : Outputs) → s.ends ≡ 0 → old ≡ unread_answer → HeadSays head.CutShort old new s s' → IsRefused F.Answer None showing s s' o o
 cut_head showing old new s s' o fresh is says =
     let now = stops_now old new stop.CutShort s s' _ is says in
     no_head showing s s' o (record {
@@ -116,13 +116,14 @@ began_as o o' w v is b = record { part = b.part; fronts = subst (AreFronts b.par
 memory_connection : F.NoMemory ≡ F.Connection → ⊥
 memory_connection e = cc
 
-pub goes : (h : Head) (first : Option ℕ) (whole : Bool) (showing : Showing) (t : Taken) (came s : SourceView) (o o' : Outputs)
-    → nat_lt h.status 400 ≡ true → first ≡ first_in h.form → FollowSays (Ok whole) came h showing t s o o'
-    → Goes (record { first = first; whole = whole }) showing t came s o o'
-goes h first whole showing t came s o o' less is (body, kept, told, took) = record {
+pub goes : (h : Head) (status : ℕ) (first : Option ℕ) (whole : Bool) (showing : Showing) (t : Taken) (came s : SourceView) (o o' : Outputs)
+    → nat_lt h.status 400 ≡ true → status ≡ h.status → first ≡ first_in h.form → FollowSays (Ok whole) came h showing t s o o'
+    → Goes (record { status = status; first = first; whole = whole }) showing t came s o o'
+goes h status first whole showing t came s o o' less has is (body, kept, told, took) = record {
   head = h;
   body = body;
-  status = less;
+  below = less;
+  status = has;
   first = is;
   kept = kept;
   told = subst (λ u. Told u came s (Answered h body whole)) (unfit_below showing h body whole less) told;
@@ -151,7 +152,7 @@ told_less true came s h body false t = record { bytes = t.bytes; gave = t.gave; 
 told_less true came s h body true t = absurd t.is
 
 refused_so : (h : Head) (whole : Bool) (fault : Fault) (t : Taken) (kept : List ℕ) (came s : SourceView) (o o' : Outputs) → nat_lt h.status 400 ≡ false
-    → FollowSays (Ok whole) came h Kept t s o o' → kept ≡ t.kept → FaultSays fault whole kept → RefusalSays fault came s o o'
+    → FollowSays (Ok whole) came h Kept t s o o' → kept ≡ t.kept → FaultSays fault whole kept → RefusalSays fault (Some h.status) came s o o'
 refused_so h whole fault t kept came s o o' more (body, is, told, took) same (inl memory) = λ showing.
     inr (record {
       answer = Answered h body false;
@@ -165,18 +166,19 @@ refused_so h whole fault t kept came s o o' more (body, is, told, took) same (in
     let bytes : kept ≡ body = same ∙ ap (λ (k : Taken). k.kept) is in
     inl (record {
       answer = Answered h body whole;
+      has = refl;
       told = subst (λ u. Told u came s (Answered h body whole)) (unfit_above showing h body whole more) told;
       refuses = refuses_so h body whole fault more (ap (λ l. refuses l whole) (sym bytes) ∙ tells);
       took = took;
     })
 
 pub refused : (h : Head) (whole : Bool) (fault : Fault) (showing : Showing) (t : Taken) (kept : List ℕ) (came s : SourceView) (o o' : Outputs) → showing ≡ Kept
-    → nat_lt h.status 400 ≡ false → FollowSays (Ok whole) came h showing t s o o' → kept ≡ t.kept → FaultSays fault whole kept → RefusalSays fault came s o o'
+    → nat_lt h.status 400 ≡ false → FollowSays (Ok whole) came h showing t s o o' → kept ≡ t.kept → FaultSays fault whole kept → RefusalSays fault (Some h.status) came s o o'
 refused h whole fault showing t kept came s o o' is more says =
     refused_so h whole fault t kept came s o o' more (subst (λ k. FollowSays (Ok whole) came h k t s o o') is says)
 
 failed_so : (h : Head) (fault : Fault) (t : Taken) (came s : SourceView) (o o' : Outputs) → nat_lt h.status 400 ≡ false
-    → FollowSays (Err fault) came h Kept t s o o' → RefusalSays fault came s o o'
+    → FollowSays (Err fault) came h Kept t s o o' → RefusalSays fault (Some h.status) came s o o'
 failed_so h fault t came s o o' more (body, told, began, cause, had, all) = λ showing.
     inr (record {
       answer = Answered h body false;
@@ -190,11 +192,12 @@ failed_so h fault t came s o o' more (body, told, began, cause, had, all) = λ s
     })
 
 pub refused_failed : (h : Head) (fault : Fault) (showing : Showing) (t : Taken) (came s : SourceView) (o o' : Outputs) → showing ≡ Kept
-    → nat_lt h.status 400 ≡ false → FollowSays (Err fault) came h showing t s o o' → RefusalSays fault came s o o'
+    → nat_lt h.status 400 ≡ false → FollowSays (Err fault) came h showing t s o o' → RefusalSays fault (Some h.status) came s o o'
 refused_failed h fault showing t came s o o' is more says =
     failed_so h fault t came s o o' more (subst (λ k. FollowSays (Err fault) came h k t s o o') is says)
 
 -- what a refusal says of any showing
-pub refusal_says : (fault : Fault) (showing : Showing) (t : Taken) (came s : SourceView) (o o' : Outputs) → RefusalSays fault came s o o'
-    → AnswerSays (Err fault) showing t came s o o'
-refusal_says fault showing t came s o o' says = says showing
+pub refusal_says : (fault : Fault) (status n : ℕ) (showing : Showing) (t : Taken) (came s : SourceView) (o o' : Outputs) → status ≡ n
+    → RefusalSays fault (Some n) came s o o' → AnswerSays (Err (record { fault = fault; status = Some status })) showing t came s o o'
+refusal_says fault status n showing t came s o o' is says =
+    subst (λ m. AnswerSays (Err (record { fault = fault; status = Some m })) showing t came s o o') (sym is) (says showing)

@@ -1,12 +1,12 @@
 -- What one exchange comes to, by the plan that asks it.
-use Rattle.std.proofs.Common.{◌≡◌, inl, inr, ℕ, List, [], refl, sym, ap, ◌∙◌, subst, None, Err, Bool, true, false, append-nil}
+use Rattle.std.proofs.Common.{◌≡◌, inl, inr, ℕ, List, [], refl, sym, ap, ◌∙◌, subst, Option, None, Err, Bool, true, false, append-nil}
 use Rattle.std.specs.Prelude.{nat_lt, if◌then◌else◌, ◌&&◌}
 use Rattle.http_edge.specs.Message.{Request}
 use Rattle.http_edge.specs.declared.head.Head.{Head}
 use Rattle.response_reader.specs.Answers.{Answer, NoHead, Answered, TellsSoFar}
 use Rattle.response_reader.specs.Heads.{first_in}
 use Rattle.client_model.specs.Requests.{request_bytes}
-use Rattle.client_model.specs.Plans.{Plan, Ends, Asks, Judges, Asked, Written, Fails, nothing, joined, writes, cut_fault, refuses, fails, by_answer}
+use Rattle.client_model.specs.Plans.{Plan, Ends, Asks, Judges, Asked, Written, Done, Fails, nothing, joined, writes, cut_fault, refuses, fails, by_answer, line_to, status_in, fault_to, named, by_answer_to, asks_for}
 use Rattle.client_model.specs.Client.{said_by}
 use Rattle.client_model.specs.Runs.{AreFronts, sent_by}
 use Rattle.client_model.specs.declared.fault.Fault.{Fault}
@@ -40,19 +40,22 @@ does_fail plan fault o o' w = record {
 
 module _ (asked : Asked) (input : List ℕ) (f : Head → List ℕ → Bool → Plan) where
   -- by a refusal the plan fails
-  unfoldable pub refused_way : (fault : Fault) (o o' : Reach) → HasRefused (sent_by input asked) fault asked.showing o o' → Walked (Asks nothing asked (by_answer f)) input o (fails fault) o'
-  refused_way fault o o' r = way_one asked input (by_answer f) r.answer nothing (fails fault) o o' r.answered r.took (r.refuses f) tt
+  unfoldable pub refused_way : (fault : Fault) (status : Option ℕ) (o o' : Reach) → HasRefused (sent_by input asked) fault status asked.showing o o'
+      → Walked (asks_for asked f) input o (fails (fault_to (line_to asked.request) status fault)) o'
+  refused_way fault status o o' r =
+      way_one asked input (by_answer_to asked.request f) r.answer nothing (fails (fault_to (line_to asked.request) status fault)) o o' r.answered r.took
+      (ap (named (line_to asked.request) (status_in r.answer)) (r.refuses f) ∙ ap (λ s. fails (fault_to (line_to asked.request) s fault)) r.has) tt
 
   -- behind a body that was cut, all that it shows is written, and the plan fails
   abbrev pub CutFails : Type 0
   CutFails = (h : Head) (body : List ℕ) → (fault : Fault) × (f h body false ≡ writes (shows asked.showing body) (fails fault))
 
   -- what a cut answer comes to
-  pub cut_ends : CutFails → (answer : Answer) (given : List ℕ) → TellsSoFar given answer
+  cut_so : CutFails → (answer : Answer) (given : List ℕ) → TellsSoFar given answer
       → (fault : Fault) × (by_answer f answer ≡ Ends (answer_shows asked.showing answer) (Fails fault))
-  cut_ends cut NoHead given tells = (F.Answer, refl)
-  cut_ends cut (Answered h body true) given tells = absurd tells
-  cut_ends cut (Answered h body false) given tells = by_status (nat_lt h.status 400)
+  cut_so cut NoHead given tells = (F.Answer, refl)
+  cut_so cut (Answered h body true) given tells = absurd tells
+  cut_so cut (Answered h body false) given tells = by_status (nat_lt h.status 400)
     where
       by_status : (t : Bool) → (fault : Fault) × ((if t then f h body false else fails (cut_fault body)) ≡ Ends (if t then shows asked.showing body else nothing) (Fails fault))
       by_status true =
@@ -60,10 +63,16 @@ module _ (asked : Asked) (input : List ℕ) (f : Head → List ℕ → Bool → 
           (c.0, c.1 ∙ λ i. Ends (record { out = append-nil (shows asked.showing body).out i; err = append-nil (shows asked.showing body).err i }) (Fails c.0))
       by_status false = (cut_fault body, refl)
 
+  pub cut_ends : CutFails → (answer : Answer) (given : List ℕ) → TellsSoFar given answer
+      → (fault : Fault) × (by_answer_to asked.request f answer ≡ Ends (answer_shows asked.showing answer) (Fails fault))
+  cut_ends cut answer given tells =
+      let c = cut_so cut answer given tells in
+      (fault_to (line_to asked.request) (status_in answer) c.0, ap (named (line_to asked.request) (status_in answer)) c.1)
+
   unfoldable pub broken_stops : (starved : Type 0) (fault : Fault) (o o' : Reach) → CutFails → HasBroken (sent_by input asked) starved fault asked.showing o o'
-      → StopsIn (Asks nothing asked (by_answer f)) input starved fault o o'
+      → StopsIn (asks_for asked f) input starved fault o o'
   broken_stops starved fault o o' cut b = record {
-    asks = record { asked = asked; next = by_answer f; is = refl };
+    asks = record { asked = asked; next = by_answer_to asked.request f; is = refl };
     exchange = b.exchange;
     answer = b.answer;
     meets = b.meets;
@@ -78,16 +87,16 @@ module _ (asked : Asked) (input : List ℕ) (f : Head → List ℕ → Bool → 
       written_first : Plan → Written
       written_first p = joined nothing (said_by p None []).written
 
-      same : answer_shows asked.showing b.answer ≡ written_first (by_answer f b.answer)
+      same : answer_shows asked.showing b.answer ≡ written_first (by_answer_to asked.request f b.answer)
       same = ap written_first (sym (cut_ends cut b.answer b.exchange.given b.tells).1)
 
 -- no connection was made
 pub missed_does : (asked : Asked) (f : Head → List ℕ → Bool → Plan) (fault : Fault) (o o' : Reach)
-    → HasMissed fault o o' → Does (Asks nothing asked (by_answer f)) (Err fault) o o'
+    → HasMissed fault o o' → Does (asks_for asked f) (Err fault) o o'
 missed_does asked f fault o o' m = record {
-  next = Asks nothing asked (by_answer f);
+  next = asks_for asked f;
   between = o;
-  walks = walk_none (Asks nothing asked (by_answer f)) o;
+  walks = walk_none (asks_for asked f) o;
   comes = inr (inl (record {
     missed = m.missed;
     began = subst (λ p. BothBegan o.shown nothing p) (sym m.shown) (began_none o.shown nothing);
@@ -96,8 +105,8 @@ missed_does asked f fault o o' m = record {
   }));
 }
   where
-    by_fault : (fault : Fault) → KeepsOff fault → FailsAlone (Asks nothing asked (by_answer f)) fault o o'
-    by_fault F.Link keeps = record { asked = asked; next = by_answer f; is = refl }
+    by_fault : (fault : Fault) → KeepsOff fault → FailsAlone (asks_for asked f) fault o o'
+    by_fault F.Link keeps = record { asked = asked; next = by_answer_to asked.request f; is = refl }
     by_fault F.NoMemory keeps = tt
     by_fault F.Output keeps = absurd keeps
     by_fault F.Errors keeps = absurd keeps
@@ -106,6 +115,7 @@ missed_does asked f fault o o' m = record {
     by_fault F.Words keeps = absurd keeps
     by_fault F.Answer keeps = absurd keeps
     by_fault F.NoCode keeps = absurd keeps
+    by_fault (F.AnswerTo request status) keeps = absurd keeps
     by_fault F.NoCheck keeps = absurd keeps
     by_fault F.EventsGone keeps = absurd keeps
     by_fault F.TooLong keeps = absurd keeps
@@ -114,22 +124,23 @@ missed_does asked f fault o o' m = record {
 -- ---- a request that standard input doesn't follow
 
 -- it refused
-pub refused_does : (showing : Showing) (request : Request) (f : Head → List ℕ → Bool → Plan) (fault : Fault) (o o' : Reach)
-    → HasRefused (request_bytes request) fault showing o o' → Does (Asks nothing (asked_as request false showing) (by_answer f)) (Err fault) o o'
+pub refused_does : (showing : Showing) (request : Request) (f : Head → List ℕ → Bool → Plan) (fault : Fault) (status : Option ℕ) (o o' : Reach)
+    → HasRefused (request_bytes request) fault status showing o o'
+    → Does (asks_for (asked_as request false showing) f) (Err (fault_to (line_to request) status fault)) o o'
 unfolding refused_way way_one
-refused_does showing request f fault o o' r =
-    does_fail (Asks nothing (asked_as request false showing) (by_answer f)) fault o o'
-    (record { way = refused_way (asked_as request false showing) [] f fault o o' r; quiet = refl })
+refused_does showing request f fault status o o' r =
+    does_fail (asks_for (asked_as request false showing) f) (fault_to (line_to request) status fault) o o'
+    (record { way = refused_way (asked_as request false showing) [] f fault status o o' r; quiet = refl })
 
 -- its connection broke off
 pub broken_does : (showing : Showing) (request : Request) (f : Head → List ℕ → Bool → Plan) (fault : Fault) (o o' : Reach)
     → CutFails (asked_as request false showing) [] f → HasBroken (request_bytes request) ⊥ fault showing o o'
-    → Does (Asks nothing (asked_as request false showing) (by_answer f)) (Err fault) o o'
+    → Does (asks_for (asked_as request false showing) f) (Err fault) o o'
 unfolding broken_stops
 broken_does showing request f fault o o' cut b = record {
-  next = Asks nothing (asked_as request false showing) (by_answer f);
+  next = asks_for (asked_as request false showing) f;
   between = o;
-  walks = walk_none (Asks nothing (asked_as request false showing) (by_answer f)) o;
+  walks = walk_none (asks_for (asked_as request false showing) f) o;
   comes = inr (inr (record { stops = broken_stops (asked_as request false showing) [] f ⊥ fault o o' cut b; quiet = refl }));
 }
 
@@ -139,6 +150,19 @@ broken_does showing request f fault o o' cut b = record {
 pub by_below : (f : Head → List ℕ → Bool → Plan) (h : Head) (body : List ℕ) (whole : Bool) → nat_lt h.status 400 ≡ true → by_answer f (Answered h body whole) ≡ f h body whole
 by_below f h body whole less =
     ap (λ t. if t then f h body whole else refuses body whole) less
+
+-- what is written first stays, where a fault is told
+pub named_writes : (line : List ℕ) (status : Option ℕ) (w : Written) (plan : Plan) → named line status (writes w plan) ≡ writes w (named line status plan)
+named_writes line status w (Ends v (Done code)) = refl
+named_writes line status w (Ends v (Fails fault)) = refl
+named_writes line status w (Asks v asked next) = refl
+named_writes line status w (Judges charter next) = refl
+
+pub named_asking : (line : List ℕ) (status : Option ℕ) (plan : Plan) → IsAsking plan → IsAsking (named line status plan)
+named_asking line status (Ends v (Done code)) is = tt
+named_asking line status (Ends v (Fails fault)) is = tt
+named_asking line status (Asks v asked next) is = tt
+named_asking line status (Judges charter next) is = is
 
 -- by where its frames stand, whether it may end
 pub ends_as : (showing : Showing) (t : Taken) (body : List ℕ) → t ≡ taken showing body → ends_by t ≡ may_end showing body

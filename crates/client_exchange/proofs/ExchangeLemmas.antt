@@ -19,6 +19,7 @@ use Rattle.client_exchange.specs.Taking.{Taken}
 use Rattle.client_exchange.specs.Telling.{Told, ReadFails, HadToWrite, BreaksOff}
 use Rattle.client_exchange.specs.Exchanges.{SendFails, IsUnsent, ConverseSays, MeetsOne, IsAnswered, HasGone, HasRefused, FailsOn, HasBroken, HasMissed, ExchangeSays}
 use Rattle.client_exchange.specs.Feeding.{InputFails, TalkSays, FedSays}
+use Rattle.client_exchange.specs.declared.failure.Failure.{Failure}
 use Rattle.client_exchange.specs.declared.got.Got.{Got}
 use Rattle.client_model.specs.declared.showing.Showing.{Showing}
 use Rattle.client_exchange.proofs.OutputLemmas.{both_none, fronts_none}
@@ -99,6 +100,7 @@ module _ (address : List ℕ) (v v1 v2 : LinkView) (s s' : SourceView) (u u' : S
   fails_on starved F.Input x o o' came was f = absurd f
   fails_on starved F.Answer x o o' came was f = absurd f
   fails_on starved F.NoCode x o o' came was f = absurd f
+  fails_on starved (F.AnswerTo request status) x o o' came was f = absurd f
   fails_on starved F.NoCheck x o o' came was f = absurd f
   fails_on starved F.EventsGone x o o' came was f = absurd f
   fails_on starved F.TooLong x o o' came was f = absurd f
@@ -115,6 +117,7 @@ module _ (address : List ℕ) (v v1 v2 : LinkView) (s s' : SourceView) (u u' : S
   send_fails starved F.Words x o o' came was f = absurd f
   send_fails starved F.Answer x o o' came was f = absurd f
   send_fails starved F.NoCode x o o' came was f = absurd f
+  send_fails starved (F.AnswerTo request status) x o o' came was f = absurd f
   send_fails starved F.NoCheck x o o' came was f = absurd f
   send_fails starved F.EventsGone x o o' came was f = absurd f
   send_fails starved F.TooLong x o o' came was f = absurd f
@@ -146,6 +149,7 @@ module _ (address : List ℕ) (v v1 v2 : LinkView) (s s' : SourceView) (u u' : S
       sent_all F.Words r = absurd r
       sent_all F.Answer r = absurd r
       sent_all F.NoCode r = absurd r
+      sent_all (F.AnswerTo request status) r = absurd r
       sent_all F.NoCheck r = absurd r
       sent_all F.EventsGone r = absurd r
       sent_all F.TooLong r = absurd r
@@ -162,6 +166,7 @@ module _ (address : List ℕ) (v v1 v2 : LinkView) (s s' : SourceView) (u u' : S
   unsent_had starved F.Words f = absurd f
   unsent_had starved F.Answer f = absurd f
   unsent_had starved F.NoCode f = absurd f
+  unsent_had starved (F.AnswerTo request status) f = absurd f
   unsent_had starved F.NoCheck f = absurd f
   unsent_had starved F.EventsGone f = absurd f
   unsent_had starved F.TooLong f = absurd f
@@ -178,88 +183,89 @@ module _ (address : List ℕ) (v v1 v2 : LinkView) (s s' : SourceView) (u u' : S
   unsent_sent starved F.Words x bytes f silent = absurd f
   unsent_sent starved F.Answer x bytes f silent = absurd f
   unsent_sent starved F.NoCode x bytes f silent = absurd f
+  unsent_sent starved (F.AnswerTo request status) x bytes f silent = absurd f
   unsent_sent starved F.NoCheck x bytes f silent = absurd f
   unsent_sent starved F.EventsGone x bytes f silent = absurd f
   unsent_sent starved F.TooLong x bytes f silent = absurd f
   unsent_sent starved (F.Refused message) x bytes f silent = absurd f
   unsent_sent starved F.Link x bytes f silent = absurd f
 
-  unsent : (bytes : List ℕ) (starved : Type 0) (fault : Fault) (showing : Showing) (o o' : Outputs) → IsUnsent bytes starved (Err fault) s s' u u' o o'
-      → (b : HasBroken bytes starved fault showing (record { link = but_for address v; shown = o }) (record { link = but_for address v2; shown = o' })) × (b.exchange.given ≡ [])
+  unsent : (bytes : List ℕ) (starved : Type 0) (failure : Failure) (showing : Showing) (o o' : Outputs) → IsUnsent bytes starved (Err failure) s s' u u' o o'
+      → (b : HasBroken bytes starved failure.fault showing (record { link = but_for address v; shown = o }) (record { link = but_for address v2; shown = o' })) × (b.exchange.given ≡ [])
   unfolding exchange_of
-  unsent bytes starved fault showing o o' b =
-      let same : b.fault ≡ fault = err_same (Err fault) b.fault fault b.is refl in
+  unsent bytes starved failure showing o o' b =
+      let same : b.failure.fault ≡ failure.fault = ap (λ (f : Failure). f.fault) (err_same (Err failure) b.failure failure b.is refl) in
       let gave : SourceGave s [] s' = subst (SourceGave s []) (sym b.unread) (source_none s) in
       let x = exchange_of s s' u u' [] b.part gave b.took in (
         record {
           answer = NoHead;
           exchange = x;
           meets = meets x refl refl;
-          sent = subst (λ f. WasSent f x bytes) same (unsent_sent starved b.fault x bytes b.cause (b.front, refl));
+          sent = subst (λ f. WasSent f x bytes) same (unsent_sent starved b.failure.fault x bytes b.cause (b.front, refl));
           tells = nothing_begins;
           began = record { part = nothing; fronts = fronts_none nothing; took = subst (BothTook o nothing) (sym b.unshown) (both_none o) };
-          cause = subst (λ f. FailsOn starved f x o o') same (send_fails starved b.fault x o o' refl refl b.cause);
-          had = subst (λ f. HadToWrite f nothing) same (unsent_had starved b.fault b.cause);
+          cause = subst (λ f. FailsOn starved f x o o') same (send_fails starved b.failure.fault x o o' refl refl b.cause);
+          had = subst (λ f. HadToWrite f nothing) same (unsent_had starved b.failure.fault b.cause);
           all = λ connection. (nothing_begins, refl, refl);
         },
         refl,
       )
     where
-      err_same : (r : Result Got Fault) (a b : Fault) → r ≡ Err a → r ≡ Err b → a ≡ b
+      err_same : (r : Result Got Failure) (a b : Failure) → r ≡ Err a → r ≡ Err b → a ≡ b
       err_same r a b p q = cc
 
   -- a connection that was made came to an answer, or broke off
-  pub Gets : List ℕ → Type 0 → Result Got Fault → Showing → Taken → Outputs → Outputs → Type 0
+  pub Gets : List ℕ → Type 0 → Result Got Failure → Showing → Taken → Outputs → Outputs → Type 0
   Gets bytes starved (Ok got) showing t o o' = HasGone bytes got showing t (record { link = but_for address v; shown = o }) (record { link = but_for address v2; shown = o' })
-  Gets bytes starved (Err fault) showing t o o' =
-      HasRefused bytes fault showing (record { link = but_for address v; shown = o }) (record { link = but_for address v2; shown = o' })
-      ⊎ HasBroken bytes starved fault showing (record { link = but_for address v; shown = o }) (record { link = but_for address v2; shown = o' })
+  Gets bytes starved (Err failure) showing t o o' =
+      HasRefused bytes failure.fault failure.status showing (record { link = but_for address v; shown = o }) (record { link = but_for address v2; shown = o' })
+      ⊎ HasBroken bytes starved failure.fault showing (record { link = but_for address v; shown = o }) (record { link = but_for address v2; shown = o' })
 
-  pub gets : (bytes : List ℕ) (starved : Type 0) (result : Result Got Fault) (showing : Showing) (t : Taken) (o o' : Outputs)
+  pub gets : (bytes : List ℕ) (starved : Type 0) (result : Result Got Failure) (showing : Showing) (t : Taken) (o o' : Outputs)
       → ConverseSays bytes starved result showing t s s' u u' o o' → Gets bytes starved result showing t o o'
   unfolding Gets
   gets bytes starved (Ok got) showing t o o' (inl (took, g)) =
-      record { head = g.head; body = g.body; status = g.status; first = g.first; kept = g.kept; answered = answered bytes showing _ took g.told; took = g.took }
-  gets bytes starved (Err fault) showing t o o' (inl (took, inl r)) =
-      inl (record { answer = r.answer; answered = answered bytes showing r.answer took r.told; refuses = r.refuses; took = r.took })
-  gets bytes starved (Err fault) showing t o o' (inl (took, inr b)) = inr (broken bytes starved fault showing o o' took b)
-  gets bytes starved (Ok got) showing t o o' (inr b) = absurd (no_fault (Ok got) got b.fault refl b.is)
+      record { head = g.head; body = g.body; below = g.below; status = g.status; first = g.first; kept = g.kept; answered = answered bytes showing _ took g.told; took = g.took }
+  gets bytes starved (Err failure) showing t o o' (inl (took, inl r)) =
+      inl (record { answer = r.answer; has = r.has; answered = answered bytes showing r.answer took r.told; refuses = r.refuses; took = r.took })
+  gets bytes starved (Err failure) showing t o o' (inl (took, inr b)) = inr (broken bytes starved failure.fault showing o o' took b)
+  gets bytes starved (Ok got) showing t o o' (inr b) = absurd (no_fault (Ok got) got b.failure refl b.is)
     where
-      no_fault : (r : Result Got Fault) (got : Got) (fault : Fault) → r ≡ Ok got → r ≡ Err fault → ⊥
-      no_fault r got fault p q = cc
-  gets bytes starved (Err fault) showing t o o' (inr b) = inr (unsent bytes starved fault showing o o' b).0
+      no_fault : (r : Result Got Failure) (got : Got) (failure : Failure) → r ≡ Ok got → r ≡ Err failure → ⊥
+      no_fault r got failure p q = cc
+  gets bytes starved (Err failure) showing t o o' (inr b) = inr (unsent bytes starved failure showing o o' b).0
 
-  pub exchanged : (request : List ℕ) (result : Result Got Fault) (showing : Showing) (t : Taken) (o o' : Outputs)
+  pub exchanged : (request : List ℕ) (result : Result Got Failure) (showing : Showing) (t : Taken) (o o' : Outputs)
       → ConverseSays request ⊥ result showing t s s' u u' o o'
       → ExchangeSays request result showing t (record { link = but_for address v; shown = o }) (record { link = but_for address v2; shown = o' })
   unfolding Gets
   exchanged request result showing t o o' says = by_result result (gets request ⊥ result showing t o o' says)
     where
-      by_result : (result : Result Got Fault) → Gets request ⊥ result showing t o o'
+      by_result : (result : Result Got Failure) → Gets request ⊥ result showing t o o'
           → ExchangeSays request result showing t (record { link = but_for address v; shown = o }) (record { link = but_for address v2; shown = o' })
       by_result (Ok got) g = g
-      by_result (Err fault) (inl r) = inl r
-      by_result (Err fault) (inr b) = inr (inl b)
+      by_result (Err failure) (inl r) = inl r
+      by_result (Err failure) (inr b) = inr (inl b)
 
-  pub talked : (request : List ℕ) (result : Result Got Fault) (showing : Showing) (t : Taken) (i i' : SourceView) (o o' : Outputs)
+  pub talked : (request : List ℕ) (result : Result Got Failure) (showing : Showing) (t : Taken) (i i' : SourceView) (o o' : Outputs)
       → TalkSays request result showing t i i' s s' u u' o o'
       → FedSays request result showing t i i' (record { link = but_for address v; shown = o }) (record { link = but_for address v2; shown = o' })
   unfolding Gets
   talked request (Ok got) showing t i i' o o' (input, gave, inl (ended, (took, says))) =
       (input, gave, ended, gets (request ++ input) (InputFails i i') (Ok got) showing t o o' (inl (took, says)))
-  talked request (Err fault) showing t i i' o o' (input, gave, inl (ended, (took, says))) =
-      by_answer (gets (request ++ input) (InputFails i i') (Err fault) showing t o o' (inl (took, says)))
+  talked request (Err failure) showing t i i' o o' (input, gave, inl (ended, (took, says))) =
+      by_answer (gets (request ++ input) (InputFails i i') (Err failure) showing t o o' (inl (took, says)))
     where
-      by_answer : Gets (request ++ input) (InputFails i i') (Err fault) showing t o o'
-          → FedSays request (Err fault) showing t i i' (record { link = but_for address v; shown = o }) (record { link = but_for address v2; shown = o' })
+      by_answer : Gets (request ++ input) (InputFails i i') (Err failure) showing t o o'
+          → FedSays request (Err failure) showing t i i' (record { link = but_for address v; shown = o }) (record { link = but_for address v2; shown = o' })
       by_answer (inl r) = inl (input, gave, inl (ended, r))
       by_answer (inr b) = inl (input, gave, inr (b, inl ended))
-  talked request (Ok got) showing t i i' o o' (input, gave, inr b) = absurd (no_fault (Ok got) got b.fault refl b.is)
+  talked request (Ok got) showing t i i' o o' (input, gave, inr b) = absurd (no_fault (Ok got) got b.failure refl b.is)
     where
-      no_fault : (r : Result Got Fault) (got : Got) (fault : Fault) → r ≡ Ok got → r ≡ Err fault → ⊥
-      no_fault r got fault p q = cc
-  talked request (Err fault) showing t i i' o o' (input, gave, inr b) =
-      let silent = unsent (request ++ input) (InputFails i i') fault showing o o' b in inl (input, gave, inr (silent.0, inr silent.1))
+      no_fault : (r : Result Got Failure) (got : Got) (failure : Failure) → r ≡ Ok got → r ≡ Err failure → ⊥
+      no_fault r got failure p q = cc
+  talked request (Err failure) showing t i i' o o' (input, gave, inr b) =
+      let silent = unsent (request ++ input) (InputFails i i') failure showing o o' b in inl (input, gave, inr (silent.0, inr silent.1))
 
 -- no connection was made
 pub missed : (address : List ℕ) (v v' : LinkView) (o : Outputs) → LinkMisses address v v' → HasMissed F.Link (record { link = but_for address v; shown = o }) (record { link = but_for address v'; shown = o })

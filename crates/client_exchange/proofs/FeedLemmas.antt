@@ -1,6 +1,6 @@
 -- A request that standard input follows, by the plan that asks it.
 use Rattle.std.proofs.Common.{◌≡◌, inl, inr, ℕ, List, [], ◌∷◌, ◌++◌, map, refl, sym, ap, ◌∙◌, Result, Bool, true, false}
-use Rattle.std.specs.Prelude.{if◌then◌else◌, ◌&&◌, ◌||◌}
+use Rattle.std.specs.Prelude.{if◌then◌else◌, ◌||◌}
 use Rattle.std.specs.List.{list_any}
 use Rattle.std.proofs.lemmas.List.Folds.{list_any-append}
 use Rattle.engine_ports.specs.Source.{SourceView}
@@ -8,7 +8,6 @@ use Rattle.client_model.specs.Requests.{request_bytes}
 use Rattle.client_model.specs.Plans.{Plan, Asked}
 use Rattle.client_model.specs.Runs.{sent_by}
 use Rattle.client_model.specs.declared.fault.Fault.{Fault}
-use Rattle.client_model.specs.declared.fault.Fault.TheVariants as F
 use Rattle.client_exchange.specs.Exchanges.{Reach}
 use Rattle.client_exchange.specs.Walks.{AreQuiet, Walked, Walks, Does}
 use Rattle.client_exchange.specs.Feeding.{Feeds, FedDoes}

@@ -105,6 +105,7 @@ sent_behind bytes x v v' u u' u'' took (Err fault) s = record {
     since F.Words r = absurd r
     since F.Answer r = absurd r
     since F.NoCode r = absurd r
+    since (F.AnswerTo request status) r = absurd r
     since F.NoCheck r = absurd r
     since F.EventsGone r = absurd r
     since F.TooLong r = absurd r

@@ -1,10 +1,10 @@
 -- One request of a command, by the plan that asks it (own).
-use Rattle.std.specs.Prelude.{ℕ, ◌≡◌, ◌&&◌, List, [], Bool, true, false, Option, Result, Ok, Err}
+use Rattle.std.specs.Prelude.{ℕ, ◌≡◌, ◌&&◌, List, [], Bool, true, false, Option, Some, Result, Ok, Err}
 use Rattle.engine_ports.specs.Source.{SourceView}
 use Rattle.http_edge.specs.Message.{Request}
 use Rattle.http_edge.specs.declared.head.Head.{Head}
 use Rattle.response_reader.specs.Heads.{first_in}
-use Rattle.client_model.specs.Plans.{Plan, Asks, Asked, nothing, writes, by_answer, fails}
+use Rattle.client_model.specs.Plans.{Plan, Asked, writes, named, asks_for, fails}
 use Rattle.client_model.specs.Streams.{shows, may_end}
 use Rattle.client_model.specs.declared.fault.Fault.{Fault}
 use Rattle.client_model.specs.declared.showing.Showing.{Showing}
@@ -31,7 +31,7 @@ shown_then Demuxed next h body whole = writes (shows Demuxed body) (next (first_
 
 -- it asks, shows the body as it comes, and goes on
 abbrev pub asks_then : Asked → Onward → Plan
-asks_then asked next = Asks nothing asked (by_answer (λ h body whole. shown_then asked.showing next h body whole))
+asks_then asked next = asks_for asked (λ h body whole. shown_then asked.showing next h body whole)
 
 -- it fails behind a body that isn't whole
 abbrev pub FailsShort : Onward → Type 0
@@ -47,10 +47,12 @@ abbrev pub DoesAs : Bool → Plan → Result ℕ Fault → SourceView → Source
 DoesAs true plan result v v' o o' = FedDoes plan result v v' o o'
 DoesAs false plan result v v' o o' = Does plan result o o' × (v' ≡ v)
 
--- the body was shown, and the plan that goes on by it is reached; or the plan ended or broke off
+-- the body was shown, and the plan that goes on by it is reached, or fails by a fault that names the answer; or the plan ended or
+-- broke off
 abbrev pub AskDoes : Asked → Result Body Fault → SourceView → SourceView → Reach → Reach → Type 0
 AskDoes asked (Ok body) v v' o o' =
     (next : Onward) → IsAsking (next body.first body.bytes.items body.whole)
-    → Brings asked.input (asks_then asked next) v v' o (next body.first body.bytes.items body.whole) o'
+    → Brings asked.input (asks_then asked next) v v' o
+    (named body.line (Some body.status) (next body.first body.bytes.items body.whole)) o'
 AskDoes asked (Err fault) v v' o o' =
     (next : Onward) → FailsShort next → DoesAs asked.input (asks_then asked next) (Err fault) v v' o o'

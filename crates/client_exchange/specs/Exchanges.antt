@@ -1,5 +1,5 @@
 -- One request over a connection of its own, and its answer (own: told of the bytes that are sent, whatever they are).
-use Rattle.std.specs.Prelude.{ℕ, ◌≡◌, ◌⊎◌, ◌&&◌, nat_lt, true, List, [], ◌∷◌, Result, Ok, Err, ⊤}
+use Rattle.std.specs.Prelude.{ℕ, ◌≡◌, ◌⊎◌, nat_lt, true, List, [], ◌∷◌, Option, Result, Ok, Err, ⊤}
 use Rattle.engine_ports.specs.Rose.{Rose}
 use Rattle.engine_ports.specs.Source.{SourceView}
 use Rattle.engine_ports.specs.Sink.{SinkView, SinkTook, IsFront}
@@ -7,7 +7,7 @@ use Rattle.engine_ports.specs.Link.{LinkView}
 use Rattle.http_edge.specs.declared.head.Head.{Head}
 use Rattle.response_reader.specs.Answers.{Answer, Answered, TellsSoFar}
 use Rattle.response_reader.specs.Heads.{first_in}
-use Rattle.client_model.specs.Plans.{nothing}
+use Rattle.client_model.specs.Plans.{nothing, status_in}
 use Rattle.client_model.specs.Streams.{shows}
 use Rattle.client_model.specs.Runs.{Exchange, has_ended, shows_unfit, IsRead, WasSent, HaveCome, AreLeft, HasFailed, missed_by}
 use Rattle.client_model.specs.declared.fault.Fault.{Fault}
@@ -15,6 +15,7 @@ use Rattle.client_model.specs.declared.fault.Fault.TheVariants as F
 use Rattle.client_exchange.specs.Outputs.{Outputs, outputs, BothTook, BothBegan, OutputsFail}
 use Rattle.client_exchange.specs.Taking.{Taken, taken}
 use Rattle.client_exchange.specs.Telling.{HadToWrite, CountsAll, Refuses, answer_shows, AnswerSays}
+use Rattle.client_exchange.specs.declared.failure.Failure.{Failure}
 use Rattle.client_exchange.specs.declared.got.Got.{Got}
 use Rattle.client_model.specs.declared.showing.Showing.{Showing}
 
@@ -35,18 +36,18 @@ SendFails starved F.Input u u' = starved
 SendFails starved fault u u' = ⊥
 
 -- a front of the bytes was sent, and nothing read
-pub record IsUnsent (bytes : List ℕ) (starved : Type 0) (result : Result Got Fault) (s s' : SourceView) (u u' : SinkView) (o o' : Outputs) : Type 0 where
-  pub fault : Fault
-  pub is : result ≡ Err fault
+pub record IsUnsent (bytes : List ℕ) (starved : Type 0) (result : Result Got Failure) (s s' : SourceView) (u u' : SinkView) (o o' : Outputs) : Type 0 where
+  pub failure : Failure
+  pub is : result ≡ Err failure
   pub unread : s' ≡ s
   pub unshown : o' ≡ o
   pub part : List ℕ
   pub front : IsFront part bytes
   pub took : SinkTook u part u'
-  pub cause : SendFails starved fault u u'
+  pub cause : SendFails starved failure.fault u u'
 
 -- the bytes were sent, and the answer read; or a front of them was sent
-abbrev pub ConverseSays : List ℕ → Type 0 → Result Got Fault → Showing → Taken → SourceView → SourceView → SinkView → SinkView → Outputs → Outputs → Type 0
+abbrev pub ConverseSays : List ℕ → Type 0 → Result Got Failure → Showing → Taken → SourceView → SourceView → SinkView → SinkView → Outputs → Outputs → Type 0
 ConverseSays bytes starved result showing t s s' u u' o o' =
     (SinkTook u bytes u' × AnswerSays result showing t s s' o o') ⊎ IsUnsent bytes starved result s s' u u' o o'
 
@@ -77,15 +78,17 @@ pub record IsMissed (fault : Fault) (v v' : LinkView) : Type 0 where
 pub record HasGone (request : List ℕ) (got : Got) (showing : Showing) (t : Taken) (o o' : Reach) : Type 0 where
   pub head : Head
   pub body : List ℕ
-  pub status : nat_lt head.status 400 ≡ true
+  pub below : nat_lt head.status 400 ≡ true
+  pub status : got.status ≡ head.status
   pub first : got.first ≡ first_in head.form
   pub kept : t ≡ taken showing body
   pub answered : IsAnswered request showing (Answered head body got.whole) o.link o'.link
   pub took : BothTook o.shown (shows showing body) o'.shown
 
--- one by which every command fails so was read
-pub record HasRefused (request : List ℕ) (fault : Fault) (showing : Showing) (o o' : Reach) : Type 0 where
+-- one of this status by which every command fails so was read
+pub record HasRefused (request : List ℕ) (fault : Fault) (status : Option ℕ) (showing : Showing) (o o' : Reach) : Type 0 where
   pub answer : Answer
+  pub has : status_in answer ≡ status
   pub answered : IsAnswered request showing answer o.link o'.link
   pub refuses : Refuses answer fault
   pub took : BothTook o.shown nothing o'.shown
@@ -121,11 +124,12 @@ pub record HasMissed (fault : Fault) (o o' : Reach) : Type 0 where
   pub cause : KeepsOff fault
 
 -- the answer refused, the exchange broke off, or no connection was made
-abbrev pub FailsSo : List ℕ → Fault → Showing → Reach → Reach → Type 0
-FailsSo request fault showing o o' =
-    HasRefused request fault showing o o' ⊎ (HasBroken request ⊥ fault showing o o' ⊎ HasMissed fault o o')
+abbrev pub FailsSo : List ℕ → Failure → Showing → Reach → Reach → Type 0
+FailsSo request failure showing o o' =
+    HasRefused request failure.fault failure.status showing o o'
+    ⊎ (HasBroken request ⊥ failure.fault showing o o' ⊎ HasMissed failure.fault o o')
 
 -- what an exchange says
-abbrev pub ExchangeSays : List ℕ → Result Got Fault → Showing → Taken → Reach → Reach → Type 0
+abbrev pub ExchangeSays : List ℕ → Result Got Failure → Showing → Taken → Reach → Reach → Type 0
 ExchangeSays request (Ok got) showing t o o' = HasGone request got showing t o o'
-ExchangeSays request (Err fault) showing t o o' = FailsSo request fault showing o o'
+ExchangeSays request (Err failure) showing t o o' = FailsSo request failure showing o o'

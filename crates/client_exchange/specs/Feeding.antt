@@ -6,10 +6,10 @@ use Rattle.engine_ports.specs.Source.{SourceView, SourceGave, SourceEnded}
 use Rattle.engine_ports.specs.Sink.{SinkView, SinkTook, IsFront}
 use Rattle.client_model.specs.Plans.{Plan}
 use Rattle.client_model.specs.declared.fault.Fault.{Fault}
-use Rattle.client_model.specs.declared.fault.Fault.TheVariants as F
 use Rattle.client_exchange.specs.Outputs.{Outputs}
 use Rattle.client_exchange.specs.Taking.{Taken}
 use Rattle.client_model.specs.declared.showing.Showing.{Showing}
+use Rattle.client_exchange.specs.declared.failure.Failure.{Failure}
 use Rattle.client_exchange.specs.declared.got.Got.{Got}
 use Rattle.client_exchange.specs.Telling.{AnswerSays}
 use Rattle.client_exchange.specs.Exchanges.{Reach, SendFails, IsUnsent, HasGone, HasRefused, HasBroken, HasMissed, ExchangeSays}
@@ -42,7 +42,7 @@ SendSays bytes (Ok x) v v' u u' = HasSent bytes v v' u u'
 SendSays bytes (Err fault) v v' u u' = HasSentSoFar bytes fault v v' u u'
 
 -- a request was sent with its input, and its answer read; or a front of them was sent
-abbrev pub TalkSays : List ℕ → Result Got Fault → Showing → Taken → SourceView → SourceView → SourceView → SourceView → SinkView → SinkView → Outputs → Outputs → Type 0
+abbrev pub TalkSays : List ℕ → Result Got Failure → Showing → Taken → SourceView → SourceView → SourceView → SourceView → SinkView → SinkView → Outputs → Outputs → Type 0
 TalkSays request result showing t v v' s s' u u' o o' =
     (input : List ℕ) × SourceGave v input v'
     × ((SourceEnded v v' × (SinkTook u (request ++ input) u' × AnswerSays result showing t s s' o o'))
@@ -52,26 +52,26 @@ TalkSays request result showing t v v' s s' u u' o o' =
 
 -- the answer to these bytes and this input refused, or the exchange broke off; the input came to its end, where the
 -- exchange gave anything
-abbrev pub FedFailsBy : List ℕ → List ℕ → Fault → Showing → SourceView → SourceView → Reach → Reach → Type 0
-FedFailsBy request input fault showing v v' o o' =
-    (SourceEnded v v' × HasRefused (request ++ input) fault showing o o')
-    ⊎ ((b : HasBroken (request ++ input) (InputFails v v') fault showing o o')
+abbrev pub FedFailsBy : List ℕ → List ℕ → Failure → Showing → SourceView → SourceView → Reach → Reach → Type 0
+FedFailsBy request input failure showing v v' o o' =
+    (SourceEnded v v' × HasRefused (request ++ input) failure.fault failure.status showing o o')
+    ⊎ ((b : HasBroken (request ++ input) (InputFails v v') failure.fault showing o o')
     × (SourceEnded v v' ⊎ (b.exchange.given ≡ [])))
 
 -- so much input came for an exchange that failed; or no connection was made, and no input read
-abbrev pub FedFails : List ℕ → Fault → Showing → SourceView → SourceView → Reach → Reach → Type 0
-FedFails request fault showing v v' o o' =
-    ((input : List ℕ) × SourceGave v input v' × FedFailsBy request input fault showing v v' o o')
-    ⊎ ((v' ≡ v) × HasMissed fault o o')
+abbrev pub FedFails : List ℕ → Failure → Showing → SourceView → SourceView → Reach → Reach → Type 0
+FedFails request failure showing v v' o o' =
+    ((input : List ℕ) × SourceGave v input v' × FedFailsBy request input failure showing v v' o o')
+    ⊎ ((v' ≡ v) × HasMissed failure.fault o o')
 
 -- what an exchange with input says
-abbrev pub FedSays : List ℕ → Result Got Fault → Showing → Taken → SourceView → SourceView → Reach → Reach → Type 0
+abbrev pub FedSays : List ℕ → Result Got Failure → Showing → Taken → SourceView → SourceView → Reach → Reach → Type 0
 FedSays request (Ok got) showing t v v' o o' =
     (input : List ℕ) × SourceGave v input v' × SourceEnded v v' × HasGone (request ++ input) got showing t o o'
-FedSays request (Err fault) showing t v v' o o' = FedFails request fault showing v v' o o'
+FedSays request (Err failure) showing t v v' o o' = FedFails request failure showing v v' o o'
 
 -- standard input follows the request, or is untouched
-abbrev pub SaysAs : Bool → List ℕ → Result Got Fault → Showing → Taken → SourceView → SourceView → Reach → Reach → Type 0
+abbrev pub SaysAs : Bool → List ℕ → Result Got Failure → Showing → Taken → SourceView → SourceView → Reach → Reach → Type 0
 SaysAs true request result showing t v v' o o' = FedSays request result showing t v v' o o'
 SaysAs false request result showing t v v' o o' = ExchangeSays request result showing t o o' × (v' ≡ v)
 

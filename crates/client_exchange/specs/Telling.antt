@@ -1,5 +1,5 @@
 -- What a connection tells of its answer, and what is done with it (own: told of all the bytes that its source gave).
-use Rattle.std.specs.Prelude.{ℕ, ◌≡◌, ◌⊎◌, nat_lt, Bool, true, false, List, [], ◌++◌, Result, Ok, Err, if◌then◌else◌, ⊤}
+use Rattle.std.specs.Prelude.{ℕ, ◌≡◌, ◌⊎◌, nat_lt, Bool, true, false, List, [], ◌++◌, Option, Result, Ok, Err, if◌then◌else◌, ⊤}
 use Rattle.engine_ports.specs.Rose.{Rose}
 use Rattle.engine_ports.specs.Source.{SourceView, SourceGave}
 use Rattle.http_edge.specs.declared.head.Head.{Head}
@@ -8,13 +8,14 @@ use Rattle.response_reader.specs.Heads.{first_in}
 use Rattle.response_reader.specs.Held.{Reading}
 use Rattle.response_reader.specs.Reader.{HasTaken}
 use Rattle.response_reader.specs.declared.got.Stage.TheVariants as stage
-use Rattle.client_model.specs.Plans.{Plan, Written, nothing, by_answer, refuses, fails}
+use Rattle.client_model.specs.Plans.{Plan, Written, nothing, by_answer, status_in, refuses, fails}
 use Rattle.client_model.specs.Runs.{ReadSo, shows_unfit}
 use Rattle.client_model.specs.Streams.{shows, is_unfit}
 use Rattle.client_model.specs.declared.fault.Fault.{Fault}
 use Rattle.client_model.specs.declared.fault.Fault.TheVariants as F
 use Rattle.client_exchange.specs.Outputs.{Outputs, BothTook, BothBegan, OutputsFail}
 use Rattle.client_exchange.specs.Taking.{Taken, taken}
+use Rattle.client_exchange.specs.declared.failure.Failure.{Failure}
 use Rattle.client_exchange.specs.declared.got.Got.{Got}
 use Rattle.client_model.specs.declared.showing.Showing.{Showing}
 
@@ -89,15 +90,17 @@ answer_shows showing (Answered h body whole) = if nat_lt h.status 400 then shows
 pub record Goes (got : Got) (showing : Showing) (t : Taken) (came s : SourceView) (o o' : Outputs) : Type 0 where
   pub head : Head
   pub body : List ℕ
-  pub status : nat_lt head.status 400 ≡ true
+  pub below : nat_lt head.status 400 ≡ true
+  pub status : got.status ≡ head.status
   pub first : got.first ≡ first_in head.form
   pub kept : t ≡ taken showing body
   pub told : Told (shows_unfit showing (Answered head body got.whole)) came s (Answered head body got.whole)
   pub took : BothTook o (shows showing body) o'
 
--- an answer by which every command fails so was read
-pub record IsRefused (fault : Fault) (showing : Showing) (came s : SourceView) (o o' : Outputs) : Type 0 where
+-- an answer of this status by which every command fails so was read
+pub record IsRefused (fault : Fault) (status : Option ℕ) (showing : Showing) (came s : SourceView) (o o' : Outputs) : Type 0 where
   pub answer : Answer
+  pub has : status_in answer ≡ status
   pub told : Told (shows_unfit showing answer) came s answer
   pub refuses : Refuses answer fault
   pub took : BothTook o nothing o'
@@ -111,12 +114,13 @@ pub record BreaksOff (fault : Fault) (showing : Showing) (came s : SourceView) (
   pub had : HadToWrite fault (answer_shows showing answer)
   pub all : CountsAll fault (shows_unfit showing answer) told.bytes answer began.part (answer_shows showing answer)
 
--- what reading a refusal says
-abbrev pub RefusalSays : Fault → SourceView → SourceView → Outputs → Outputs → Type 0
-RefusalSays fault came s o o' =
-    (showing : Showing) → IsRefused fault showing came s o o' ⊎ BreaksOff fault showing came s o o'
+-- what reading a refusal of this status says
+abbrev pub RefusalSays : Fault → Option ℕ → SourceView → SourceView → Outputs → Outputs → Type 0
+RefusalSays fault status came s o o' =
+    (showing : Showing) → IsRefused fault status showing came s o o' ⊎ BreaksOff fault showing came s o o'
 
 -- what reading an answer says
-abbrev pub AnswerSays : Result Got Fault → Showing → Taken → SourceView → SourceView → Outputs → Outputs → Type 0
+abbrev pub AnswerSays : Result Got Failure → Showing → Taken → SourceView → SourceView → Outputs → Outputs → Type 0
 AnswerSays (Ok got) showing t came s o o' = Goes got showing t came s o o'
-AnswerSays (Err fault) showing t came s o o' = IsRefused fault showing came s o o' ⊎ BreaksOff fault showing came s o o'
+AnswerSays (Err failure) showing t came s o o' =
+    IsRefused failure.fault failure.status showing came s o o' ⊎ BreaksOff failure.fault showing came s o o'

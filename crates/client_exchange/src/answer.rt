@@ -1,5 +1,5 @@
 // An answer, read to its end.
-ghost use Rattle.std.specs.Prelude.{◌≡◌, ◌<◌, [], true, false, length, nat_lt};
+ghost use Rattle.std.specs.Prelude.{◌≡◌, ◌<◌, [], true, false, length, nat_lt, Some};
 ghost use Rattle.engine_ports.specs.Source.{SourceView};
 ghost use Rattle.http_edge.specs.declared.head.Head.{Head};
 ghost use Rattle.response_reader.specs.Heads.{first_in};
@@ -9,6 +9,7 @@ ghost use Rattle.client_exchange.specs.Taking.{taken};
 ghost use Rattle.client_model.specs.declared.showing.Showing.TheVariants.{Kept};
 ghost use Rattle.client_exchange.specs.Telling.{Stands, unread_answer, FaultSays, RefusalSays, AnswerSays};
 
+use crate::failure::Failure;
 use crate::following::follow;
 use crate::got::Got;
 use crate::limit::cut_fault;
@@ -52,7 +53,7 @@ fn refusal_kept<W: Wait, S: Source, K: Sink, E: Sink>(
     requires kept { taker.old.showing ≡ Kept }
     ensures { (came : SourceView) (h : Head) → came.ends ≡ 0
         → Stands came h [] reader.old (S.gives source.old)
-        → nat_lt h.status 400 ≡ false → RefusalSays result came (S.gives source.new)
+        → nat_lt h.status 400 ≡ false → RefusalSays result (Some h.status) came (S.gives source.new)
         (outputs (K.takes out.old) (E.takes errors.old))
         (outputs (K.takes out.new) (E.takes errors.new)) }
 {
@@ -76,7 +77,7 @@ fn refusal<W: Wait, S: Source, K: Sink, E: Sink>(
     requires place { 0 < length place.old }
     ensures { (came : SourceView) (h : Head) → came.ends ≡ 0
         → Stands came h [] reader.old (S.gives source.old)
-        → nat_lt h.status 400 ≡ false → RefusalSays result came (S.gives source.new)
+        → nat_lt h.status 400 ≡ false → RefusalSays result (Some h.status) came (S.gives source.new)
         (outputs (K.takes out.old) (E.takes errors.old))
         (outputs (K.takes out.new) (E.takes errors.new)) }
 {
@@ -90,24 +91,32 @@ fn go_on<W: Wait, S: Source, K: Sink, E: Sink>(
     reader: &mut ResponseReader,
     source: &mut S,
     place: &mut [u8],
+    status: u16,
     first: Option<u64>,
     taker: &mut Taker,
     out: &mut K,
     errors: &mut E,
-) -> Result<Got, Fault>
+) -> Result<Got, Failure>
     requires stage { IsInBody reader.old.stage }
     requires place { 0 < length place.old }
     requires fresh { taker.old ≡ taken taker.old.showing [] }
     ensures { (came : SourceView) (h : Head) → came.ends ≡ 0
         → Stands came h [] reader.old (S.gives source.old)
-        → nat_lt h.status 400 ≡ true → first ≡ first_in h.form
+        → nat_lt h.status 400 ≡ true → status ≡ h.status → first ≡ first_in h.form
         → AnswerSays result taker.old.showing taker.new came (S.gives source.new)
         (outputs (K.takes out.old) (E.takes errors.old))
         (outputs (K.takes out.new) (E.takes errors.new)) }
 {
     match follow(rt, reader, source, place, taker, out, errors) {
-        Ok(whole) => Ok(Got { first, whole }),
-        Err(fault) => Err(fault),
+        Ok(whole) => Ok(Got {
+            status,
+            first,
+            whole,
+        }),
+        Err(fault) => Err(Failure {
+            fault,
+            status: Some(status),
+        }),
     }
 }
 
@@ -121,7 +130,7 @@ pub(crate) fn read_answer<W: Wait, S: Source, K: Sink, E: Sink>(
     taker: &mut Taker,
     out: &mut K,
     errors: &mut E,
-) -> Result<Got, Fault>
+) -> Result<Got, Failure>
     requires new { (S.gives source.old).ends ≡ 0 }
     requires unread { reader.old ≡ unread_answer }
     requires place { 0 < length place.old }
@@ -134,13 +143,25 @@ pub(crate) fn read_answer<W: Wait, S: Source, K: Sink, E: Sink>(
     match reader.head(source) {
         Answered::Head { status, first } => {
             if status < 400 {
-                go_on(rt, reader, source, place, first, taker, out, errors)
+                go_on(rt, reader, source, place, status, first, taker, out, errors)
             } else {
-                Err(refusal(rt, alloc, reader, source, place, out, errors))
+                Err(Failure {
+                    fault: refusal(rt, alloc, reader, source, place, out, errors),
+                    status: Some(status),
+                })
             }
         }
-        Answered::BadHead { .. } => Err(Fault::Answer),
-        Answered::CutShort => Err(Fault::Answer),
-        Answered::ReadFault => Err(Fault::Connection),
+        Answered::BadHead { .. } => Err(Failure {
+            fault: Fault::Answer,
+            status: None,
+        }),
+        Answered::CutShort => Err(Failure {
+            fault: Fault::Answer,
+            status: None,
+        }),
+        Answered::ReadFault => Err(Failure {
+            fault: Fault::Connection,
+            status: None,
+        }),
     }
 }

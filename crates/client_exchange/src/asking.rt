@@ -10,14 +10,17 @@ ghost use Rattle.client_exchange.specs.Feeding.{SaysAs};
 
 use crate::body::Body;
 use crate::connection::exchange;
+use crate::failure::Failure;
 use crate::feeding::exchange_with_input;
 use crate::got::Got;
 use crate::made::fresh_taker;
+use crate::naming::{fault_to, first_line};
 use crate::outside::Outside;
 use crate::request::Ask;
 use crate::taker::Taker;
 use client_model::Fault;
 use engine_ports::{Link, Sink, Source};
+use engine_text::Bytes;
 use std::alloc::Global;
 use std::sync::Wait;
 
@@ -30,7 +33,7 @@ fn exchange_as<W: Wait, L: Link, N: Source, K: Sink, E: Sink>(
     request: &[u8],
     fed: bool,
     taker: &mut Taker,
-) -> Result<Got, Fault>
+) -> Result<Got, Failure>
     requires { taker.old ≡ taken taker.old.showing [] }
     ensures { SaysAs fed request.now result taker.old.showing taker.new
         (N.gives outside.old.input) (N.gives outside.new.input)
@@ -72,14 +75,18 @@ fn is_whole(got: Got, taker: &Taker) -> bool
     if got.whole { taker.may_end() } else { false }
 }
 
-/// What is handed on of an answer whose body this taker took.
-fn body_of(got: Got, taker: Taker) -> Body
+/// What is handed on of an answer whose body this taker took, and of its request's first line.
+fn body_of(line: Bytes, got: Got, taker: Taker) -> Body
+    ensures line { result.line ≡ line }
+    ensures status { result.status ≡ got.status }
     ensures first { result.first ≡ got.first }
     ensures bytes { result.bytes.items ≡ taker.kept }
     ensures whole { result.whole ≡ got.whole && ends_by taker }
 {
     let whole = is_whole(got, &taker);
     Body {
+        line,
+        status: got.status,
         first: got.first,
         bytes: taker.into_kept(),
         whole,
@@ -103,6 +110,9 @@ pub fn ask<W: Wait, L: Link, N: Source, K: Sink, E: Sink>(
         (reach (but_for address.now (L.links outside.new.link)) (K.takes outside.new.out)
         (E.takes outside.new.errors)) }
 {
+    let Ok(line) = first_line(alloc, &ask.request) else {
+        return Err(Fault::NoMemory);
+    };
     let mut taker = fresh_taker(alloc, ask.showing);
     match exchange_as(
         rt,
@@ -113,7 +123,7 @@ pub fn ask<W: Wait, L: Link, N: Source, K: Sink, E: Sink>(
         ask.input,
         &mut taker,
     ) {
-        Ok(got) => Ok(body_of(got, taker)),
-        Err(fault) => Err(fault),
+        Ok(got) => Ok(body_of(line, got, taker)),
+        Err(failure) => Err(fault_to(line, failure.status, failure.fault)),
     }
 }

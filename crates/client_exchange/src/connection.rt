@@ -7,6 +7,7 @@ ghost use Rattle.client_exchange.specs.Telling.{unread_answer};
 ghost use Rattle.client_exchange.specs.Exchanges.{ConverseSays, ExchangeSays, reach};
 
 use crate::answer::read_answer;
+use crate::failure::Failure;
 use crate::got::Got;
 use crate::taker::Taker;
 use client_model::Fault;
@@ -39,7 +40,7 @@ fn converse<W: Wait, S: Source, I: Sink, K: Sink, E: Sink>(
     taker: &mut Taker,
     out: &mut K,
     errors: &mut E,
-) -> Result<Got, Fault>
+) -> Result<Got, Failure>
     requires new { (S.gives from.old).ends ≡ 0 }
     requires unread { reader.old ≡ unread_answer }
     requires place { 0 < length place.old }
@@ -51,7 +52,10 @@ fn converse<W: Wait, S: Source, I: Sink, K: Sink, E: Sink>(
 {
     match into.write(request) {
         Ok(()) => read_answer(rt, alloc, reader, from, place, taker, out, errors),
-        Err(_) => Err(Fault::Connection),
+        Err(_) => Err(Failure {
+            fault: Fault::Connection,
+            status: None,
+        }),
     }
 }
 
@@ -66,20 +70,29 @@ pub(crate) fn exchange<W: Wait, L: Link, K: Sink, E: Sink>(
     taker: &mut Taker,
     out: &mut K,
     errors: &mut E,
-) -> Result<Got, Fault>
+) -> Result<Got, Failure>
     requires { taker.old ≡ taken taker.old.showing [] }
     ensures { ExchangeSays request.now result taker.old.showing taker.new
         (reach (but_for address.now (L.links link.old)) (K.takes out.old) (E.takes errors.old))
         (reach (but_for address.now (L.links link.new)) (K.takes out.new) (E.takes errors.new)) }
 {
     let Ok(mut reader) = ResponseReader::new(alloc) else {
-        return Err(Fault::NoMemory);
+        return Err(Failure {
+            fault: Fault::NoMemory,
+            status: None,
+        });
     };
     let Ok(mut place) = place(alloc) else {
-        return Err(Fault::NoMemory);
+        return Err(Failure {
+            fault: Fault::NoMemory,
+            status: None,
+        });
     };
     let Ok((mut from, mut into)) = link.connect(address) else {
-        return Err(Fault::Link);
+        return Err(Failure {
+            fault: Fault::Link,
+            status: None,
+        });
     };
     let got = converse(
         rt,

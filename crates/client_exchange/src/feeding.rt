@@ -9,6 +9,7 @@ ghost use Rattle.client_exchange.specs.Feeding.{TalkSays, FedSays};
 
 use crate::answer::read_answer;
 use crate::connection::place;
+use crate::failure::Failure;
 use crate::got::Got;
 use crate::sending::send_with_input;
 use crate::taker::Taker;
@@ -31,7 +32,7 @@ fn talk<W: Wait, N: Source, S: Source, I: Sink, K: Sink, E: Sink>(
     taker: &mut Taker,
     out: &mut K,
     errors: &mut E,
-) -> Result<Got, Fault>
+) -> Result<Got, Failure>
     requires new { (S.gives from.old).ends ≡ 0 }
     requires unread { reader.old ≡ unread_answer }
     requires place { 0 < length place.old }
@@ -44,7 +45,10 @@ fn talk<W: Wait, N: Source, S: Source, I: Sink, K: Sink, E: Sink>(
 {
     match send_with_input(rt, request, input, into, place) {
         Ok(()) => read_answer(rt, alloc, reader, from, place, taker, out, errors),
-        Err(fault) => Err(fault),
+        Err(fault) => Err(Failure {
+            fault,
+            status: None,
+        }),
     }
 }
 
@@ -60,7 +64,7 @@ pub(crate) fn exchange_with_input<W: Wait, L: Link, N: Source, K: Sink, E: Sink>
     taker: &mut Taker,
     out: &mut K,
     errors: &mut E,
-) -> Result<Got, Fault>
+) -> Result<Got, Failure>
     requires { taker.old ≡ taken taker.old.showing [] }
     ensures { FedSays request.now result taker.old.showing taker.new
         (N.gives input.old) (N.gives input.new)
@@ -68,13 +72,22 @@ pub(crate) fn exchange_with_input<W: Wait, L: Link, N: Source, K: Sink, E: Sink>
         (reach (but_for address.now (L.links link.new)) (K.takes out.new) (E.takes errors.new)) }
 {
     let Ok(mut reader) = ResponseReader::new(alloc) else {
-        return Err(Fault::NoMemory);
+        return Err(Failure {
+            fault: Fault::NoMemory,
+            status: None,
+        });
     };
     let Ok(mut place) = place(alloc) else {
-        return Err(Fault::NoMemory);
+        return Err(Failure {
+            fault: Fault::NoMemory,
+            status: None,
+        });
     };
     let Ok((mut from, mut into)) = link.connect(address) else {
-        return Err(Fault::Link);
+        return Err(Failure {
+            fault: Fault::Link,
+            status: None,
+        });
     };
     let got = talk(
         rt,

@@ -11,7 +11,7 @@ use Rattle.event_ring.specs.Fold.{fold_of}
 use Rattle.json_laws.specs.Pairs.{AreWordsUtf8}
 use Rattle.client_model.specs.Judgement.{Judgement}
 use Rattle.client_model.specs.Bodies.{id_in, status_code_in, container_lines_in, volume_names_in}
-use Rattle.client_model.specs.Plans.{Plan, nothing, prints, prints_all, done, ends, fails, refuses, kept, by_answer, asks}
+use Rattle.client_model.specs.Plans.{Plan, prints, prints_all, done, ends, fails, refuses, kept, by_answer, asks}
 use Rattle.client_model.specs.Streams.{events_in, follows}
 use Rattle.client_model.specs.declared.showing.Showing.TheVariants.{Kept, Copied, Demuxed}
 use Rattle.client_model.specs.Client.{plan_of}
@@ -54,7 +54,7 @@ use Rattle.client_laws.proofs.ClassLemmas.{literal, start-class, pause-class, un
 use Rattle.client_laws.proofs.StreamClassLemmas.{logs-class, attach-class, exec-start-class, exec-inspect-class, events-class, journal-class, list-class, version-class, volume-inspect-class, volume-remove-class, volume-list-class}
 use Rattle.client_laws.proofs.BodyClassLemmas.{create-class, update-class, exec-create-class, volume-create-class}
 use Rattle.client_laws.proofs.HealthLemmas.{health-calls}
-use Rattle.client_laws.proofs.PlanLemmas.{entries, AsksNone, all-printed, asked-first, asks-calls, streams-calls, none-behind, asks-once, streams-once, read-goes, none-read, refused, same-entry}
+use Rattle.client_laws.proofs.PlanLemmas.{entries, AsksNone, all-printed, asks-for, asks-calls, streams-calls, none-behind, asks-once, streams-once, read-goes, none-read, refused, same-entry}
 
 -- ---- run
 
@@ -166,8 +166,7 @@ nothing_read answer = None
 watch-calls : (until : List ℕ) (verdict : Option Judgement) → IsUtf8 until → (answers : List Answer)
     → entries (watch_plan until) verdict answers ≡ once (class.events (codes "0") until)
 watch-calls until verdict utf8 answers =
-    asked-first nothing (kept (events_request (codes "0") until))
-    (by_answer (λ h body whole. watched (first_in h.form) body whole)) verdict (alone (class.events (codes "0") until))
+    asks-for (kept (events_request (codes "0") until)) (λ h body whole. watched (first_in h.form) body whole) verdict (alone (class.events (codes "0") until))
     nothing_read (λ x answers. []) (same-entry (events_request (codes "0") until) false Kept (class.events (codes "0") until) (events-class (codes "0") until (literal (codes "0") refl) utf8)) (λ answer answers. watch-on answer verdict answers) answers
     ∙ none-behind (class.events (codes "0") until) nothing_read answers
 

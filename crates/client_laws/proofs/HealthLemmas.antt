@@ -28,7 +28,7 @@ use Rattle.client_model.specs.declared.checked.Checked.{Checked}
 use Rattle.client_model.specs.declared.fault.Fault.TheVariants as F
 use Rattle.client_model.specs.declared.showing.Showing.TheVariants.{Kept}
 use Rattle.client_model.specs.Requests.{Query, key}
-use Rattle.client_model.specs.Plans.{prints_all, done, fails, refuses, nothing, kept, by_answer}
+use Rattle.client_model.specs.Plans.{prints_all, done, fails, refuses, kept, by_answer}
 use Rattle.client_model.specs.Commands.Inspect.{inspect_request}
 use Rattle.client_model.specs.Commands.Health.{checked_in, container_filter, container_events_request, lines_in, told_health, asks_events, health_plan}
 use Rattle.client_laws.specs.Classes as class
@@ -38,7 +38,7 @@ use Rattle.client_laws.proofs.CheckLemmas.{HasId, hex-text, checked-good}
 use Rattle.client_laws.proofs.RequestLemmas.{class-routed}
 use Rattle.client_laws.proofs.ClassLemmas.{given_in, looked-up, literal, inspect-class}
 use Rattle.client_laws.proofs.StreamClassLemmas.{events_by}
-use Rattle.client_laws.proofs.PlanLemmas.{entries, AsksNone, all-printed, asked-first, asks-calls, none-behind, read-goes, none-read, refused, same-entry}
+use Rattle.client_laws.proofs.PlanLemmas.{entries, AsksNone, all-printed, asks-for, asks-calls, none-behind, read-goes, none-read, refused, same-entry}
 
 -- ---- the filter
 
@@ -103,8 +103,7 @@ events-asked : (until : List ℕ) (c : Checked) (verdict : Option Judgement) →
     → entries (asks_events until c) verdict answers ≡ once (class.container_events until c.id)
 events-asked until c verdict u id answers =
     let says = class.container_events until c.id in
-    asked-first nothing (kept (container_events_request until c.id))
-    (by_answer (λ h body whole. told_health until c (first_in h.form) body whole)) verdict (alone says)
+    asks-for (kept (container_events_request until c.id)) (λ h body whole. told_health until c (first_in h.form) body whole) verdict (alone says)
     nothing_read (λ x answers. []) (same-entry (container_events_request until c.id) false Kept says (container-events-class until c.id u (hex-text c.id id)))
     (λ answer answers. told-on until c answer verdict answers) answers
     ∙ none-behind says nothing_read answers

@@ -3,11 +3,12 @@ use Rattle.std.proofs.Common.{◌≡◌, ℕ, ◌&&◌, Bool, true, false, List,
 use Rattle.std.specs.Prelude.{nat_lt}
 use Rattle.std.specs.Option.{option_map_or}
 use Rattle.http_edge.specs.Message.{Request}
+use Rattle.http_edge.specs.declared.head.Head.{Head}
 use Rattle.response_reader.specs.Answers.{Answer, NoHead, Answered}
 use Rattle.api_routes.specs.Class.{class_of, or_refusal}
 use Rattle.client_model.specs.Judgement.{Judgement}
 use Rattle.client_model.specs.Bodies.{message_in}
-use Rattle.client_model.specs.Plans.{Plan, Ends, Asks, Judges, Written, Asked, nothing, to_out, writes, prints_all, done, fails, goes_on, reads, refuses, kept, by_answer, asks}
+use Rattle.client_model.specs.Plans.{Plan, Ends, Asks, Judges, Done, Fails, Written, Asked, to_out, writes, prints_all, done, fails, goes_on, reads, refuses, kept, by_answer, line_to, status_in, named, by_answer_to, asks_for, asks}
 use Rattle.client_model.specs.Streams.{shows, may_end, streams}
 use Rattle.client_model.specs.declared.showing.Showing.{Showing}
 use Rattle.client_model.specs.declared.showing.Showing.TheVariants.{Kept}
@@ -44,12 +45,22 @@ all-printed (line ∷ lines) verdict answers = writes-asks (to_out (line ++ code
 abbrev GoesBy : {A : Type 0} → (Answer → Plan) → Option Judgement → (Answer → Option A) → (A → List Answer → List Entry) → Type 0
 GoesBy next verdict read after = (answer : Answer) (answers : List Answer) → entries (next answer) verdict answers ≡ option_map_or (λ x. after x answers) (read answer) []
 
-pub asked-first : {A : Type 0} (w : Written) (asked : Asked) (next : Answer → Plan) (verdict : Option Judgement) (entry : Entry)
-    (read : Answer → Option A) (after : A → List Answer → List Entry) → entry_of asked ≡ entry → GoesBy next verdict read after
-    → (answers : List Answer) → entries (Asks w asked next) verdict answers ≡ then_by entry read after answers
-asked-first w asked next verdict entry read after same on [] = ap (λ e. e ∷ []) same
-asked-first w asked next verdict entry read after same on (answer ∷ answers) =
-    ap (λ e. e ∷ entries (next answer) verdict answers) same ∙ ap (λ rest. entry ∷ rest) (on answer answers)
+-- how a fault is told asks nothing
+named-asks : (line : List ℕ) (status : Option ℕ) (plan : Plan) (verdict : Option Judgement) (answers : List Answer)
+    → entries (named line status plan) verdict answers ≡ entries plan verdict answers
+named-asks line status (Ends w (Done code)) verdict answers = refl
+named-asks line status (Ends w (Fails fault)) verdict answers = refl
+named-asks line status (Asks w asked next) verdict answers = refl
+named-asks line status (Judges charter next) verdict answers = refl
+
+-- it asks, and goes on by the answer to that
+pub asks-for : {A : Type 0} (asked : Asked) (next : Head → List ℕ → Bool → Plan) (verdict : Option Judgement) (entry : Entry)
+    (read : Answer → Option A) (after : A → List Answer → List Entry) → entry_of asked ≡ entry → GoesBy (by_answer next) verdict read after
+    → (answers : List Answer) → entries (asks_for asked next) verdict answers ≡ then_by entry read after answers
+asks-for asked next verdict entry read after same on [] = ap (λ e. e ∷ []) same
+asks-for asked next verdict entry read after same on (answer ∷ answers) =
+    ap (λ e. e ∷ entries (by_answer_to asked.request next answer) verdict answers) same
+    ∙ ap (λ rest. entry ∷ rest) (named-asks (line_to asked.request) (status_in answer) (by_answer next answer) verdict answers ∙ on answer answers)
 
 -- a request of this meaning
 pub same-entry : (request : Request) (input : Bool) (showing : Showing) (says : class.Meaning) → class_of request ≡ or_refusal says
@@ -95,7 +106,7 @@ pub asks-calls : {A : Type 0} (request : Request) (read : List ℕ → Option A)
     → ((x : A) (body : List ℕ) → read body ≡ Some x → (answers : List Answer) → entries (next x) verdict answers ≡ after x answers)
     → (answers : List Answer) → entries (asks request read next) verdict answers ≡ then_by (alone says) (body_by read) after answers
 asks-calls request read next verdict says after same on =
-    asked-first nothing (kept request) (by_answer (λ h body whole. reads read next body whole))
+    asks-for (kept request) (λ h body whole. reads read next body whole)
     verdict (alone says) (body_by read) after (same-entry request false Kept says same) (body-goes-by read next verdict after on)
 
 -- what a whole body is, where it ends where it may
@@ -129,8 +140,8 @@ pub streams-calls : (showing : Showing) (request : Request) (input : Bool) (next
     → ((answers : List Answer) → entries next verdict answers ≡ after answers)
     → (answers : List Answer) → entries (streams showing request input next) verdict answers ≡ then_by (fed input says) (body_by (if_ended (may_end showing))) (λ body. after) answers
 streams-calls showing request input next verdict says after same on =
-    asked-first nothing (record { request = request; input = input; showing = showing })
-    (by_answer (λ h body whole. writes (shows showing body) (cond (whole && may_end showing body) next (fails F.Answer))))
+    asks-for (record { request = request; input = input; showing = showing })
+    (λ h body whole. writes (shows showing body) (cond (whole && may_end showing body) next (fails F.Answer)))
     verdict (fed input says) (body_by (if_ended (may_end showing))) (λ body. after) (same-entry request input showing says same) (stream-goes-by showing next verdict after on)
 
 -- ---- one request

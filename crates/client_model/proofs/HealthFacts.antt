@@ -6,6 +6,8 @@ use Rattle.std.specs.Fmt.{digits}
 use Rattle.std.specs.Float.Numeral.{scan_numeral}
 use lib.Utf8.{encode}
 use Rattle.json.specs.Print.{escape_byte}
+use Rattle.form_urlencoded.specs.Form.{byte_serialize}
+use Rattle.percent_encoding.specs.Percent.{percent_encode_byte}
 use Rattle.json.specs.Lex.{lex, punctuate}
 use Rattle.json.specs.Json.{items, members, value}
 use Rattle.json.specs.Text.{content, short_escape, code_unit}
@@ -19,12 +21,12 @@ use Rattle.engine_text.specs.declared.event.Action.TheVariants as action
 use Rattle.engine_text.specs.declared.pairs.Pair.{Pair}
 use Rattle.api_json.specs.Event.{event_data}
 use Rattle.api_json.specs.EventRules.{is_decimal_below}
-use Rattle.http_edge.specs.declared.head.Form.{Form}
 use Rattle.http_edge.specs.declared.head.Form.TheVariants.{Json, ChunkedJson}
 use Rattle.response_reader.specs.Answers.{Answer, Answered}
 use Rattle.client_model.specs.Client.{Result, client_result}
 use Rattle.client_model.specs.Commands.Health.{change_data}
 use Rattle.client_model.proofs.LineFacts.{words_of, address}
+use Rattle.client_model.proofs.RunFacts.{no_answer}
 
 -- ---- a change beside an event
 
@@ -53,8 +55,14 @@ result_of answers = client_result (address ∷ words_of (codes "health 170000000
 abbrev ended : List ℕ → List ℕ → ℕ → Option Result
 ended out err status = Some (record { out = out; err = err; status = status })
 
-abbrev no_answer : List ℕ
-no_answer = codes "dockc: the answer isn't one of the Engine API's\n"
+-- its inspect, or its events, aren't of the API
+abbrev no_inspect : List ℕ
+no_inspect = no_answer (codes "GET /v1.43/containers/web/json") (codes "status 200")
+
+abbrev no_events : List ℕ
+no_events =
+    no_answer (codes "GET /v1.43/events?since=0&until=1700000000&filters=%7B%22container%22%3A%5B%22" ++ id ++ codes "%22%5D%7D")
+    (codes "status 200")
 
 -- what an inspect shows, with these members in its `Config`
 abbrev shown : List ℕ → Answer
@@ -85,8 +93,8 @@ no_check : result_of (shown [] ∷ []) ≡ ended [] (codes "dockc: the container
 unfolding data_of is_utf8 chars encode lex punctuate items members value content short_escape code_unit word after_number number_of scan_numeral digits escape_byte
 no_check = refl
 
-no_command : result_of (shown (codes "\"Healthcheck\":{\"Interval\":1,\"Retries\":1,\"StartPeriod\":0,\"Test\":[\"NONE\"],\"Timeout\":1}") ∷ []) ≡ ended [] no_answer 123
-unfolding data_of is_utf8 chars encode lex punctuate items members value content short_escape code_unit word after_number number_of scan_numeral digits escape_byte
+no_command : result_of (shown (codes "\"Healthcheck\":{\"Interval\":1,\"Retries\":1,\"StartPeriod\":0,\"Test\":[\"NONE\"],\"Timeout\":1}") ∷ []) ≡ ended [] no_inspect 123
+unfolding data_of is_utf8 chars encode lex punctuate items members value content short_escape code_unit word after_number number_of scan_numeral digits escape_byte byte_serialize percent_encode_byte
 no_command = refl
 
 -- the first events are no longer kept
@@ -96,10 +104,10 @@ begins_later = refl
 
 -- a moment falls, or is above UNTIL
 falls : result_of (shown check ∷ told 0 (created (codes "1699999999") (codes "1699999999500") ++ created (codes "1699999999") (codes "1699999999499")) ∷ [])
-    ≡ ended [] no_answer 123
-unfolding data_of is_utf8 chars encode lex punctuate items members value content short_escape code_unit word after_number number_of scan_numeral digits escape_byte line_text is_decimal_below
+    ≡ ended [] no_events 123
+unfolding data_of is_utf8 chars encode lex punctuate items members value content short_escape code_unit word after_number number_of scan_numeral digits escape_byte line_text is_decimal_below byte_serialize percent_encode_byte
 falls = refl
 
-too_late : result_of (shown check ∷ told 0 (created (codes "1700000000") (codes "1700000000001")) ∷ []) ≡ ended [] no_answer 123
-unfolding data_of is_utf8 chars encode lex punctuate items members value content short_escape code_unit word after_number number_of scan_numeral digits escape_byte line_text is_decimal_below
+too_late : result_of (shown check ∷ told 0 (created (codes "1700000000") (codes "1700000000001")) ∷ []) ≡ ended [] no_events 123
+unfolding data_of is_utf8 chars encode lex punctuate items members value content short_escape code_unit word after_number number_of scan_numeral digits escape_byte line_text is_decimal_below byte_serialize percent_encode_byte
 too_late = refl

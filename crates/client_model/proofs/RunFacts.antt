@@ -6,6 +6,8 @@ use Rattle.std.specs.Fmt.{digits}
 use Rattle.std.specs.Float.Numeral.{scan_numeral}
 use lib.Utf8.{encode}
 use Rattle.json.specs.Print.{escape_byte}
+use Rattle.form_urlencoded.specs.Form.{byte_serialize}
+use Rattle.percent_encoding.specs.Percent.{percent_encode_byte}
 use Rattle.json.specs.Lex.{lex, punctuate}
 use Rattle.json.specs.Json.{items, members, value}
 use Rattle.json.specs.Text.{content, short_escape, code_unit}
@@ -51,8 +53,12 @@ answered status body = Answered (record { status = status; form = Json (length b
 abbrev empty : Answer
 empty = Answered (record { status = 204; form = Empty; close = true }) [] true
 
-abbrev no_answer : List ℕ
-no_answer = codes "dockc: the answer isn't one of the Engine API's\n"
+-- what is told of an answer that isn't one of the API's
+abbrev pub no_answer : List ℕ → List ℕ → List ℕ
+no_answer request status = codes "dockc: the answer to " ++ request ++ codes " HTTP/1.1 isn't one of the Engine API's: " ++ status ++ codes "\n"
+
+abbrev no_logs : List ℕ
+no_logs = no_answer (codes "GET /v1.43/containers/web/logs?stdout=1&stderr=1") (codes "status 200")
 
 -- ---- answers
 
@@ -64,8 +70,8 @@ unfolding data_of is_utf8 chars encode lex punctuate items members value content
 created = refl
 
 -- a text without a byte is no id
-no_id : result_of (codes "create engine/tools") (answered 201 (codes "{\"Id\":\"\"}") ∷ []) ≡ ended [] no_answer 123
-unfolding data_of is_utf8 chars encode lex punctuate items members value content short_escape code_unit word after_number number_of scan_numeral digits escape_byte
+no_id : result_of (codes "create engine/tools") (answered 201 (codes "{\"Id\":\"\"}") ∷ []) ≡ ended [] (no_answer (codes "POST /v1.43/containers/create") (codes "status 201")) 123
+unfolding data_of is_utf8 chars encode lex punctuate items members value content short_escape code_unit word after_number number_of scan_numeral digits escape_byte byte_serialize percent_encode_byte
 no_id = refl
 
 -- of each container its id, its first name without the slash, its state and its status
@@ -80,11 +86,12 @@ refused : result_of (codes "logs web") (answered 404 (codes "{\"message\":\"No s
 unfolding data_of is_utf8 chars encode lex punctuate items members value content short_escape code_unit word after_number number_of scan_numeral digits escape_byte
 refused = refl
 
-no_message : result_of (codes "start web") (answered 404 (codes "{}") ∷ []) ≡ ended [] no_answer 123
-unfolding data_of is_utf8 chars encode lex punctuate items members value content short_escape code_unit word after_number number_of scan_numeral digits escape_byte
+no_message : result_of (codes "start web") (answered 404 (codes "{}") ∷ []) ≡ ended [] (no_answer (codes "POST /v1.43/containers/web/start") (codes "status 404")) 123
+unfolding data_of is_utf8 chars encode lex punctuate items members value content short_escape code_unit word after_number number_of scan_numeral digits escape_byte byte_serialize percent_encode_byte
 no_message = refl
 
-no_head : result_of (codes "ps") (NoHead ∷ []) ≡ ended [] no_answer 123
+no_head : result_of (codes "ps") (NoHead ∷ []) ≡ ended [] (no_answer (codes "GET /v1.43/containers/json") (codes "no status")) 123
+unfolding digits byte_serialize percent_encode_byte
 no_head = refl
 
 -- nothing is said of an answer that hasn't come
@@ -126,14 +133,17 @@ whole_frame : result_of (codes "logs web") (of_form ChunkedFrames (2 ∷ 0 ∷ 0
 whole_frame = refl
 
 -- a stream that ends in a header, one that ends in a payload, and a byte that is no stream's
-cut_in_header : result_of (codes "logs web") (of_form ChunkedFrames (1 ∷ 0 ∷ 0 ∷ 0 ∷ 0 ∷ 0 ∷ []) true ∷ []) ≡ ended [] no_answer 123
+cut_in_header : result_of (codes "logs web") (of_form ChunkedFrames (1 ∷ 0 ∷ 0 ∷ 0 ∷ 0 ∷ 0 ∷ []) true ∷ []) ≡ ended [] no_logs 123
+unfolding digits byte_serialize percent_encode_byte
 cut_in_header = refl
 
 cut_in_payload : result_of (codes "logs web") (of_form ChunkedFrames (1 ∷ 0 ∷ 0 ∷ 0 ∷ 0 ∷ 0 ∷ 0 ∷ 5 ∷ 97 ∷ 98 ∷ []) true ∷ [])
-    ≡ ended (codes "ab") no_answer 123
+    ≡ ended (codes "ab") no_logs 123
+unfolding digits byte_serialize percent_encode_byte
 cut_in_payload = refl
 
-no_stream : result_of (codes "logs web") (of_form ChunkedFrames (5 ∷ 0 ∷ 0 ∷ 0 ∷ 0 ∷ 0 ∷ 0 ∷ 1 ∷ 33 ∷ []) true ∷ []) ≡ ended [] no_answer 123
+no_stream : result_of (codes "logs web") (of_form ChunkedFrames (5 ∷ 0 ∷ 0 ∷ 0 ∷ 0 ∷ 0 ∷ 0 ∷ 1 ∷ 33 ∷ []) true ∷ []) ≡ ended [] no_logs 123
+unfolding digits byte_serialize percent_encode_byte
 no_stream = refl
 
 -- of a body that is kept 64 MiB are taken, and not one byte more
@@ -152,7 +162,8 @@ right_so_far = refl
 
 -- whole frames of a body that was cut
 cut_body : result_of (codes "logs web") (of_form ChunkedFrames (2 ∷ 0 ∷ 0 ∷ 0 ∷ 0 ∷ 0 ∷ 0 ∷ 1 ∷ 33 ∷ []) false ∷ [])
-    ≡ ended [] (codes "!" ++ no_answer) 123
+    ≡ ended [] (codes "!" ++ no_logs) 123
+unfolding digits byte_serialize percent_encode_byte
 cut_body = refl
 
 -- ---- codes
@@ -193,8 +204,8 @@ begins_later : result_of (codes "watch 1700000000") (of_form (ChunkedJson (Some 
 unfolding data_of is_utf8 chars encode lex punctuate items members value content short_escape code_unit word after_number number_of scan_numeral digits escape_byte
 begins_later = refl
 
-begins_anywhere : result_of (codes "watch 1700000000") (of_form (ChunkedJson None) [] true ∷ []) ≡ ended [] no_answer 123
-unfolding data_of is_utf8 chars encode lex punctuate items members value content short_escape code_unit word after_number number_of scan_numeral digits escape_byte
+begins_anywhere : result_of (codes "watch 1700000000") (of_form (ChunkedJson None) [] true ∷ []) ≡ ended [] (no_answer (codes "GET /v1.43/events?since=0&until=1700000000") (codes "status 200")) 123
+unfolding data_of is_utf8 chars encode lex punctuate items members value content short_escape code_unit word after_number number_of scan_numeral digits escape_byte byte_serialize percent_encode_byte
 begins_anywhere = refl
 
 -- what a line comes to by a verdict and a text in format 2

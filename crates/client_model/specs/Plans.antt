@@ -1,11 +1,13 @@
 -- What a command does, step by step: what it writes, what it asks, and how it goes on by the answer (own).
-use Rattle.std.specs.Prelude.{ℕ, nat_lt, List, [], ◌∷◌, ◌++◌, length, Bool, false, Option, Some, None, codes, if◌then◌else◌}
+use Rattle.std.specs.Prelude.{ℕ, ◌==◌, nat_lt, List, [], ◌∷◌, ◌++◌, length, Bool, false, Option, Some, None, codes, if◌then◌else◌}
 use Rattle.std.specs.Option.{option_map_or}
+use Rattle.std.specs.List.{before_first}
 use Rattle.http_edge.specs.Message.{Request}
 use Rattle.http_edge.specs.declared.head.Head.{Head}
 use Rattle.machine_model.specs.History.{Charter}
 use Rattle.response_reader.specs.Answers.{Answer, NoHead, Answered}
 use Rattle.client_model.specs.Bodies.{message_in}
+use Rattle.client_model.specs.Requests.{request_bytes}
 use Rattle.client_model.specs.Judgement.{Judgement}
 use Rattle.client_model.specs.declared.fault.Fault.{Fault}
 use Rattle.client_model.specs.declared.fault.Fault.TheVariants as F
@@ -98,7 +100,7 @@ reads read next body whole = if whole then goes_on next (read body) else fails (
 abbrev pub refuses : List ℕ → Bool → Plan
 refuses = reads message_in (λ message. fails (F.Refused message))
 
--- ---- asking
+-- ---- answers
 
 -- An answer without a head isn't one of this API's. One with a status of 400 or more refuses, by a body that tells a
 -- message. By another it goes on.
@@ -106,13 +108,45 @@ abbrev pub by_answer : (Head → List ℕ → Bool → Plan) → Answer → Plan
 by_answer next NoHead = fails F.Answer
 by_answer next (Answered h body whole) = if nat_lt h.status 400 then next h body whole else refuses body whole
 
+-- the first line of a request, without its end
+abbrev pub first_line : List ℕ → List ℕ
+first_line bytes = before_first (λ b. b == 13) bytes
+
+abbrev pub line_to : Request → List ℕ
+line_to request = first_line (request_bytes request)
+
+-- the status of an answer, where it has a head
+abbrev pub status_in : Answer → Option ℕ
+status_in NoHead = None
+status_in (Answered h body whole) = Some h.status
+
+-- a fault of an answer, told by the request's line and the answer's status; another as it is
+abbrev pub fault_to : List ℕ → Option ℕ → Fault → Fault
+fault_to line status F.Answer = F.AnswerTo line status
+fault_to line status fault = fault
+
+-- a plan that ends at once by a fault of an answer tells it so
+abbrev pub named : List ℕ → Option ℕ → Plan → Plan
+named line status (Ends w (Fails fault)) = Ends w (Fails (fault_to line status fault))
+named line status plan = plan
+
+-- it goes on by the answer to this request
+abbrev pub by_answer_to : Request → (Head → List ℕ → Bool → Plan) → Answer → Plan
+by_answer_to request next answer = named (line_to request) (status_in answer) (by_answer next answer)
+
+-- ---- asking
+
+-- it asks, and goes on by the answer to that
+abbrev pub asks_for : Asked → (Head → List ℕ → Bool → Plan) → Plan
+asks_for asked next = Asks nothing asked (by_answer_to asked.request next)
+
 -- a request whose answer's body is kept
 abbrev pub kept : Request → Asked
 kept request = record { request = request; input = false; showing = Kept }
 
 -- it asks, and goes on by what is read of the answer's body
 abbrev pub asks : {A : Type 0} → Request → (List ℕ → Option A) → (A → Plan) → Plan
-asks request read next = Asks nothing (kept request) (by_answer (λ h body whole. reads read next body whole))
+asks request read next = asks_for (kept request) (λ h body whole. reads read next body whole)
 
 -- it asks, and prints this
 abbrev pub asks_and_prints : Request → List ℕ → Plan

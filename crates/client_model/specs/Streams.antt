@@ -13,7 +13,7 @@ use Rattle.stream_frame.specs.Steps.{items_of, held_after}
 use Rattle.api_json.specs.Event.{event_of, event_line_text, if_there}
 use Rattle.api_json.specs.EventRules.{attributes_fit}
 use Rattle.machine_model.specs.History.{greatest_moment}
-use Rattle.client_model.specs.Plans.{Plan, Asks, Written, nothing, to_out, writes, is_too_long, fails, by_answer}
+use Rattle.client_model.specs.Plans.{Plan, Written, nothing, to_out, writes, is_too_long, fails, asks_for}
 use Rattle.client_model.specs.declared.fault.Fault.TheVariants as F
 use Rattle.client_model.specs.declared.showing.Showing.{Showing}
 use Rattle.client_model.specs.declared.showing.Showing.TheVariants.{Kept, Copied, Demuxed}
@@ -73,9 +73,8 @@ is_unfit Demuxed body = is_wrong (held_after unread body).rest
 -- a body that came whole and ends where it may
 abbrev pub streams : Showing → Request → Bool → Plan → Plan
 streams showing request input next =
-    Asks nothing (record { request = request; input = input; showing = showing })
-    (by_answer (λ h body whole.
-    writes (shows showing body) (if whole && may_end showing body then next else fails F.Answer)))
+    asks_for (record { request = request; input = input; showing = showing }) (λ h body whole.
+    writes (shows showing body) (if whole && may_end showing body then next else fails F.Answer))
 
 -- it asks, writes the payloads of the answer's frames, and goes on behind them
 abbrev pub follows : Request → Bool → Plan → Plan

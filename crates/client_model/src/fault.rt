@@ -1,5 +1,5 @@
 // What ends a command before its end.
-use engine_text::Text;
+use engine_text::{Bytes, Text};
 
 /// What ends a command before its end.
 #[derive(Drop)]
@@ -14,6 +14,8 @@ pub enum Fault {
     Errors,
     /// An answer isn't one of this API's.
     Answer,
+    /// The answer to this request isn't: the request's first line without its end, and the status, where there is one.
+    AnswerTo { request: Bytes, status: Option<u16> },
     /// An exec shows no exit code.
     NoCode,
     /// A container shows no health check.

@@ -4,3 +4,4 @@ pub mod RequestLemmas
 pub mod WordLemmas
 pub mod CodeLemmas
 pub mod TimeLemmas
+pub mod TellingLemmas

@@ -1,3 +1,4 @@
 pub mod Reading
 pub mod Options
 pub mod Heads
+pub mod Telling

@@ -9,7 +9,7 @@ mod usage;
 
 pub use checks::checked_in;
 pub use codes::{exit_code_in, status_code_in};
-pub use faults::{fault_line, status_of};
+pub use faults::status_of;
 pub use fields::{id_in, message_in};
 pub(crate) use lists::with_word;
 pub use lists::{container_lines_in, volume_names_in};

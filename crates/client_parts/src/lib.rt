@@ -8,8 +8,8 @@ mod unread;
 mod words;
 
 pub use answers::{
-    checked_in, container_lines_in, exit_code_in, fault_line, id_in, message_in, status_code_in,
-    status_of, volume_names_in, write_fault,
+    checked_in, container_lines_in, exit_code_in, id_in, message_in, status_code_in, status_of,
+    volume_names_in, write_fault,
 };
 pub use lines::{change_line, standing_line};
 pub use unread::Unread;

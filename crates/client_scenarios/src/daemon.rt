@@ -1,6 +1,8 @@
 // The daemon's side.
-use daemon_shared::run_daemon;
+use api_routes::Routes;
+use daemon_shared::{Opening, run_daemon};
 use engine_ports::Door;
+use engine_serve::law_routes_are_shared;
 use session_model::Worst;
 use std::alloc::Global;
 use std::sync::Wait;
@@ -19,8 +21,18 @@ pub fn serve<R: Threads + Wait + Sync, D: Door>(
     most: u32,
     door: &mut D,
 ) -> Worst {
+    let Ok(routes) = Routes::new(alloc) else {
+        return Worst::NoMemory;
+    };
+    law_routes_are_shared(&routes);
+    let seed = [0; 32];
+    let opening = Opening {
+        seed,
+        moment: MOMENT,
+        greatest: ENTRIES,
+    };
     let steps = Some((MOMENT, 0));
-    let (worst, daemon) = run_daemon(rt, alloc, [0; 32], MOMENT, ENTRIES, Some(most), steps, door);
+    let (worst, daemon) = run_daemon(rt, alloc, &routes, opening, Some(most), steps, door);
     drop(daemon);
     worst
 }

@@ -14,5 +14,5 @@ pub record Passes (k : ℕ) (p q : PassView) : Type 0 where
   pub input : IsFalse q.alone → KeepsInput k q
 
 pub passes : (steps : Option (ℕ × ℕ)) (k : ℕ) (e : Ending) (p q : PassView) (o o' : Outside) → ServesBy steps k e p q o o' → Passes k p q
-passes None k e p q o o' s = record { extends = s.extends; same = s.same; input = s.input }
-passes (Some x) k e p q o o' s = record { extends = s.1.extends; same = s.1.same; input = s.1.input }
+passes None k e p q o o' s = record { extends = s.goes.extends; same = s.goes.same; input = s.goes.input }
+passes (Some x) k e p q o o' s = record { extends = s.1.goes.extends; same = s.1.goes.same; input = s.1.goes.input }

@@ -1,48 +1,48 @@
 // The shared daemon: one thread for each connection of a door.
 ghost use Rattle.std.specs.Prelude.{◌≡◌, ◌≤◌, IfSome, IfNone};
 ghost use Rattle.machine_model.specs.History.{greatest_moment};
-ghost use Rattle.daemon_core.specs.Storing.{charter_of};
 ghost use Rattle.session_model.specs.declared.ending.Worst as Worst;
 ghost use Rattle.std.specs.Thread.{IsSend};
+ghost use Rattle.daemon_shared.specs.Sharing.{charter_by};
 ghost use Rattle.daemon_shared.specs.Sessions.{told_by, CanServe, Served};
 ghost use Rattle.daemon_shared.specs.Running.{most_of, RunsDaemon};
 
 use crate::admission::{Begun, Ended};
 use crate::lending::LentDoor;
-use crate::one_daemon::OneDaemon;
+use crate::one_daemon::{OneDaemon, Opening};
 use crate::serving::serve_all;
 use crate::sharing::{SharedDaemon, session};
 use crate::worsts::most_of;
 use daemon_core::Daemon;
 use engine_ports::Door;
+use engine_serve::Routing;
 use session_model::Worst;
 use std::alloc::Global;
 use std::sync::Wait;
 use std::thread::Threads;
 use turnstile::Pass;
 
-/// Serves the connections of a bound door, each in a thread of its own, by one new daemon that is
-/// opened at `moment`, in milliseconds, at most the greatest one, with `greatest` entries of the
-/// journal at most. It takes in `limit` connections at most; by `steps`, a moment and a step in
-/// milliseconds, each has a clock of its own. The daemon comes back once all sessions have ended.
-pub fn run_daemon<R: Threads + Wait + Sync, D: Door>(
+/// Serves the connections of a bound door, each in a thread of its own, by one new daemon, whose
+/// moment is at most the greatest one, and by one table of routes, which all share. It takes in
+/// `limit` connections at most; by `steps`, a moment and a step in milliseconds, each has a clock of
+/// its own. The daemon comes back once all sessions have ended.
+pub fn run_daemon<R: Threads + Wait + Sync, N: Routing, D: Door>(
     rt: &R,
     alloc: Global,
-    seed: [u8; 32],
-    moment: u64,
-    greatest: u64,
+    routes: &N,
+    opening: Opening,
     limit: Option<u32>,
     steps: Option<(u64, u64)>,
     door: &mut D,
 ) -> (Worst, Option<Daemon>)
-    requires { moment ≤ greatest_moment }
+    requires { opening.moment ≤ greatest_moment }
     ensures none { IfNone result.1
         ((result.0 ≡ Worst.NoMemory) × (D.opens door.new ≡ D.opens door.old)) }
     ensures some { IfSome result.1
-        (λ d. RunsDaemon (charter_of seed moment greatest) steps (most_of limit)
+        (λ d. RunsDaemon (charter_by opening) steps (most_of limit)
         result.0 d (D.opens door.old) (D.opens door.new)) }
 {
-    match SharedDaemon::open(rt, alloc, seed, moment, greatest) {
+    match SharedDaemon::open(rt, alloc, opening) {
         Err(_) => (Worst::NoMemory, None),
         Ok((shared, root)) => {
             let serve = |begun: Begun<Pass<OneDaemon>, D::From, D::Into, D::Time>| -> Ended<
@@ -53,7 +53,7 @@ pub fn run_daemon<R: Threads + Wait + Sync, D: Door>(
                 requires may { CanServe (λ p. p) shared.lock.table.shared.table_id begun }
                 ensures { Served (λ p. p) (told_by D.From.gives D.Into.takes D.Time.times)
                     D.Past.tells steps begun result }
-            { session(&shared, alloc, steps, begun) };
+            { session(&shared, routes, alloc, steps, begun) };
             let held = LentDoor { door };
             let (worst, root, LentDoor { door: back }) = serve_all(
                 rt,

@@ -47,18 +47,21 @@ impl Chronicle for OneDaemon {
     ghost short = { λ o h kept. kept.1 };
 }
 
-/// A daemon without history behind a turnstile, and the root pass to it. The moment is at most the
+/// A daemon without history behind a turnstile, and the root pass to it. Its moment is at most the
 /// greatest one.
 pub fn open(
     alloc: Global,
-    seed: [u8; 32],
-    moment: u64,
-    greatest: u64,
+    opening: Opening,
 ) -> Result<(Turnstile<OneDaemon>, Pass<OneDaemon>), NoMemory>
-    requires { moment ≤ greatest_moment }
+    requires { opening.moment ≤ greatest_moment }
     ensures { IfOk result (λ r. IsPass r.0.table.shared.table_id r.1
-        × (r.1.me.0 ≡ root [] (record { seed = seed; moment = moment; greatest = greatest }))) }
+        × (r.1.me.0 ≡ root [] opening)) }
 {
+    let Opening {
+        seed,
+        moment,
+        greatest,
+    } = opening;
     let Ok(daemon) = Box::new(alloc, Daemon::new(alloc, seed, moment, greatest)?) else {
         return Err(NoMemory);
     };

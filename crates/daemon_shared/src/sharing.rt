@@ -13,11 +13,11 @@ ghost use Rattle.daemon_shared.specs.Running.{ServesBy};
 
 use crate::admission::{Admitting, Begun, Ended, Seated};
 use crate::ends::Finished;
-use crate::one_daemon::{OneDaemon, open};
+use crate::one_daemon::{OneDaemon, Opening, open};
 use crate::shared::Shared;
 use daemon_core::{Pairs, Turns};
 use engine_ports::{Clock, Parting, Sink, Source};
-use engine_serve::{OwnClock, serve};
+use engine_serve::{OwnClock, Routing, serve_by_routes};
 use engine_text::NoMemory;
 use session_model::Ending;
 use std::alloc::Global;
@@ -38,15 +38,13 @@ impl<'a, R: Wait> SharedDaemon<'a, R> {
     pub fn open(
         rt: &'a R,
         alloc: Global,
-        seed: [u8; 32],
-        moment: u64,
-        greatest: u64,
+        opening: Opening,
     ) -> Result<(SharedDaemon<'a, R>, Pass<OneDaemon>), NoMemory>
-        requires { moment ≤ greatest_moment }
+        requires { opening.moment ≤ greatest_moment }
         ensures { IfOk result (λ r. IsPass r.0.lock.table.shared.table_id r.1
-            × (r.1.me.0 ≡ root [] (record { seed = seed; moment = moment; greatest = greatest }))) }
+            × (r.1.me.0 ≡ root [] opening)) }
     {
-        let (lock, root) = open(alloc, seed, moment, greatest)?;
+        let (lock, root) = open(alloc, opening)?;
         let finished = Finished::new(alloc);
         Ok((SharedDaemon { rt, lock, finished }, root))
     }
@@ -93,11 +91,12 @@ impl<'a, R: Wait + Sync> Admitting for SharedDaemon<'a, R> {
 
 /// Serves a connection by its clock, or by one of its own that begins at a moment, in milliseconds,
 /// and adds a step at each reading.
-pub fn serve_by<R: Threads + Wait + Sync, U: Pairs, F: Source, I: Sink, T: Clock>(
+pub fn serve_by<R: Threads + Wait + Sync, U: Pairs, N: Routing, F: Source, I: Sink, T: Clock>(
     rt: &R,
     turns: &mut U,
     alloc: Global,
     conn: u32,
+    routes: &N,
     steps: Option<(u64, u64)>,
     from: &mut F,
     into: &mut I,
@@ -113,15 +112,24 @@ pub fn serve_by<R: Threads + Wait + Sync, U: Pairs, F: Source, I: Sink, T: Clock
     match steps {
         Some((moment, step)) => {
             let mut own = OwnClock { moment, step };
-            serve(rt, turns, alloc, conn, from, into, &mut own)
+            serve_by_routes(rt, turns, alloc, conn, routes, from, into, &mut own)
         }
-        None => serve(rt, turns, alloc, conn, from, into, time),
+        None => serve_by_routes(rt, turns, alloc, conn, routes, from, into, time),
     }
 }
 
-/// Serves a connection by its pass, parts it, and tells that it has ended.
-pub fn session<R: Threads + Wait + Sync, F: Source, I: Sink, T: Clock, P: Parting<F, I, T>>(
+/// Serves a connection by its pass and the routes that all sessions share, parts it, and tells that
+/// it has ended.
+pub fn session<
+    R: Threads + Wait + Sync,
+    N: Routing,
+    F: Source,
+    I: Sink,
+    T: Clock,
+    P: Parting<F, I, T>,
+>(
     shared: &SharedDaemon<'_, R>,
+    routes: &N,
     alloc: Global,
     steps: Option<(u64, u64)>,
     begun: Begun<Pass<OneDaemon>, F, I, T>,
@@ -139,7 +147,7 @@ pub fn session<R: Threads + Wait + Sync, F: Source, I: Sink, T: Clock, P: Partin
     let rt = shared.rt;
     let mut turns = Shared::new(rt, &shared.lock, pass);
     let ending = serve_by(
-        rt, &mut turns, alloc, number, steps, &mut from, &mut into, &mut time,
+        rt, &mut turns, alloc, number, routes, steps, &mut from, &mut into, &mut time,
     );
     let mut pass = turns.into_pass();
     shared.lock.learn(&mut pass);

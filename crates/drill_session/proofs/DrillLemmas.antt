@@ -41,7 +41,7 @@ module _ (ch c : Charter) (requests : ℕ) (e : Ending) (t t' : ClockView) (h : 
 
   -- the daemon stays the one that was opened
   pub same_charter : c ≡ ch
-  same_charter = first.same.charter
+  same_charter = first.goes.same.charter
 
   abbrev pub session_of : Session ch requests e t t'
   session_of = record {
@@ -88,7 +88,7 @@ caused ch requests e t t' s =
     (record {
       read = v.read;
       written = v.written;
-      handed = v.handed;
+      handed = v.goes.handed;
       from = [];
       to = s.history;
       old = outside (full_source (concat (drill_requests ch.seed requests)) 0) empty_sink t;
@@ -111,7 +111,7 @@ unrefused ch requests e t t' s =
     (record {
       read = v.read;
       written = v.written;
-      handed = v.handed;
+      handed = v.goes.handed;
       from = [];
       to = s.history;
       old = outside (full_source (concat (drill_requests ch.seed requests)) 0) empty_sink t;

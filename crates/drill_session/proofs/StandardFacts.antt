@@ -9,4 +9,4 @@ use Rattle.drill_session.specs.Running.{Session}
 -- all calls are its session's
 pub all_own : (ch : Charter) (requests : ℕ) (e : Ending) (t t' : ClockView) (s : Session ch requests e t t') (n : ℕ)
     → (n ≡ 0 → ⊥) → (n ≡ input_of 0 → ⊥) → HasNoCall n s.history
-all_own ch requests e t t' s n other no_input = no_other 0 n other no_input ch s.history (s.serves.adds refl)
+all_own ch requests e t t' s n other no_input = no_other 0 n other no_input ch s.history (s.serves.goes.adds refl)

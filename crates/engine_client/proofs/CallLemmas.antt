@@ -24,7 +24,8 @@ use Rattle.client_exchange.proofs.FeedLemmas.{with_input}
 use Rattle.engine_client.specs.Writing.{PrintsOrLacks}
 use Rattle.engine_client.specs.Replaying as replay
 use Rattle.engine_client.specs.Running.{outside_of, reach_of, Ran, Tells}
-use Rattle.engine_client.proofs.RunLemmas.{ended, course, broken_off, asks_one, stopped_before, stopped_in, quiet_stop, alone_cause}
+use Rattle.engine_client.proofs.CauseLemmas.{alone_cause}
+use Rattle.engine_client.proofs.RunLemmas.{ended, course, broken_off, asks_one, stopped_before, stopped_in, quiet_stop}
 
 -- ---- standard input of a plan
 
@@ -194,6 +195,7 @@ module _ (words : List (List ℕ)) (o m : Outside) where
   unread_cause F.Words r = absurd r
   unread_cause F.Answer r = absurd r
   unread_cause F.NoCode r = absurd r
+  unread_cause (F.AnswerTo request status) r = absurd r
   unread_cause F.NoCheck r = absurd r
   unread_cause F.EventsGone r = absurd r
   unread_cause F.TooLong r = absurd r

@@ -57,6 +57,7 @@ read_wrong F.Input seen rest line behind body before (front, none, ends, is) fai
 read_wrong F.Output seen rest line behind body before (front, none, ends, is) fails = absurd (fails front ends)
 read_wrong F.Errors seen rest line behind body before (front, none, ends, is) fails = absurd (fails front ends)
 read_wrong F.NoCode seen rest line behind body before (front, none, ends, is) fails = absurd (fails front ends)
+read_wrong (F.AnswerTo request status) seen rest line behind body before (front, none, ends, is) fails = absurd (fails front ends)
 read_wrong F.NoCheck seen rest line behind body before (front, none, ends, is) fails = absurd (fails front ends)
 read_wrong F.EventsGone seen rest line behind body before (front, none, ends, is) fails = absurd (fails front ends)
 read_wrong F.TooLong seen rest line behind body before (front, none, ends, is) fails = absurd (fails front ends)
@@ -99,6 +100,7 @@ lines_wrong F.Input c end events is = absurd is
 lines_wrong F.Output c end events is = absurd is
 lines_wrong F.Errors c end events is = absurd is
 lines_wrong F.NoCode c end events is = absurd is
+lines_wrong (F.AnswerTo request status) c end events is = absurd is
 lines_wrong F.NoCheck c end events is = absurd is
 lines_wrong F.EventsGone c end events is = absurd is
 lines_wrong F.TooLong c end events is = absurd is

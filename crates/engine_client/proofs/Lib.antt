@@ -1,9 +1,11 @@
 pub mod PrintLemmas
+pub mod FirstRowLemmas
 pub mod RowLemmas
 pub mod IndexLemmas
 pub mod WatchLemmas
 pub mod StepLemmas
 pub mod InputLemmas
+pub mod CauseLemmas
 pub mod RunLemmas
 pub mod CallLemmas
 pub mod MomentLemmas

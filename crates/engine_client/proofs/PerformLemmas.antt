@@ -1,5 +1,5 @@
 -- A command, step by step.
-use Rattle.std.proofs.Common.{arith, ◌≡◌, ◌<◌, ◌≤◌, ◌⊎◌, inl, inr, ℕ, List, [], ◌∷◌, ◌++◌, length, refl, sym, ap, ◌∙◌, subst, None, Result, Ok, Err, Bool, true, false}
+use Rattle.std.proofs.Common.{arith, ◌≡◌, ◌<◌, ◌≤◌, ◌⊎◌, inl, inr, ℕ, List, [], ◌∷◌, ◌++◌, length, refl, sym, ap, ◌∙◌, subst, Some, None, Result, Ok, Err, Bool, true, false}
 use Rattle.std.specs.Prelude.{if◌then◌else◌, ◌||◌, ◌==◌, Vec}
 use Rattle.std.proofs.lemmas.Bool.Decides.{nat_tests}
 use Rattle.std.specs.declared.alloc.Global.{Global}
@@ -15,7 +15,7 @@ use Rattle.engine_ports.specs.Sink.{SinkView, WriteSays}
 use Rattle.engine_ports.specs.Link.{LinkView}
 use Rattle.engine_ports.specs.declared.ports.Failed.{Failed}
 use Rattle.http_edge.specs.Message.{Request}
-use Rattle.client_model.specs.Plans.{Plan, Ends, Asks, Judges, Asked, Done, nothing, to_out, fails, ends, prints_all}
+use Rattle.client_model.specs.Plans.{Plan, Ends, Asks, Judges, Asked, Done, nothing, to_out, fails, named, ends, prints_all}
 use Rattle.client_model.specs.Client.{said_by}
 use Rattle.client_model.specs.declared.fault.Fault.{Fault}
 use Rattle.client_model.specs.declared.fault.Fault.TheVariants as F
@@ -25,6 +25,7 @@ use Rattle.client_exchange.specs.Walks.{IsAsking, Comes, Does}
 use Rattle.client_exchange.specs.Asking.{asked_as, asks_then, Brings, DoesAs, AskDoes}
 use Rattle.client_exchange.specs.Feeding.{Feeds, FedDoes}
 use Rattle.client_exchange.specs.declared.body.Body.{Body}
+use Rattle.client_exchange.proofs.AskLemmas.{named_asking}
 use Rattle.client_exchange.proofs.WalkLemmas.{walk_none, walk_on, does_on}
 use Rattle.client_exchange.proofs.FeedLemmas.{feeds_behind, feeds_on, does_fed, fed_does}
 use Rattle.engine_client.specs.Places.{plan_at, feeds_at, feeds, IsStep, GoesOn}
@@ -107,13 +108,25 @@ module _ (plan next : Plan) (v v' v'' : SourceView) (o p q : Reach) where
 -- ---- behind an answer
 
 module _ (asked : Asked) (onward : Then) (v v' : SourceView) (o o' : Reach) where
-  goes_to : (body : Body) (after : Step) → AskDoes asked (Ok body) v v' o o' → GoesOn (Ok after) (feeds_at onward) (plan_at onward body.first body.bytes.items body.whole)
+  -- what follows there; a fault names the answer
+  abbrev pub on : Body → Plan
+  on body = named body.line (Some body.status) (plan_at onward body.first body.bytes.items body.whole)
+
+  asks_on : (body : Body) → IsAsking (on body)
+  asks_on body =
+      named_asking body.line (Some body.status) (plan_at onward body.first body.bytes.items body.whole)
+      (places_ask onward body.first body.bytes.items body.whole)
+
+  brought : (body : Body) → AskDoes asked (Ok body) v v' o o' → Brings asked.input (asks_then asked (plan_at onward)) v v' o (on body) o'
+  brought body does = does (plan_at onward) (places_ask onward body.first body.bytes.items body.whole)
+
+  goes_to : (body : Body) (after : Step) → AskDoes asked (Ok body) v v' o o' → GoesOn (Ok after) (feeds_at onward) (on body)
       → AskedSays asked.input (feeds_at onward) (asks_then asked (plan_at onward)) (Ok (On after)) v v' o o'
   goes_to body after does (is, fed) = record {
-    next = plan_at onward body.first body.bytes.items body.whole;
-    asking = places_ask onward body.first body.bytes.items body.whole;
+    next = on body;
+    asking = asks_on body;
     is = is;
-    brings = does (plan_at onward) (places_ask onward body.first body.bytes.items body.whole);
+    brings = brought body does;
     feeds_so = fed;
   }
 
@@ -121,17 +134,15 @@ module _ (asked : Asked) (onward : Then) (v v' : SourceView) (o o' : Reach) wher
   as_does true plan next fault b comes = inr (inl (record { next = next; between = o'; feeds = b; comes = comes }))
   as_does false plan next fault (w, same) comes = (record { next = next; between = o'; walks = w; comes = comes }, same)
 
-  goes_wrong : (body : Body) (fault : Fault) → AskDoes asked (Ok body) v v' o o' → GoesOn (Err fault) (feeds_at onward) (plan_at onward body.first body.bytes.items body.whole)
+  goes_wrong : (body : Body) (fault : Fault) → AskDoes asked (Ok body) v v' o o' → GoesOn (Err fault) (feeds_at onward) (on body)
       → AskedSays asked.input (feeds_at onward) (asks_then asked (plan_at onward)) (Err fault) v v' o o'
-  goes_wrong body fault does why =
-      as_does asked.input (asks_then asked (plan_at onward)) (plan_at onward body.first body.bytes.items body.whole) fault
-      (does (plan_at onward) (places_ask onward body.first body.bytes.items body.whole)) (by why)
+  goes_wrong body fault does why = as_does asked.input (asks_then asked (plan_at onward)) (on body) fault (brought body does) (by why)
     where
-      by : (fault ≡ F.NoMemory) ⊎ (plan_at onward body.first body.bytes.items body.whole ≡ fails fault) → Comes (plan_at onward body.first body.bytes.items body.whole) (Err fault) o' o'
-      by (inl lack) = subst (λ f. Comes (plan_at onward body.first body.bytes.items body.whole) (Err f) o' o') (sym lack) (short_of (plan_at onward body.first body.bytes.items body.whole) o')
+      by : (fault ≡ F.NoMemory) ⊎ (on body ≡ fails fault) → Comes (on body) (Err fault) o' o'
+      by (inl lack) = subst (λ f. Comes (on body) (Err f) o' o') (sym lack) (short_of (on body) o')
       by (inr is) = inl (record { written = nothing; is = is; took = both_none o'.shown; link = refl })
 
-  pub goes_by : (body : Body) (result : Result Performed Fault) → AskDoes asked (Ok body) v v' o o' → Follows result (feeds_at onward) (plan_at onward body.first body.bytes.items body.whole)
+  pub goes_by : (body : Body) (result : Result Performed Fault) → AskDoes asked (Ok body) v v' o o' → Follows result (feeds_at onward) (on body)
       → AskedSays asked.input (feeds_at onward) (asks_then asked (plan_at onward)) result v v' o o'
   goes_by body (Ok (On after)) does f = goes_to body after does f
   goes_by body (Ok (Ended status)) does f = f

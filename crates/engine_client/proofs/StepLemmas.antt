@@ -11,7 +11,7 @@ use Rattle.engine_text.specs.declared.event.Event.{Event}
 use Rattle.engine_text.specs.declared.event.FoldRow.{FoldRow}
 use Rattle.event_ring.specs.Fold.{fold_of}
 use Rattle.client_model.specs.Bodies.{id_in, status_code_in, container_lines_in, volume_names_in}
-use Rattle.client_model.specs.Plans.{Plan, Ends, cut_fault, goes_on, reads, prints, prints_all, ends, done, fails}
+use Rattle.client_model.specs.Plans.{Plan, Ends, cut_fault, goes_on, reads, prints, prints_all, ends, done, fails, fault_to, named}
 use Rattle.client_model.specs.Streams.{events_in}
 use Rattle.client_model.specs.Commands.Exec.{exit_code_in}
 use Rattle.client_model.specs.Commands.Health.{checked_in, lines_in, told_health}
@@ -48,6 +48,19 @@ pub fed_so : (result : Result Step Fault) (input : Bool) (plan plan' : Plan) →
 fed_so result true plan plan' is goes = step_as result true plan plan' is goes
 fed_so result false plan plan' is goes = step_as result false plan plan' is goes
 
+-- ---- where a fault names its answer
+
+-- a step is the first of the same plan
+pub named_step : (line : List ℕ) (status : Option ℕ) (now : Step) (fed : Bool) (plan : Plan) → GoesOn (Ok now) fed plan → GoesOn (Ok now) fed (named line status plan)
+named_step line status (step.Asks ask onward) fed plan ((request, bytes, is, once), feeds_so) = ((request, bytes, ap (named line status) is, once), feeds_so)
+named_step line status (step.Writes text code) fed plan (is, feeds_so) = (ap (named line status) is, feeds_so)
+named_step line status (step.Judges upgrade seed moment) fed plan ((is, timed), feeds_so) = ((ap (named line status) is, timed), feeds_so)
+
+pub named_fault : (line : List ℕ) (status : Option ℕ) (fault told : Fault) (fed : Bool) (plan : Plan) → told ≡ fault_to line status fault → GoesOn (Err fault) fed plan
+    → GoesOn (Err told) fed (named line status plan)
+named_fault line status fault told fed plan is (inl lack) = inl (is ∙ ap (fault_to line status) lack)
+named_fault line status fault told fed plan is (inr fails_so) = inr (ap (named line status) fails_so ∙ ap fails (sym is))
+
 -- ---- what is read
 
 pub read_goes : {A : Type 0} (read : List ℕ → Option A) (next : A → Plan) (bytes body : List ℕ) (x : A) (result : Result Step Fault) (fed : Bool)
@@ -62,6 +75,7 @@ fault_goes next read F.Input fed is = absurd is
 fault_goes next read F.Output fed is = absurd is
 fault_goes next read F.Errors fed is = absurd is
 fault_goes next read F.NoCode fed is = absurd is
+fault_goes next read (F.AnswerTo request status) fed is = absurd is
 fault_goes next read F.NoCheck fed is = absurd is
 fault_goes next read F.EventsGone fed is = absurd is
 fault_goes next read F.TooLong fed is = absurd is
@@ -218,6 +232,7 @@ rows_fault events F.Input is = absurd is
 rows_fault events F.Output is = absurd is
 rows_fault events F.Errors is = absurd is
 rows_fault events F.NoCode is = absurd is
+rows_fault events (F.AnswerTo request status) is = absurd is
 rows_fault events F.NoCheck is = absurd is
 rows_fault events F.EventsGone is = absurd is
 rows_fault events F.TooLong is = absurd is

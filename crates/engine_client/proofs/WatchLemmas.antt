@@ -156,6 +156,7 @@ folds_fail rows rows' rest line behind body fault before (front, none, ends, is)
     by_fault F.Output m = absurd m
     by_fault F.Errors m = absurd m
     by_fault F.NoCode m = absurd m
+    by_fault (F.AnswerTo request status) m = absurd m
     by_fault F.NoCheck m = absurd m
     by_fault F.EventsGone m = absurd m
     by_fault F.TooLong m = absurd m
@@ -171,6 +172,7 @@ read_fails F.Input meaning rows is = absurd is
 read_fails F.Output meaning rows is = absurd is
 read_fails F.Errors meaning rows is = absurd is
 read_fails F.NoCode meaning rows is = absurd is
+read_fails (F.AnswerTo request status) meaning rows is = absurd is
 read_fails F.NoCheck meaning rows is = absurd is
 read_fails F.EventsGone meaning rows is = absurd is
 read_fails F.TooLong meaning rows is = absurd is

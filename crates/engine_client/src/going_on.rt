@@ -1,6 +1,6 @@
 // What a command does behind an answer that doesn't refuse.
-ghost use Rattle.std.specs.Prelude.{◌≡◌, ℕ, List, true, false};
-ghost use Rattle.client_model.specs.Plans.{fails};
+ghost use Rattle.std.specs.Prelude.{◌≡◌, ℕ, List, Some, true, false};
+ghost use Rattle.client_model.specs.Plans.{fails, named};
 ghost use Rattle.client_model.specs.Commands.Health.{told_health};
 ghost use Rattle.client_model.specs.Commands.Watch.{watched};
 ghost use Rattle.client_model.specs.declared.checked.Checked.{Checked};
@@ -14,7 +14,7 @@ use crate::places::{
 };
 use crate::printing::{prints, prints_body};
 use crate::step::Step;
-use client_exchange::{Body, cut_fault};
+use client_exchange::{Body, cut_fault, fault_to};
 use client_model::Fault;
 use std::alloc::Global;
 
@@ -67,23 +67,38 @@ fn whole(alloc: Global, place: &Then, first: Option<u64>, body: &mut Vec<u8>) ->
     }
 }
 
-/// What a command does from this place on, by what came of the body of an answer that doesn't refuse; that may be taken.
-fn onward(alloc: Global, place: &Then, body: &mut Body) -> Result<Step, Fault>
-    ensures { GoesOn result (feeds_at place.now)
-        (plan_at place.now body.old.first body.old.bytes.items body.old.whole) }
+/// What a command does from this place on, by what came of a body, which may be taken.
+fn onward(
+    alloc: Global,
+    place: &Then,
+    first: Option<u64>,
+    body: &mut Vec<u8>,
+    is_whole: bool,
+) -> Result<Step, Fault>
+    ensures { GoesOn result (feeds_at place.now) (plan_at place.now first body.old.items is_whole) }
 {
-    if !body.whole {
-        return Err(short(place, body.first, &body.bytes));
+    if is_whole {
+        whole(alloc, place, first, body)
+    } else {
+        Err(short(place, first, body))
     }
-    let first = body.first;
-    whole(alloc, place, first, &mut body.bytes)
 }
 
-/// What a command does from this place on, by what came of the body of an answer that doesn't refuse.
+/// What a command does from this place on, by an answer that doesn't refuse; a fault of the answer names its request.
 pub fn next(alloc: Global, place: &Then, body: Body) -> Result<Step, Fault>
-    ensures { GoesOn result (feeds_at place.now)
-        (plan_at place.now body.first body.bytes.items body.whole) }
+    ensures { GoesOn result (feeds_at place.now) (named body.line (Some body.status)
+        (plan_at place.now body.first body.bytes.items body.whole)) }
 {
-    let mut body = body;
-    onward(alloc, place, &mut body)
+    let Body {
+        line,
+        status,
+        first,
+        bytes,
+        whole: is_whole,
+    } = body;
+    let mut bytes = bytes;
+    match onward(alloc, place, first, &mut bytes, is_whole) {
+        Ok(step) => Ok(step),
+        Err(fault) => Err(fault_to(line, Some(status), fault)),
+    }
 }

@@ -1,8 +1,8 @@
 // A command, performed step by step.
-ghost use Rattle.std.specs.Prelude.{◌≡◌};
+ghost use Rattle.std.specs.Prelude.{◌≡◌, Some};
 ghost use Rattle.engine_ports.specs.Link.{but_for};
 ghost use Rattle.http_edge.specs.Message.{Request};
-ghost use Rattle.client_model.specs.Plans.{Plan};
+ghost use Rattle.client_model.specs.Plans.{Plan, named};
 ghost use Rattle.client_model.specs.Requests.{request_bytes};
 ghost use Rattle.client_model.specs.Client.{plan_of};
 ghost use Rattle.client_exchange.specs.Asking.{asked_as, asks_then};
@@ -26,8 +26,8 @@ use std::sync::Wait;
 
 /// The step behind an answer that doesn't refuse.
 fn go_on(alloc: Global, place: &Then, body: Body) -> Result<Performed, Fault>
-    ensures { Follows result (feeds_at place.now)
-        (plan_at place.now body.first body.bytes.items body.whole) }
+    ensures { Follows result (feeds_at place.now) (named body.line (Some body.status)
+        (plan_at place.now body.first body.bytes.items body.whole)) }
 {
     match next(alloc, place, body) {
         Ok(step) => Ok(Performed::On(step)),

@@ -60,7 +60,7 @@ never_five line status stepping o o' sets ran is =
     let v = by.1 in
     let cause : EndingCause (Some ran.ending) old new =
     causes ch 0 ran.ending v.pumps
-    (record { read = v.read; written = v.written; handed = v.handed; from = []; to = ran.pass.seen; old = old; new = new })
+    (record { read = v.read; written = v.written; handed = v.goes.handed; from = []; to = ran.pass.seen; old = old; new = new })
     v.session in
     never_rose (subst (λ e. EndingCause (Some e) old new) (five ran.ending (sym ran.status_is ∙ is)) cause)
 
@@ -159,8 +159,8 @@ no_line words status o o' d d' none (inr runs) =
 
 adds_by : (steps : Option (ℕ × ℕ)) (k : ℕ) (e : Ending) (p q : PassView) (o o' : Outside) → ServesBy steps k e p q o o' → p.number ≡ Every
     → AddsOwn k p q
-adds_by None k e p q o o' serves every = serves.adds every
-adds_by (Some stepping) k e p q o o' serves every = serves.1.adds every
+adds_by None k e p q o o' serves every = serves.goes.adds every
+adds_by (Some stepping) k e p q o o' serves every = serves.1.goes.adds every
 
 -- all calls of a session's daemon are of connection 0 and its standard input
 pub all_own : (line : Line) (status : ℕ) (o o' : Outside) (ran : RunsSession line status o o') (d : Daemon) (n : ℕ) → ran.pass ≡ whole_pass d

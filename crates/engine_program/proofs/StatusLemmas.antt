@@ -49,7 +49,7 @@ fault_alone W.Closed is = absurd (omega (arith, is))
 
 served_cause : (k : ℕ) (e : Ending) (p q : PassView) (o o' : Outside) → Serves k e p q o o' → EndingCause (Some e) o o'
 served_cause k e p q o o' v =
-    causes p.charter k e v.pumps (record { read = v.read; written = v.written; handed = v.handed; from = p.seen; to = q.seen; old = o; new = o' }) v.session
+    causes p.charter k e v.pumps (record { read = v.read; written = v.written; handed = v.goes.handed; from = p.seen; to = q.seen; old = o; new = o' }) v.session
 
 -- by a clock of the line's own no session is stopped
 unstopped_by : (e : Ending) (o o' : Outside) → o.clock ≡ unstopped → o'.clock ≡ unstopped → EndingCause (Some e) o o' → status_by (called_by e) ≡ 5 → ⊥

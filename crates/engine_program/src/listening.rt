@@ -5,9 +5,11 @@ ghost use Rattle.engine_program.specs.Listening.{ServesDoor, Listens, addr_of};
 
 use crate::opening::{opening_by, steps_of};
 use crate::status::status_by;
-use daemon_shared::run_daemon;
+use api_routes::Routes;
+use daemon_shared::{Opening, run_daemon};
 use engine_line::Line;
 use engine_ports::{Clock, Door};
+use engine_serve::law_routes_are_shared;
 use session_model::Worst;
 use std::alloc::{AllocError, Global};
 use std::sync::Wait;
@@ -32,17 +34,19 @@ fn serve_door<R: Threads + Wait + Sync, C: Clock, D: Door>(
     ensures { ServesDoor line result (C.times clock.old) (C.times clock.new)
         (D.opens door.old) (D.opens door.new) }
 {
-    let opening = opening_by(line.clock, clock);
-    let (worst, daemon) = run_daemon(
-        rt,
-        alloc,
-        line.seed,
-        opening,
-        u64::from(line.entries),
-        line.connections,
-        steps_of(line.clock),
-        door,
-    );
+    let moment = opening_by(line.clock, clock);
+    let Ok(routes) = Routes::new(alloc) else {
+        return status_by(Worst::NoMemory);
+    };
+    law_routes_are_shared(&routes);
+    let seed = line.seed;
+    let opening = Opening {
+        seed,
+        moment,
+        greatest: u64::from(line.entries),
+    };
+    let steps = steps_of(line.clock);
+    let (worst, daemon) = run_daemon(rt, alloc, &routes, opening, line.connections, steps, door);
     drop(daemon);
     status_by(worst)
 }

@@ -9,22 +9,26 @@ ghost use Rattle.engine_program.specs.Running.{RunsSession};
 
 use crate::opening::{opening_by, steps_of};
 use crate::status::status_by;
+use api_routes::Routes;
 use daemon_core::{Alone, Daemon};
 use daemon_shared::{called_by, serve_by};
 use engine_line::Line;
 use engine_ports::{Clock, Sink, Source};
+use engine_serve::law_routes_are_shared;
 use engine_text::NoMemory;
 use session_model::Worst;
 use std::alloc::Global;
 use std::sync::Wait;
 use std::thread::Threads;
 
-/// A daemon without history, as the line sets it, opened at a moment.
-fn daemon_of(alloc: Global, line: Line, opening: u64) -> Result<Daemon, NoMemory>
+/// A daemon without history, as the line sets it, opened at a moment, and the API's routes.
+fn daemon_of(alloc: Global, line: Line, opening: u64) -> Result<(Daemon, Routes), NoMemory>
     requires { opening ≤ greatest_moment }
-    ensures { IfOk result (λ d. whole_pass d ≡ pass_of (charter_by line opening) []) }
+    ensures { IfOk result (λ r. whole_pass r.0 ≡ pass_of (charter_by line opening) []) }
 {
-    Daemon::new(alloc, line.seed, opening, u64::from(line.entries))
+    let routes = Routes::new(alloc)?;
+    let daemon = Daemon::new(alloc, line.seed, opening, u64::from(line.entries))?;
+    Ok((daemon, routes))
 }
 
 /// Serves one connection with a new daemon, by the line's clock or by the handed one.
@@ -42,11 +46,14 @@ pub fn run_session<R: Threads + Wait + Sync, S: Source, K: Sink, C: Clock>(
         (outside (S.gives source.new) (K.takes sink.new) (C.times clock.new)) }
 {
     let opening = opening_by(line.clock, clock);
-    let Ok(daemon) = daemon_of(alloc, line, opening) else {
+    let Ok((daemon, routes)) = daemon_of(alloc, line, opening) else {
         return status_by(Worst::NoMemory);
     };
+    law_routes_are_shared(&routes);
     let mut turns = Alone::new(daemon);
     let steps = steps_of(line.clock);
-    let ending = serve_by(rt, &mut turns, alloc, 0, steps, source, sink, clock);
+    let ending = serve_by(
+        rt, &mut turns, alloc, 0, &routes, steps, source, sink, clock,
+    );
     status_by(called_by(ending))
 }

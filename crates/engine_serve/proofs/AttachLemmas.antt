@@ -19,12 +19,10 @@ use Rattle.http_edge.specs.Message.{Request}
 use Rattle.api_routes.specs.Class.{class_of}
 use Rattle.api_routes.specs.RouteClass.{takeover}
 use Rattle.api_routes.specs.declared.class.Class.TheVariants.{Stream}
-use Rattle.session_model.specs.declared.terms.Terms.{Terms}
 use Rattle.session_model.specs.declared.turned.Turned.{Turned}
 use Rattle.session_model.specs.declared.turned.Turned.TheVariants as T
-use Rattle.session_model.specs.Exchange.{IsMadeAt, call_of, flow_of}
+use Rattle.session_model.specs.Exchange.{IsMadeAt, call_of}
 use Rattle.session_model.specs.Pass.{PassView}
-use Rattle.session_model.specs.Responses.{terms_of, journal_full_response, out_of_memory_response}
 use Rattle.session_model.specs.Turning.{Turn, found}
 use Rattle.session_model.proofs.HistoryLemmas.{dues_none, run_append}
 use Rattle.session_model.proofs.TurnLemmas.{makes_call, state_seen, turn_made_at, turn_opens}
@@ -33,12 +31,10 @@ use Rattle.daemon_core.proofs.CallLemmas.{call_at}
 use Rattle.attach_hub.proofs.AttachLemmas.{attach_opens, exec_opens}
 use Rattle.attach_hub.proofs.OpenLemmas.{Opens}
 use Rattle.attach_hub.proofs.RunLemmas.{HasRuns, legal_runs}
-use Rattle.engine_serve.specs.declared.went.Went.{Went}
-use Rattle.engine_serve.specs.Answering.{SendsReply}
 use Rattle.engine_serve.specs.Overtaking.{IsAttaching, OpensOver, stream_of}
-use Rattle.engine_serve.specs.Serving.{Sends, Tries}
-use Rattle.engine_serve.proofs.AnswerLemmas.{full, never_other, no_drop, no_memory, replied}
+use Rattle.engine_serve.proofs.AnswerLemmas.{never_other, no_drop}
 use Rattle.engine_serve.proofs.ReplyLemmas.{made_reply}
+use Rattle.attach_hub.specs.Connection.{view_of}
 
 -- ---- the call
 
@@ -60,7 +56,7 @@ feeds_none (call.Attach target ask) attaching = refl
 feeds_none (call.ExecStart id false) attaching = refl
 feeds_none c attaching = absurd attaching
 
-asks_over : (r : Request) (c : Call) (upgrade : Bool) → class_of r ≡ Stream c (takeover upgrade) → call_of (class_of r) ≡ Some c
+pub asks_over : (r : Request) (c : Call) (upgrade : Bool) → class_of r ≡ Stream c (takeover upgrade) → call_of (class_of r) ≡ Some c
 asks_over r c upgrade class = ap call_of class
 
 -- ---- its reply
@@ -118,9 +114,9 @@ opens_at (call.Attach target ask) k t s attaching runs consistent = attach_opens
 opens_at (call.ExecStart id false) k t s attaching runs consistent = exec_opens id false k t s consistent
 opens_at c k t s attaching runs consistent = absurd attaching
 
-pub attach_opened : (k handed : ℕ) (r : Request) (c : Call) (upgrade : Bool) (x : Reply) (spec : LogSpec) (p q : PassView) (v w : ClockView)
+pub attach_opened : {i : ℕ} {l1 : ℕ × ℕ × ℕ} {l2 : ℕ × ℕ × ℕ} {v1 : SinkView} {v2 : SinkView} (k handed : ℕ) (r : Request) (c : Call) (upgrade : Bool) (x : Reply) (spec : LogSpec) (p q : PassView) (v w : ClockView)
     → IsTrue p.pair → class_of r ≡ Stream c (takeover upgrade) → IsAttaching c → stream_of x ≡ Some spec → ClockHanded v (handed ∷ []) w
-    → Turn k handed (Some c) (T.Replied x) p q → OpensOver k r upgrade spec p q v w
+    → Turn k handed (Some c) (T.Replied x) p q → OpensOver r upgrade spec (view_of k l1 p v1 v) (view_of i l2 q v2 w)
 unfolding turn_opens
 attach_opened k handed r c upgrade x spec p q v w pair class attaching is clock turn =
     let s : State = found k p q turn.turns in
@@ -147,28 +143,3 @@ attach_opened k handed r c upgrade x spec p q v w pair class attaching is clock 
       moves = turn_opens k handed c p q turn.turns m.0 v w pair none m.2.1 (call_at c k) clock;
       one = refl;
     }
-
--- ---- its refusal
-
-pub attach_refused : (k handed : ℕ) (r : Request) (terms : Terms) (c : Call) (upgrade : Bool) (x : Reply) (result : Went) (p q : PassView)
-    (u u' : SinkView) (t t' : ClockView) → terms ≡ terms_of r → IsTrue p.pair → class_of r ≡ Stream c (takeover upgrade) → IsAttaching c
-    → ClockHanded t (handed ∷ []) t' → Turn k handed (Some c) (T.Replied x) p q → SendsReply terms x result u u' → Tries k r result p q u u' t t'
-attach_refused k handed r terms c upgrade x result p q u u' t t' is pair class attaching clock turn sends =
-    replied k handed r c x result p q u u' t t' pair (asks_over r c upgrade class) (ends_none c attaching) clock turn
-    (subst (λ y. SendsReply y x result u u') is sends)
-
-pub attach_full : (k handed : ℕ) (r : Request) (terms : Terms) (c : Call) (upgrade : Bool) (result : Went) (p q : PassView)
-    (u u' : SinkView) (t t' : ClockView) → terms ≡ terms_of r → IsTrue p.pair → class_of r ≡ Stream c (takeover upgrade)
-    → ClockHanded t (handed ∷ []) t' → Turn k handed (Some c) T.JournalFull p q → Sends (flow_of terms) result (journal_full_response terms) u u'
-    → Tries k r result p q u u' t t'
-attach_full k handed r terms c upgrade result p q u u' t t' is pair class clock turn sends =
-    full k handed r c result p q u u' t t' pair (asks_over r c upgrade class) clock turn
-    (subst (λ y. Sends (flow_of y) result (journal_full_response y) u u') is sends)
-
-pub attach_short : (k handed : ℕ) (r : Request) (terms : Terms) (c : Call) (upgrade : Bool) (result : Went) (p q : PassView)
-    (u u' : SinkView) (t t' : ClockView) → terms ≡ terms_of r → IsTrue p.pair → class_of r ≡ Stream c (takeover upgrade)
-    → ClockHanded t (handed ∷ []) t' → Turn k handed (Some c) T.NoMemory p q → Sends (flow_of terms) result (out_of_memory_response terms) u u'
-    → Tries k r result p q u u' t t'
-attach_short k handed r terms c upgrade result p q u u' t t' is pair class clock turn sends =
-    no_memory k handed r c result p q u u' t t' pair (asks_over r c upgrade class) clock turn
-    (subst (λ y. Sends (flow_of y) result (out_of_memory_response y) u u') is sends)

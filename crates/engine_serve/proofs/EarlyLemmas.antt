@@ -1,11 +1,11 @@
 -- What answers a wait whose head comes before it is over.
-use Rattle.std.proofs.Common.{◌≡◌, ◌≤◌, ◌<◌, length, inl, inr, ℕ, List, [], ◌∷◌, ◌++◌, append-nil, append_assoc, refl, sym, ◌∙◌, ap, subst, arith, true, if◌then◌else◌, Some, None, Result, Ok}
-use Rattle.std.specs.Prelude.{IsTrue, IsFalse}
+use Rattle.std.proofs.Common.{◌≡◌, ◌≤◌, ◌<◌, length, inl, inr, ℕ, List, [], ◌∷◌, ◌++◌, append-nil, append_assoc, refl, sym, ◌∙◌, ap, subst, arith, true, if◌then◌else◌, None, Result, Ok}
+use Rattle.std.specs.Prelude.{IsTrue}
 use Rattle.std.proofs.lemmas.Bool.{false≢true}
 use Rattle.std.proofs.lemmas.List.Elements.{All-nil, All-cons}
 use Rattle.engine_ports.specs.Sink.{SinkView, SinkTook, WriteSays}
 use Rattle.engine_ports.specs.Source.{SourceView}
-use Rattle.engine_ports.specs.Clock.{ClockView, ClockHanded}
+use Rattle.engine_ports.specs.Clock.{ClockView}
 use Rattle.engine_ports.specs.Door.{outside}
 use Rattle.engine_ports.specs.declared.ports.Failed.{Failed}
 use Rattle.engine_ports.proofs.PortLemmas.{rose_since, rose_until, sink_on, written_on}
@@ -14,7 +14,6 @@ use Rattle.engine_text.specs.declared.call.Call.TheVariants as call
 use Rattle.engine_text.specs.declared.reply.Reply.TheVariants as reply
 use Rattle.engine_text.specs.declared.step.Step.{Step}
 use Rattle.machine_model.specs.History.{Charter, IsLegal}
-use Rattle.machine_model.specs.Statuses.{ends_ticket}
 use Rattle.http_edge.specs.Chunks.{chunk_text, last_chunk, IsChunked}
 use Rattle.http_edge.specs.Message.{Request}
 use Rattle.api_routes.specs.Class.{class_of}
@@ -23,20 +22,19 @@ use Rattle.session_model.specs.declared.followed.Followed.{Followed}
 use Rattle.session_model.specs.declared.followed.Followed.TheVariants as F
 use Rattle.session_model.specs.declared.terms.Terms.{Terms}
 use Rattle.session_model.specs.declared.turned.Awaited.{Awaited}
-use Rattle.session_model.specs.declared.turned.Turned.TheVariants as T
 use Rattle.session_model.specs.Exchange.{Flow, Leaves, flow_behind, is_early, is_whole, BreaksWait, IsMade, IsAnswered, IsSentInChunks, InChunks, OfWait, OfBrokenWait}
 use Rattle.session_model.specs.Pass.{PassView}
 use Rattle.session_model.specs.Progress.{Moves}
 use Rattle.session_model.specs.Responses.{terms_of, early_head}
 use Rattle.session_model.specs.Session.{FollowCause}
-use Rattle.session_model.specs.Turning.{Turn}
 use Rattle.session_model.proofs.TurnLemmas.{moves_on}
 use Rattle.attach_hub.specs.Waiting.{AwaitSays, AwaitsBy, IsDropped}
 use Rattle.attach_hub.proofs.StatusLemmas.{wait_status}
 use Rattle.engine_serve.specs.declared.went.Went.{Went}
 use Rattle.engine_serve.specs.Serving.{Sends, GoesSo, Tries}
 use Rattle.engine_serve.specs.Early.{one_chunk, broken_flow, SendsBehind, HasLost, WaitsEarly, Waited, HeadWasLost}
-use Rattle.engine_serve.proofs.AnswerLemmas.{BeginsWait, begins_wait, wait_dropped, wait_taken, tries_whole, left_tries}
+use Rattle.engine_serve.proofs.AnswerLemmas.{BeginsWait, wait_dropped, wait_taken, tries_whole, left_tries}
+use Rattle.attach_hub.specs.Connection.{view_of}
 
 -- ---- what was sent
 
@@ -133,21 +131,21 @@ broken ch k r behind a b F.Whole head ms broke row = absurd broke
 broken ch k r behind a b (F.Lagged next first) head ms broke row = absurd broke
 
 -- the head was sent, or its write failed, and the session ends
-broke_off : (k n : ℕ) (r : Request) (c : Call) (f : Followed) (result : Went) (p q s : PassView) (u u' : SinkView) (v w x : ClockView)
+broke_off : {i : ℕ} {l1 : ℕ × ℕ × ℕ} {l2 : ℕ × ℕ × ℕ} (k n : ℕ) (r : Request) (c : Call) (f : Followed) (result : Went) (p q s : PassView) (u u' : SinkView) (v w x : ClockView)
     → class_of r ≡ Ask c → IsTrue (is_early r c) → BeginsWait k n c p q v w
     → IsDropped p.charter k n q.seen s.seen → Moves k q s w x → BreaksWait f
     → ((o o' : SourceView) → FollowCause f (outside o u v) (outside o' u' x))
-    → Sends (broken_flow f) result (early_head (terms_of r)) u u' → Tries k r result p s u u' v x
+    → Sends (broken_flow f) result (early_head (terms_of r)) u u' → Tries r result (view_of k l1 p u v) (view_of i l2 s u' x)
 unfolding moves_on
 broke_off k n r c f result p q s u u' v w x class early first dropped last breaks cause sends =
     left_tries k r f result (early_head (terms_of r)) p s u u' v x sends cause (moves_on k p q s v w x first.moves last)
     (λ behind. broken p.charter k r behind p.seen s.seen f (early_head (terms_of r)) _ breaks
     (OfBrokenWait c f _ class early breaks (wait_dropped k n c p q s v w last.handed first dropped)))
 
-early_so : (k n : ℕ) (r : Request) (c : Call) (awaited : Awaited) (result : Went) (p q s : PassView) (u u' : SinkView) (v w x : ClockView)
+early_so : {i : ℕ} {l1 : ℕ × ℕ × ℕ} {l2 : ℕ × ℕ × ℕ} (k n : ℕ) (r : Request) (c : Call) (awaited : Awaited) (result : Went) (p q s : PassView) (u u' : SinkView) (v w x : ClockView)
     → class_of r ≡ Ask c → IsTrue (is_early r c) → BeginsWait k n c p q v w → IsLegal p.charter q.seen
     → (last : Moves k q s w x) → AwaitSays p.charter k n q.seen s.seen awaited last.handed w x → v.stops ≤ w.stops
-    → SendsBehind (terms_of r) (early_head (terms_of r)) awaited result u u' → HasLost awaited u u' → Tries k r result p s u u' v x
+    → SendsBehind (terms_of r) (early_head (terms_of r)) awaited result u u' → HasLost awaited u u' → Tries r result (view_of k l1 p u v) (view_of i l2 s u' x)
 unfolding moves_on
 early_so k n r c (Awaited.Replied given) result p q s u u' v w x class early first legal last says le (status, body, is, sends) lost =
     let took : AwaitSays p.charter k n q.seen s.seen (Awaited.Replied (reply.Answer status body)) last.handed w x =
@@ -168,21 +166,13 @@ early_so k n r c Awaited.WriteFault result p q s u u' v w x class early first le
 early_so k n r c Awaited.NoMemory result p q s u u' v w x class early first legal last says le sends lost =
     broke_off k n r c F.NoMemory result p q s u u' v w x class early first says last tt (λ o o'. tt) sends
 
-early_by : (k n : ℕ) (r : Request) (c : Call) (result : Went) (p q s : PassView) (u u' : SinkView) (v w x : ClockView)
+pub early_by : {i : ℕ} {j : ℕ} {l1 : ℕ × ℕ × ℕ} {l2 : ℕ × ℕ × ℕ} {l3 : ℕ × ℕ × ℕ} {l4 : ℕ × ℕ × ℕ} (k n : ℕ) (r : Request) (c : Call) (result : Went) (p q s : PassView) (u u' : SinkView) (v w x : ClockView)
     → q.charter ≡ p.charter → class_of r ≡ Ask c → IsTrue (is_early r c) → BeginsWait k n c p q v w
-    → IsLegal q.charter q.seen → v.stops ≤ w.stops → WaitsEarly k n (terms_of r) result q s u u' w x
-    → Tries k r result p s u u' v x
-early_by k n r c result p q s u u' v w x same class early first legal le (Waited awaited awaits sends lost) =
-    early_so k n r c awaited result p q s u u' v w x class early first (subst (λ ch. IsLegal ch q.seen) same legal) awaits.moves
-    (subst (λ ch. AwaitSays ch k n q.seen s.seen awaited awaits.moves.handed w x) same awaits.says) le sends lost
+    → IsLegal q.charter q.seen → v.stops ≤ w.stops → WaitsEarly n (terms_of r) result (view_of k l3 q u w) (view_of j l4 s u' x)
+    → Tries r result (view_of k l1 p u v) (view_of i l2 s u' x)
+early_by k n r c result p q s u u' v w x same class early first legal le (Waited awaited moves says sends lost) =
+    early_so k n r c awaited result p q s u u' v w x class early first (subst (λ ch. IsLegal ch q.seen) same legal) moves
+    (subst (λ ch. AwaitSays ch k n q.seen s.seen awaited moves.handed w x) same says) le sends lost
 early_by k n r c result p q s u u' v w x same class early first legal le (HeadWasLost dropped moves rose sends) =
     broke_off k n r c F.WriteFault result p q s u u' v w x class early first
     (subst (λ ch. IsDropped ch k n q.seen s.seen) same dropped) moves tt (λ o o'. rose) sends
-
-pub waited_early : (k handed n : ℕ) (r : Request) (terms : Terms) (c : Call) (result : Went) (p q s : PassView) (u u' : SinkView)
-    (v w x : ClockView) → terms ≡ terms_of r → IsTrue p.pair → class_of r ≡ Ask c → IsFalse (ends_ticket c)
-    → IsTrue (is_early r c) → ClockHanded v (handed ∷ []) w → Turn k handed (Some c) (T.Begun n) p q
-    → WaitsEarly k n terms result q s u u' w x → Tries k r result p s u u' v x
-waited_early k handed n r terms c result p q s u u' v w x is pair class kind early clock turn waits =
-    early_by k n r c result p q s u u' v w x turn.turns.stays.charter class early (begins_wait k handed n c p q v w pair kind clock turn)
-    turn.turns.legal clock.stops (subst (λ y. WaitsEarly k n y result q s u u' w x) is waits)

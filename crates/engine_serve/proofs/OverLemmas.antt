@@ -33,6 +33,7 @@ use Rattle.session_model.specs.declared.terms.Terms.{Terms}
 use Rattle.session_model.specs.Exchange.{Flow, Leaves, IsMadeAt, IsAnswered, HeadIsLost, TakenOver}
 use Rattle.session_model.specs.Guarantee.{Serves}
 use Rattle.session_model.specs.Moments.{StaysWithin}
+use Rattle.session_model.specs.Progress.{GoesOver}
 use Rattle.session_model.specs.Pass.{PassView, Stays}
 use Rattle.session_model.specs.Responses.{takeover_head, head_of_stream, terms_of}
 use Rattle.session_model.specs.Session.{FollowCause, IsWritten, ending_of_ends, is_pumped}
@@ -43,11 +44,12 @@ use Rattle.session_model.proofs.SessionLemmas.{begins_more}
 use Rattle.session_model.proofs.AddsLemmas.{adds_none, adds_on, owns, owns_on}
 use Rattle.session_model.proofs.TurnLemmas.{stays_on, stays_same, same_pass}
 use Rattle.attach_hub.specs.Following.{IsTaken}
-use Rattle.attach_hub.specs.Sides.{GoesOver, RunsOver}
+use Rattle.attach_hub.specs.Sides.{RunsOver}
 use Rattle.engine_serve.specs.Overtaking.{IsTakenSo, OpensOver, Overtakes}
 use Rattle.engine_serve.proofs.AnswerLemmas.{as_told}
 use Rattle.engine_serve.proofs.ServeLemmas.{SoFar, read_on}
 use Rattle.engine_serve.proofs.NextLemmas.{Stands, begun}
+use Rattle.attach_hub.specs.Connection.{view_of}
 
 -- ---- the row
 
@@ -73,10 +75,10 @@ answered_over ch k r upgrade spec flow whole behind a b d m ns c class made (inr
 -- ---- the session
 
 -- a takeover ends it: what was read behind the request is the takeover's
-ended_over : (k : ℕ) (r : Request) (upgrade : Bool) (spec : LogSpec) (e : Ending) (p q m n : PassView) (s s1 s2 s3 : SourceView)
+ended_over : {i : ℕ} {j : ℕ} {l1 : ℕ × ℕ × ℕ} {l2 : ℕ × ℕ × ℕ} {l3 : ℕ × ℕ × ℕ} {l4 : ℕ × ℕ × ℕ} {v1 : SinkView} {v2 : SinkView} (k : ℕ) (r : Request) (upgrade : Bool) (spec : LogSpec) (e : Ending) (p q m n : PassView) (s s1 s2 s3 : SourceView)
     (u u1 u3 : SinkView) (t t1 t2 t3 : ClockView) (held ahead : List ℕ) → SoFar k p q s s1 u u1 t t1 held
-    → Reached held s1 s2 (λ all. Begins all r ahead) → OpensOver k r upgrade spec q m t1 t2
-    → Overtakes k upgrade spec e m n ahead (outside s2 u1 t2) (outside s3 u3 t3) → IsLegal n.charter n.seen
+    → Reached held s1 s2 (λ all. Begins all r ahead) → OpensOver r upgrade spec (view_of k l1 q v1 t1) (view_of i l2 m v2 t2)
+    → Overtakes upgrade spec e (view_of k l3 m u1 t2) (view_of j l4 n u3 t3) ahead s2 s3 → IsLegal n.charter n.seen
     → Serves k e p n (outside s u t) (outside s3 u3 t3)
 ended_over k r upgrade spec e p q m n s s1 s2 s3 u u1 u3 t t1 t2 t3 held ahead so next opens over legal =
     let now = read_on k p q s s1 s2 u u1 t t1 held next.read (held ++ next.read) so next.gave refl in
@@ -93,28 +95,31 @@ ended_over k r upgrade spec e p q m n s s1 s2 s3 u u1 u3 t t1 t2 t3 held ahead s
     record {
       read = all.read;
       written = all.written ++ over.part;
-      handed = all.handed ++ late;
       source = all.source;
       sink = sink_on u u1 u3 all.written over.part all.sink over.sink;
-      clock = clock_on t t1 t3 all.handed late all.clock (clock_on t1 t2 t3 opens.moves.handed over.goes.handed opens.moves.clock over.goes.clock);
-      extends = extends_on p.seen q.seen n.seen all.extends (extends_on q.seen m.seen n.seen opens.moves.extends over.goes.extends);
-      legal = legal;
-      same = record {
-        joined_calls = refl;
-        number = over.goes.same.number ∙ stays.number;
-        pair = refl;
-        charter = over.goes.same.charter ∙ stays.charter;
-        alone = over.goes.same.alone ∙ stays.alone;
-        home = over.goes.same.home ∙ stays.home;
-      };
-      adds = λ every. owns_on k p m n (owns k p m (adds_on k p q m all.adds opens.moves.adds)) (over.goes.adds (stays.number ∙ every));
       pumps = is_pumped over.flow;
-      stays = λ b. stays_on p m n stays (over.goes.stays b);
-      input = over.goes.input;
-      within = λ h b. within_on p.charter p.seen q.seen n.seen all.handed late (all.within h)
-          (within_on p.charter q.seen m.seen n.seen opens.moves.handed over.goes.handed
-          (subst (λ ch. StaysWithin ch q.seen m.seen opens.moves.handed) all.stays.charter (opens.moves.within (all.stays.alone ∙ h)))
-          (subst (λ ch. StaysWithin ch m.seen n.seen over.goes.handed) stays.charter (over.goes.within (stays.alone ∙ h) b)));
+      goes = record {
+        handed = all.handed ++ late;
+        clock = clock_on t t1 t3 all.handed late all.clock (clock_on t1 t2 t3 opens.moves.handed over.goes.handed opens.moves.clock over.goes.clock);
+        extends = extends_on p.seen q.seen n.seen all.extends (extends_on q.seen m.seen n.seen opens.moves.extends over.goes.extends);
+        same = record {
+          joined_calls = refl;
+          number = over.goes.same.number ∙ stays.number;
+          pair = refl;
+          charter = over.goes.same.charter ∙ stays.charter;
+          alone = over.goes.same.alone ∙ stays.alone;
+          home = over.goes.same.home ∙ stays.home;
+        };
+        adds = λ every. owns_on k p m n (owns k p m (adds_on k p q m all.adds opens.moves.adds)) (over.goes.adds (stays.number ∙ every));
+        stays = λ b. stays_on p m n stays (over.goes.stays b);
+        input = over.goes.input;
+        within = λ h b. within_on p.charter p.seen q.seen n.seen all.handed late (all.within h)
+            (within_on p.charter q.seen m.seen n.seen opens.moves.handed over.goes.handed
+            (subst (λ ch. StaysWithin ch q.seen m.seen opens.moves.handed) all.stays.charter (opens.moves.within (all.stays.alone ∙ h)))
+            (subst (λ ch. StaysWithin ch m.seen n.seen over.goes.handed) stays.charter (over.goes.within (stays.alone ∙ h) b)));
+      };
+      legal = legal;
+      before = λ h. all.within h;
       session = record {
         done = all.done;
         tail = (held ++ next.read) ++ more;
@@ -148,15 +153,15 @@ ended_over k r upgrade spec e p q m n s s1 s2 s3 u u1 u3 t t1 t2 t3 held ahead s
       };
     }
 
-pub ends_over : (k : ℕ) (view : RequestView) (upgrade : Bool) (spec : LogSpec) (e : Ending) (p q m n : PassView) (s s1 s2 s3 : SourceView)
+pub ends_over : {i : ℕ} {j : ℕ} {l1 : ℕ × ℕ × ℕ} {l2 : ℕ × ℕ × ℕ} {l3 : ℕ × ℕ × ℕ} {l4 : ℕ × ℕ × ℕ} {v1 : SinkView} {v2 : SinkView} (k : ℕ) (view : RequestView) (upgrade : Bool) (spec : LogSpec) (e : Ending) (p q m n : PassView) (s s1 s2 s3 : SourceView)
     (u u1 u2 u3 : SinkView) (t t1 t2 t3 : ClockView) (old new : Reading) → Stands k p q s s1 u u1 t t1 old
-    → NextSays old new (next.Request view) s1 s2 → OpensOver k (request_of view) upgrade spec q m t1 t2 → u2 ≡ u1
-    → Overtakes k upgrade spec e m n new.ahead (outside s2 u2 t2) (outside s3 u3 t3) → IsLegal n.charter n.seen
+    → NextSays old new (next.Request view) s1 s2 → OpensOver (request_of view) upgrade spec (view_of k l1 q v1 t1) (view_of i l2 m v2 t2) → u2 ≡ u1
+    → Overtakes upgrade spec e (view_of k l3 m u2 t2) (view_of j l4 n u3 t3) new.ahead s2 s3 → IsLegal n.charter n.seen
     → Serves k e p n (outside s u t) (outside s3 u3 t3)
-ends_over k view upgrade spec e p q m n s s1 s2 s3 u u1 u2 u3 t t1 t2 t3 old new st says opens same over legal =
+ends_over {j = j} {l3 = l3} {l4 = l4} k view upgrade spec e p q m n s s1 s2 s3 u u1 u2 u3 t t1 t2 t3 old new st says opens same over legal =
     ended_over k (request_of view) upgrade spec e p q m n s s1 s2 s3 u u1 u3 t t1 t2 t3 old.ahead new.ahead st.so_far
     (begun old.ahead s1 s2 (request_of view) _ new.ahead says.2) opens
-    (subst (λ x. Overtakes k upgrade spec e m n new.ahead (outside s2 x t2) (outside s3 u3 t3)) same over) legal
+    (subst (λ x. Overtakes upgrade spec e (view_of k l3 m x t2) (view_of j l4 n u3 t3) new.ahead s2 s3) same over) legal
 
 -- ---- the takeover
 
@@ -173,9 +178,9 @@ goes_same k pumped p v pair = record {
 }
 
 -- the head's write failed
-pub head_lost : (k : ℕ) (upgrade : Bool) (spec : LogSpec) (f : Failed) (p : PassView) (ahead : List ℕ) (s : SourceView) (u u' : SinkView)
+pub head_lost : {j : ℕ} {l3 : ℕ × ℕ × ℕ} {l4 : ℕ × ℕ × ℕ} (k : ℕ) (upgrade : Bool) (spec : LogSpec) (f : Failed) (p : PassView) (ahead : List ℕ) (s : SourceView) (u u' : SinkView)
     (t : ClockView) → IsTrue p.pair → WriteSays (Err f) (takeover_head (takeover upgrade)) u u'
-    → Overtakes k upgrade spec E.WriteFault p p ahead (outside s u t) (outside s u' t)
+    → Overtakes upgrade spec E.WriteFault (view_of k l3 p u t) (view_of j l4 p u' t) ahead s s
 unfolding goes_same
 head_lost k upgrade spec f p ahead s u u' t pair (part, front, took, rose) = record {
   flow = Leaves F.WriteFault None;
@@ -199,10 +204,10 @@ written_over F.WriteFault end head body part o o' u took (cut, front) cause =
     inr (refl, (cut, append_assoc head part cut ∙ ap (λ x. head ++ x) front), rose_since u.faults o.sink.faults o'.sink.faults took.faults cause)
 
 -- the head was written, and the stream followed
-pub taken_over : (k : ℕ) (upgrade : Bool) (spec : LogSpec) (f : Followed) (end : Option PumpEnd) (e : Ending) (p q : PassView) (ahead : List ℕ)
+pub taken_over : {i : ℕ} {j : ℕ} {l1 : ℕ × ℕ × ℕ} {l2 : ℕ × ℕ × ℕ} {l3 : ℕ × ℕ × ℕ} {l4 : ℕ × ℕ × ℕ} (k : ℕ) (upgrade : Bool) (spec : LogSpec) (f : Followed) (end : Option PumpEnd) (e : Ending) (p q : PassView) (ahead : List ℕ)
     (s s' : SourceView) (u v u' : SinkView) (t t' : ClockView) → SinkTook u (takeover_head (takeover upgrade)) v
-    → RunsOver k spec f end p q ahead (outside s v t) (outside s' u' t') → e ≡ ending_of_ends f end
-    → Overtakes k upgrade spec e p q ahead (outside s u t) (outside s' u' t')
+    → RunsOver spec f end (view_of k l1 p v t) (view_of i l2 q u' t') ahead s s' → e ≡ ending_of_ends f end
+    → Overtakes upgrade spec e (view_of k l3 p u t) (view_of j l4 q u' t') ahead s s'
 taken_over k upgrade spec f end e p q ahead s s' u v u' t t' head runs is =
     let bytes : List ℕ = takeover_head (takeover upgrade) in
     let later : IsLater (outside s u t) (outside s v t) = record { reads = omega arith; ends = omega arith; writes = head.faults; stops = omega arith } in

@@ -26,7 +26,7 @@ use Rattle.session_model.specs.declared.turned.Turned.TheVariants as T
 use Rattle.session_model.specs.Exchange.{Flow, Leaves, flow_behind, flow_of, is_whole, IsBody, IsMadeAt, IsQuiet, IsAnswered, InChunks, OfStream, HeadIsLost}
 use Rattle.session_model.specs.Moments.{ComesTo}
 use Rattle.session_model.specs.Pass.{PassView}
-use Rattle.session_model.specs.Responses.{chunked_form, terms_of, head_of_stream, journal_full_response, out_of_memory_response}
+use Rattle.session_model.specs.Responses.{chunked_form, terms_of, head_of_stream}
 use Rattle.session_model.specs.Session.{FollowCause, IsWritten}
 use Rattle.session_model.specs.Turning.{Turn}
 use Rattle.session_model.proofs.CauseLemmas.{IsLater, cause_since}
@@ -34,14 +34,14 @@ use Rattle.session_model.proofs.HistoryLemmas.{quiet_same, dues_none}
 use Rattle.session_model.proofs.TurnLemmas.{moves_on, moves_same, makes_call, turn_made_at, turn_opens}
 use Rattle.daemon_core.proofs.CallLemmas.{call_at}
 use Rattle.attach_hub.specs.Following.{Follows}
-use Rattle.attach_hub.proofs.TellLemmas.{ends_whole, failed_comes}
+use Rattle.attach_hub.proofs.TellLemmas.{ends_whole}
 use Rattle.engine_serve.specs.declared.went.Went.{Went}
 use Rattle.engine_serve.specs.Serving.{Sends, Tries}
-use Rattle.engine_serve.specs.Answering.{SendsReply}
 use Rattle.engine_serve.specs.Streaming.{IsStreamed, EndsStream, IsSentAs, SendsStream}
 use Rattle.engine_serve.proofs.EarlyLemmas.{sends_behind}
-use Rattle.engine_serve.proofs.ReplyLemmas.{asks_stream, streams_end_none}
-use Rattle.engine_serve.proofs.AnswerLemmas.{as_told, if_cause, if_pumped, no_drop, replied, full, no_memory}
+use Rattle.engine_serve.proofs.ReplyLemmas.{streams_end_none}
+use Rattle.engine_serve.proofs.AnswerLemmas.{as_told, if_cause, if_pumped, no_drop}
+use Rattle.attach_hub.specs.Connection.{view_of}
 
 -- ---- what was sent of the stream
 
@@ -49,15 +49,15 @@ abbrev head_of : Terms → Reply → List ℕ
 head_of terms x = head_of_stream terms Takeover.None x
 
 -- the head of this form is the stream's
-abbrev head_by : Terms → Form → List ℕ
+abbrev pub head_by : Terms → Form → List ℕ
 head_by terms form = head_text (record { status = 200; form = form; close = terms.close })
 
 head_is : (terms : Terms) (x : Reply) (form : Form) → chunked_form x ≡ Some form → head_by terms form ≡ head_of terms x
 head_is terms x form is = ap (λ o. head_by terms (unwrap_or o Form.Empty)) (sym is)
 
 -- the head's write failed
-lost : (k : ℕ) (terms : Terms) (x : Reply) (f : Failed) (p : PassView) (u u' : SinkView) (t : ClockView)
-    → WriteSays (Err f) (head_of terms x) u u' → SendsStream k terms x (Went.Ends Ending.WriteFault) p p u u' t t
+lost : {i : ℕ} {l1 : ℕ × ℕ × ℕ} {l2 : ℕ × ℕ × ℕ} (k : ℕ) (terms : Terms) (x : Reply) (f : Failed) (p : PassView) (u u' : SinkView) (t : ClockView)
+    → WriteSays (Err f) (head_of terms x) u u' → SendsStream terms x (Went.Ends Ending.WriteFault) (view_of k l1 p u t) (view_of i l2 p u' t)
 unfolding moves_same
 lost k terms x f p u u' t (part, front, took, rose) = record {
   flow = Leaves F.WriteFault None;
@@ -72,26 +72,26 @@ lost k terms x f p u u' t (part, front, took, rose) = record {
   pumped = refl;
 }
 
-pub stream_lost : (k : ℕ) (terms : Terms) (x : Reply) (form : Form) (f : Failed) (p : PassView) (u u' : SinkView) (t : ClockView)
+pub stream_lost : {i : ℕ} {l1 : ℕ × ℕ × ℕ} {l2 : ℕ × ℕ × ℕ} (k : ℕ) (terms : Terms) (x : Reply) (form : Form) (f : Failed) (p : PassView) (u u' : SinkView) (t : ClockView)
     → chunked_form x ≡ Some form → WriteSays (Err f) (head_by terms form) u u'
-    → SendsStream k terms x (Went.Ends Ending.WriteFault) p p u u' t t
+    → SendsStream terms x (Went.Ends Ending.WriteFault) (view_of k l1 p u t) (view_of i l2 p u' t)
 stream_lost k terms x form f p u u' t is says =
     lost k terms x f p u u' t (subst (λ y. WriteSays (Err f) y u u') (head_is terms x form is) says)
 
 -- the stream broke off behind its head: nothing more is written
-broke_off : (k : ℕ) (terms : Terms) (g : Reply) (f : Followed) (e : Ending) (result : Went) (p q : PassView)
+broke_off : {i : ℕ} {j : ℕ} {l1 : ℕ × ℕ × ℕ} {l2 : ℕ × ℕ × ℕ} {l3 : ℕ × ℕ × ℕ} {l4 : ℕ × ℕ × ℕ} (k : ℕ) (terms : Terms) (g : Reply) (f : Followed) (e : Ending) (result : Went) (p q : PassView)
     (u v w x : SinkView) (t t' : ClockView) → IsTrue p.pair → is_whole f ≡ false → SinkTook u (head_of terms g) v
-    → (sent : Follows k g true f p q v w t t') → IsBody p.charter g (is_whole f) p.seen q.seen sent.body → ComesTo g f sent.moves.handed → result ≡ Went.Ends e → x ≡ w
+    → (sent : Follows g true f (view_of k l3 p v t) (view_of j l4 q w t')) → IsBody p.charter g (is_whole f) p.seen q.seen sent.body → ComesTo g f sent.moves.handed → result ≡ Went.Ends e → x ≡ w
     → IsWritten e (Leaves f None) (head_of terms g ++ sent.sent) (head_of terms g ++ sent.part) u w
     → ((s s' : SourceView) → FollowCause f (outside s u t) (outside s' w t'))
-    → SendsStream k terms g result p q u x t t'
-broke_off k terms g f e result p q u v w x t t' pair broken head sent tells comes is same written cause =
+    → SendsStream terms g result (view_of k l1 p u t) (view_of i l2 q x t')
+broke_off {i = i} {l1 = l1} {l2 = l2} k terms g f e result p q u v w x t t' pair broken head sent tells comes is same written cause =
     let last : (if is_whole f then last_chunk else []) ≡ [] = ap (λ b. if b then last_chunk else []) broken in
     let flow : flow_behind terms f ≡ Leaves f None = ap (λ b. if b then flow_of terms else Leaves f None) broken in
     let whole : List ℕ = head_of terms g ++ sent.sent in
     let all : whole ≡ whole ++ (if is_whole f then last_chunk else []) = sym (ap (λ y. whole ++ y) last ∙ append-nil whole) in
-    subst (λ y. SendsStream k terms g y p q u x t t') (sym is)
-    (subst (λ y. SendsStream k terms g (Went.Ends e) p q u y t t') (sym same) (record {
+    subst (λ y. SendsStream terms g y (view_of k l1 p u t) (view_of i l2 q x t')) (sym is)
+    (subst (λ y. SendsStream terms g (Went.Ends e) (view_of k l1 p u t) (view_of i l2 q y t')) (sym same) (record {
       flow = Leaves f None;
       whole = whole;
       part = head_of terms g ++ sent.part;
@@ -105,26 +105,26 @@ broke_off k terms g f e result p q u v w x t t' pair broken head sent tells come
     }))
 
 -- what was told, as the stream was followed
-told_by : (k : ℕ) (g : Reply) (f : Followed) (p q : PassView) (v w : SinkView) (t t' : ClockView) (sent : Follows k g true f p q v w t t')
+told_by : {j : ℕ} {l3 : ℕ × ℕ × ℕ} {l4 : ℕ × ℕ × ℕ} (k : ℕ) (g : Reply) (f : Followed) (p q : PassView) (v w : SinkView) (t t' : ClockView) (sent : Follows g true f (view_of k l3 p v t) (view_of j l4 q w t'))
     → sent.whole ≡ is_whole f → IsBody p.charter g (is_whole f) p.seen q.seen sent.body
 told_by k g f p q v w t t' sent is = subst (λ b. IsBody p.charter g b p.seen q.seen sent.body) is sent.tells
 
-comes_by : (k : ℕ) (g : Reply) (f : Followed) (p q : PassView) (v w : SinkView) (t t' : ClockView) (sent : Follows k g true f p q v w t t')
+comes_by : {j : ℕ} {l3 : ℕ × ℕ × ℕ} {l4 : ℕ × ℕ × ℕ} (k : ℕ) (g : Reply) (f : Followed) (p q : PassView) (v w : SinkView) (t t' : ClockView) (sent : Follows g true f (view_of k l3 p v t) (view_of j l4 q w t'))
     → sent.whole ≡ is_whole f → ComesTo g (if is_whole f then F.Whole else f) sent.moves.handed
 comes_by k g f p q v w t t' sent is = subst (λ b. ComesTo g (if b then F.Whole else f) sent.moves.handed) is sent.comes
 
 -- a write failed in it: of a whole stream, or of one that isn't
-failed_so : (k : ℕ) (terms : Terms) (g : Reply) (result : Went) (p q : PassView)
+failed_so : {i : ℕ} {j : ℕ} {l1 : ℕ × ℕ × ℕ} {l2 : ℕ × ℕ × ℕ} {l3 : ℕ × ℕ × ℕ} {l4 : ℕ × ℕ × ℕ} (k : ℕ) (terms : Terms) (g : Reply) (result : Went) (p q : PassView)
     (u v w x : SinkView) (t t' : ClockView) → IsTrue p.pair → SinkTook u (head_of terms g) v
-    → (sent : Follows k g true F.WriteFault p q v w t t') → result ≡ Went.Ends Ending.WriteFault → x ≡ w
-    → (whole : Bool) → sent.whole ≡ whole → SendsStream k terms g result p q u x t t'
-failed_so k terms g result p q u v w x t t' pair head sent is same false told =
+    → (sent : Follows g true F.WriteFault (view_of k l3 p v t) (view_of j l4 q w t')) → result ≡ Went.Ends Ending.WriteFault → x ≡ w
+    → (whole : Bool) → sent.whole ≡ whole → SendsStream terms g result (view_of k l1 p u t) (view_of i l2 q x t')
+failed_so {i = i} {l1 = l1} {l2 = l2} k terms g result p q u v w x t t' pair head sent is same false told =
     let rose = rose_since u.faults v.faults w.faults head.faults sent.cause in
     let front : IsFront (head_of terms g ++ sent.part) (head_of terms g ++ sent.sent) =
     (sent.taken.0, append_assoc (head_of terms g) sent.part sent.taken.0 ∙ ap (λ y. head_of terms g ++ y) sent.taken.1) in
-    broke_off k terms g F.WriteFault Ending.WriteFault result p q u v w x t t' pair refl head sent (told_by k g F.WriteFault p q v w t t' sent told) (failed_comes g sent.moves.handed) is same
+    broke_off k terms g F.WriteFault Ending.WriteFault result p q u v w x t t' pair refl head sent (told_by k g F.WriteFault p q v w t t' sent told) (comes_by k g F.WriteFault p q v w t t' sent told) is same
     (inr (refl, front, rose)) (λ s s'. rose)
-failed_so k terms g result p q u v w x t t' pair head sent is same true told =
+failed_so {i = i} {l1 = l1} {l2 = l2} k terms g result p q u v w x t t' pair head sent is same true told =
     let rose = rose_since u.faults v.faults w.faults head.faults sent.cause in
     let part : List ℕ = head_of terms g ++ sent.part in
     let whole : List ℕ = head_of terms g ++ sent.sent ++ last_chunk in
@@ -133,8 +133,8 @@ failed_so k terms g result p q u v w x t t' pair head sent is same true told =
       sym (append_assoc part sent.taken.0 last_chunk)
           ∙ ap (λ y. y ++ last_chunk) (append_assoc (head_of terms g) sent.part sent.taken.0 ∙ ap (λ y. head_of terms g ++ y) sent.taken.1),
     ) in
-    subst (λ y. SendsStream k terms g y p q u x t t') (sym is)
-    (subst (λ y. SendsStream k terms g (Went.Ends Ending.WriteFault) p q u y t t') (sym same) (record {
+    subst (λ y. SendsStream terms g y (view_of k l1 p u t) (view_of i l2 q x t')) (sym is)
+    (subst (λ y. SendsStream terms g (Went.Ends Ending.WriteFault) (view_of k l1 p u t) (view_of i l2 q y t')) (sym same) (record {
       flow = flow_of terms;
       whole = whole;
       part = part;
@@ -143,7 +143,7 @@ failed_so k terms g result p q u v w x t t' pair head sent is same true told =
         sent.body,
         sent.sent,
         subst (λ b. IsBody p.charter g b p.seen q.seen sent.body) told sent.tells,
-        ends_whole g p.charter sent.body p.seen q.seen,
+        ends_whole g p.charter sent.body sent.moves.handed p.seen q.seen,
         subst (λ b. ComesTo g (if b then F.Whole else F.WriteFault) sent.moves.handed) told sent.comes,
         sent.pieces,
         refl,
@@ -158,10 +158,10 @@ failed_so k terms g result p q u v w x t t' pair head sent is same true told =
     }))
 
 -- behind its head it was followed, and ended by the last chunk exactly where it is whole
-sent_so : (k : ℕ) (terms : Terms) (g : Reply) (f : Followed) (result : Went) (p q : PassView)
+sent_so : {i : ℕ} {j : ℕ} {l1 : ℕ × ℕ × ℕ} {l2 : ℕ × ℕ × ℕ} {l3 : ℕ × ℕ × ℕ} {l4 : ℕ × ℕ × ℕ} (k : ℕ) (terms : Terms) (g : Reply) (f : Followed) (result : Went) (p q : PassView)
     (u v w x : SinkView) (t t' : ClockView) → IsTrue p.pair → SinkTook u (head_of terms g) v
-    → Follows k g true f p q v w t t' → EndsStream terms f result w x
-    → SendsStream k terms g result p q u x t t'
+    → Follows g true f (view_of k l3 p v t) (view_of j l4 q w t') → EndsStream terms f result w x
+    → SendsStream terms g result (view_of k l1 p u t) (view_of i l2 q x t')
 sent_so k terms g F.Whole result p q u v w x t t' pair head sent ends =
     let took : SinkTook u (head_of terms g ++ sent.sent) w =
     subst (λ y. SinkTook u (head_of terms g ++ y) w) sent.taken (sink_on u v w (head_of terms g) sent.part head sent.sink) in
@@ -192,9 +192,9 @@ sent_so k terms g F.NoMemory result p q u v w x t t' pair head sent ends =
     (inl (refl, ap (λ y. head_of terms g ++ y) sent.taken)) (λ s s'. tt)
 sent_so k terms g F.WriteFault result p q u v w x t t' pair head sent ends = failed_so k terms g result p q u v w x t t' pair head sent ends.0 ends.1 sent.whole refl
 
-pub stream_sent : (k : ℕ) (terms : Terms) (g : Reply) (form : Form) (f : Followed) (result : Went) (p q : PassView)
+pub stream_sent : {i : ℕ} {j : ℕ} {l1 : ℕ × ℕ × ℕ} {l2 : ℕ × ℕ × ℕ} {l3 : ℕ × ℕ × ℕ} {l4 : ℕ × ℕ × ℕ} (k : ℕ) (terms : Terms) (g : Reply) (form : Form) (f : Followed) (result : Went) (p q : PassView)
     (u v w x : SinkView) (t t' : ClockView) → IsTrue p.pair → chunked_form g ≡ Some form → SinkTook u (head_by terms form) v
-    → Follows k g true f p q v w t t' → EndsStream terms f result w x → SendsStream k terms g result p q u x t t'
+    → Follows g true f (view_of k l3 p v t) (view_of j l4 q w t') → EndsStream terms f result w x → SendsStream terms g result (view_of k l1 p u t) (view_of i l2 q x t')
 stream_sent k terms g form f result p q u v w x t t' pair is head sent ends =
     sent_so k terms g f result p q u v w x t t' pair (subst (λ y. SinkTook u y v) (head_is terms g form is) head) sent ends
 
@@ -210,10 +210,10 @@ row ch k r behind c x form flow whole handed ms a b d class some made quiet (inr
     as_told ch k r behind a d flow _ whole _ (handed ∷ ms) _ flows is refl
     (InChunks f _ body chunks _ (OfStream c x f b handed body ms class made quiet tells ends comes) cut)
 
-streamed : (k handed : ℕ) (r : Request) (c : Call) (x : Reply) (form : Form) (result : Went) (p q s : PassView) (u u' : SinkView)
+pub streamed : {i : ℕ} {j : ℕ} {l1 : ℕ × ℕ × ℕ} {l2 : ℕ × ℕ × ℕ} {l3 : ℕ × ℕ × ℕ} {l4 : ℕ × ℕ × ℕ} (k handed : ℕ) (r : Request) (c : Call) (x : Reply) (form : Form) (result : Went) (p q s : PassView) (u u' : SinkView)
     (v w y : ClockView) → IsTrue p.pair → class_of r ≡ Stream c Takeover.None → IsStreamed c → chunked_form x ≡ Some form
     → ClockHanded v (handed ∷ []) w → Turn k handed (Some c) (T.Replied x) p q
-    → SendsStream k (terms_of r) x result q s u u' w y → Tries k r result p s u u' v y
+    → SendsStream (terms_of r) x result (view_of k l3 q u w) (view_of j l4 s u' y) → Tries r result (view_of k l1 p u v) (view_of i l2 s u' y)
 unfolding moves_on turn_opens
 streamed k handed r c x form result p q s u u' v w y pair class streams some clock turn sends =
     let m = makes_call p.charter _ k handed c turn.turns.own x (no_drop c (streams_end_none c streams)) turn.says.1 in
@@ -233,37 +233,3 @@ streamed k handed r c x form result p q s u u' v w y pair class streams some clo
       cause = λ o o'. cause_since sends.flow (outside o u v) (outside o u w) (outside o' u' y) (later o) (sends.cause o o');
       pumped = sends.pumped;
     }
-
--- ---- by the terms that were taken of the request
-
-pub stream_streamed : (k handed : ℕ) (r : Request) (terms : Terms) (c : Call) (x : Reply) (form : Form) (result : Went)
-    (p q s : PassView) (u u' : SinkView) (v w y : ClockView) → terms ≡ terms_of r → IsTrue p.pair
-    → class_of r ≡ Stream c Takeover.None → IsStreamed c → chunked_form x ≡ Some form → ClockHanded v (handed ∷ []) w
-    → Turn k handed (Some c) (T.Replied x) p q → SendsStream k terms x result q s u u' w y → Tries k r result p s u u' v y
-stream_streamed k handed r terms c x form result p q s u u' v w y is pair class streams some clock turn sends =
-    streamed k handed r c x form result p q s u u' v w y pair class streams some clock turn
-    (subst (λ z. SendsStream k z x result q s u u' w y) is sends)
-
-pub stream_refused : (k handed : ℕ) (r : Request) (terms : Terms) (c : Call) (x : Reply) (result : Went) (p q : PassView)
-    (u u' : SinkView) (t t' : ClockView) → terms ≡ terms_of r → IsTrue p.pair → class_of r ≡ Stream c Takeover.None
-    → IsStreamed c → ClockHanded t (handed ∷ []) t' → Turn k handed (Some c) (T.Replied x) p q
-    → SendsReply terms x result u u' → Tries k r result p q u u' t t'
-stream_refused k handed r terms c x result p q u u' t t' is pair class streams clock turn sends =
-    replied k handed r c x result p q u u' t t' pair (asks_stream r c class) (streams_end_none c streams) clock turn
-    (subst (λ y. SendsReply y x result u u') is sends)
-
-pub stream_full : (k handed : ℕ) (r : Request) (terms : Terms) (c : Call) (result : Went) (p q : PassView)
-    (u u' : SinkView) (t t' : ClockView) → terms ≡ terms_of r → IsTrue p.pair → class_of r ≡ Stream c Takeover.None
-    → ClockHanded t (handed ∷ []) t' → Turn k handed (Some c) T.JournalFull p q
-    → Sends (flow_of terms) result (journal_full_response terms) u u' → Tries k r result p q u u' t t'
-stream_full k handed r terms c result p q u u' t t' is pair class clock turn sends =
-    full k handed r c result p q u u' t t' pair (asks_stream r c class) clock turn
-    (subst (λ y. Sends (flow_of y) result (journal_full_response y) u u') is sends)
-
-pub stream_short : (k handed : ℕ) (r : Request) (terms : Terms) (c : Call) (result : Went) (p q : PassView)
-    (u u' : SinkView) (t t' : ClockView) → terms ≡ terms_of r → IsTrue p.pair → class_of r ≡ Stream c Takeover.None
-    → ClockHanded t (handed ∷ []) t' → Turn k handed (Some c) T.NoMemory p q
-    → Sends (flow_of terms) result (out_of_memory_response terms) u u' → Tries k r result p q u u' t t'
-stream_short k handed r terms c result p q u u' t t' is pair class clock turn sends =
-    no_memory k handed r c result p q u u' t t' pair (asks_stream r c class) clock turn
-    (subst (λ y. Sends (flow_of y) result (out_of_memory_response y) u u') is sends)

@@ -2,17 +2,16 @@
 use Rattle.std.specs.Prelude.{ℕ, ◌≡◌, List, [], ◌∷◌, ◌++◌, None}
 use Rattle.engine_ports.specs.Rose.{Rose}
 use Rattle.engine_ports.specs.Sink.{SinkView}
-use Rattle.engine_ports.specs.Clock.{ClockView}
 use Rattle.engine_text.specs.declared.reply.Reply.{Reply}
 use Rattle.engine_text.specs.declared.reply.Reply.TheVariants.{Answer}
 use Rattle.http_edge.specs.Chunks.{chunk_text, last_chunk}
-use Rattle.attach_hub.specs.Waiting.{Awaits, IsDropped}
+use Rattle.attach_hub.specs.Connection.{ConnectionView}
+use Rattle.attach_hub.specs.Waiting.{AwaitSays, IsDropped}
 use Rattle.session_model.specs.declared.terms.Terms.{Terms}
 use Rattle.session_model.specs.declared.followed.Followed.{Followed}
 use Rattle.session_model.specs.declared.followed.Followed.TheVariants as F
 use Rattle.session_model.specs.declared.turned.Awaited.{Awaited}
 use Rattle.session_model.specs.Exchange.{Flow, Leaves, flow_of}
-use Rattle.session_model.specs.Pass.{PassView}
 use Rattle.session_model.specs.Progress.{Moves}
 use Rattle.session_model.specs.Responses.{early_head}
 use Rattle.engine_serve.specs.declared.went.Went.{Went}
@@ -46,8 +45,10 @@ HasLost Awaited.WriteFault u u' = Rose u.faults u'.faults
 HasLost awaited u u' = Unit {0}
 
 -- the head was sent, and the connection waited for the ticket; or its write failed, and the ticket was dropped
-pub data WaitsEarly (k n : ℕ) (terms : Terms) (result : Went) (p q : PassView) (u u' : SinkView) (t t' : ClockView) : Type 0 where
-  Waited : (awaited : Awaited) → Awaits k n awaited p q t t' → SendsBehind terms (early_head terms) awaited result u u'
-      → HasLost awaited u u' → WaitsEarly k n terms result p q u u' t t'
-  HeadWasLost : IsDropped p.charter k n p.seen q.seen → Moves k p q t t' → Rose u.faults u'.faults
-      → Sends (broken_flow F.WriteFault) result (early_head terms) u u' → WaitsEarly k n terms result p q u u' t t'
+pub data WaitsEarly (n : ℕ) (terms : Terms) (result : Went) (x y : ConnectionView) : Type 0 where
+  Waited : (awaited : Awaited) → (moves : Moves x.who.number x.pass y.pass x.clock y.clock)
+      → AwaitSays x.pass.charter x.who.number n x.pass.seen y.pass.seen awaited moves.handed x.clock y.clock
+      → SendsBehind terms (early_head terms) awaited result x.sink y.sink → HasLost awaited x.sink y.sink → WaitsEarly n terms result x y
+  HeadWasLost : IsDropped x.pass.charter x.who.number n x.pass.seen y.pass.seen → Moves x.who.number x.pass y.pass x.clock y.clock
+      → Rose x.sink.faults y.sink.faults → Sends (broken_flow F.WriteFault) result (early_head terms) x.sink y.sink
+      → WaitsEarly n terms result x y

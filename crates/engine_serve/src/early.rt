@@ -1,25 +1,24 @@
 // A wait whose head comes before it is over.
-ghost use Rattle.std.specs.Prelude.{◌≡◌, ◌++◌, [], IsTrue};
+ghost use Rattle.std.specs.Prelude.{◌≡◌, ◌++◌, []};
 ghost use Rattle.engine_ports.specs.Sink.{WriteSays};
 ghost use Rattle.http_edge.specs.Chunks.{last_chunk};
 ghost use Rattle.http_edge.specs.Reader.{request_of};
 ghost use Rattle.session_model.specs.Exchange.{is_early};
-ghost use Rattle.session_model.specs.Pass.{IsNumber};
 ghost use Rattle.session_model.specs.Responses.{early_head};
 ghost use Rattle.session_model.specs.Turning.{HasBegun};
 ghost use Rattle.daemon_core.specs.Whole.{IsAnswer};
+ghost use Rattle.attach_hub.specs.Connection.{HasNumbers};
 ghost use Rattle.engine_serve.specs.Answering.{WasAnswered};
 ghost use Rattle.engine_serve.specs.Early.{one_chunk, SendsBody, SendsBehind, WaitsEarly};
 
 use crate::answer::behind;
 use crate::went::Went;
-use attach_hub::{await_ticket, drop_ticket};
+use attach_hub::{Connection, await_ticket, drop_ticket};
 use daemon_core::Turns;
 use engine_ports::{Clock, Failed, Sink};
 use engine_text::{Call, Reply};
 use http_edge::{Form, Head, RequestView, write_chunk, write_head, write_last};
 use session_model::{Awaited, Ending, Terms};
-use std::alloc::Global;
 use std::sync::Wait;
 
 /// Whether the head of the call's answer comes before its ticket is taken.
@@ -86,28 +85,23 @@ fn send_late<K: Sink>(sink: &mut K, terms: Terms, awaited: &Awaited) -> Went
 /// Sends a head at once, waits for the ticket, and sends the rest. Where the head can't be written, the
 /// ticket is dropped.
 pub(crate) fn wait_early<W: Wait, T: Turns, K: Sink, C: Clock>(
-    rt: &W,
-    turns: &mut T,
-    alloc: Global,
-    conn: u32,
+    conn: &mut Connection<'_, W, T, K, C>,
     ticket: u64,
     terms: Terms,
-    sink: &mut K,
-    clock: &mut C,
 ) -> Went
-    requires number { IsNumber (T.pass turns.old).number conn }
-    requires pair { IsTrue (T.pass turns.old).pair }
-    requires begun { HasBegun (T.pass turns.old).charter conn ticket (T.pass turns.old).seen }
-    ensures { WaitsEarly conn ticket terms result (T.pass turns.old) (T.pass turns.new)
-        (K.takes sink.old) (K.takes sink.new) (C.times clock.old) (C.times clock.new) }
+    requires numbers { HasNumbers conn.old }
+    requires begun { HasBegun conn.old.pass.charter conn.old.who.number ticket
+        conn.old.pass.seen }
+    ensures same { conn.new.who ≡ conn.old.who }
+    ensures waits { WaitsEarly ticket terms result conn.old conn.new }
 {
-    match write_early(sink, terms) {
+    match write_early(conn.sink, terms) {
         Ok(()) => {
-            let awaited = await_ticket(rt, turns, alloc, conn, ticket, sink, clock);
-            send_late(sink, terms, &awaited)
+            let awaited = await_ticket(conn, ticket);
+            send_late(conn.sink, terms, &awaited)
         }
         Err(Failed) => {
-            drop_ticket(turns, alloc, conn, ticket);
+            drop_ticket(conn, ticket);
             Went::Ends(Ending::WriteFault)
         }
     }

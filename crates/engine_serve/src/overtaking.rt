@@ -1,28 +1,27 @@
 // A request for the connection itself, and the takeover that its call gives.
-ghost use Rattle.std.specs.Prelude.{◌≡◌, IsTrue};
+ghost use Rattle.std.specs.Prelude.{◌≡◌};
 ghost use Rattle.engine_text.specs.Soundness.{IsSound};
-ghost use Rattle.engine_ports.specs.Door.{outside};
 ghost use Rattle.engine_ports.specs.Sink.{WriteSays};
 ghost use Rattle.http_edge.specs.Reader.{request_of};
 ghost use Rattle.machine_model.specs.History.{state_after};
 ghost use Rattle.api_routes.specs.Class.{class_of};
 ghost use Rattle.api_routes.specs.RouteClass.{takeover};
 ghost use Rattle.api_routes.specs.declared.class.Class.TheVariants.{Stream};
-ghost use Rattle.session_model.specs.Pass.{IsConnection, IsNumber};
+ghost use Rattle.session_model.specs.Pass.{IsConnection};
 ghost use Rattle.session_model.specs.Responses.{takeover_head};
+ghost use Rattle.attach_hub.specs.Connection.{HasNumbers};
 ghost use Rattle.attach_hub.specs.Following.{MayFollow};
 ghost use Rattle.engine_serve.specs.Overtaking.{IsAttaching, Overtakes, TriesSo, stream_of};
 
 use crate::answer::{send_journal_full, send_out_of_memory, send_reply};
 use crate::streaming::ending_of;
 use crate::went::Tried;
-use attach_hub::take_over;
+use attach_hub::{Connection, take_over};
 use daemon_core::{Pairs, Turns};
 use engine_ports::{Clock, Failed, Sink, Source};
 use engine_text::{Call, LogSpec, Reply};
 use http_edge::{Form, Head, RequestReader, RequestView, write_head};
 use session_model::{Ending, Terms, Turned};
-use std::alloc::Global;
 use std::sync::Wait;
 use std::thread::Threads;
 
@@ -42,33 +41,27 @@ fn stream_of(reply: &Reply) -> Option<LogSpec>
 }
 
 /// Makes the call of a request for the connection. Its refusal is sent.
-pub(crate) fn open<T: Turns, K: Sink, C: Clock>(
-    turns: &mut T,
-    alloc: Global,
-    conn: u32,
+pub(crate) fn open<W, T: Turns, K: Sink, C: Clock>(
+    conn: &mut Connection<'_, W, T, K, C>,
     request: &RequestView<'_>,
     call: &Call,
     upgrade: bool,
-    sink: &mut K,
-    clock: &mut C,
 ) -> Tried
-    requires number { IsNumber (T.pass turns.old).number conn }
-    requires pair { IsTrue (T.pass turns.old).pair }
+    requires numbers { HasNumbers conn.old }
     requires class { class_of (request_of request.now) ≡ Stream call.now (takeover upgrade) }
     requires sound { IsSound call.now }
     requires attaching { IsAttaching call.now }
-    ensures { TriesSo conn (request_of request.now) result (T.pass turns.old) (T.pass turns.new)
-        (K.takes sink.old) (K.takes sink.new) (C.times clock.old) (C.times clock.new) }
+    ensures same { conn.new.who ≡ conn.old.who }
+    ensures tries { TriesSo (request_of request.now) result conn.old conn.new }
 {
     let terms = Terms::of(request);
-    let handed = clock.now();
-    match turns.turn(alloc, conn, handed, Some(call)) {
+    match conn.turn(call) {
         Turned::Replied(reply) => match stream_of(&reply) {
             Some(spec) => Tried::Over { upgrade, spec },
-            None => Tried::Answered(send_reply(sink, terms, &reply)),
+            None => Tried::Answered(send_reply(conn.sink, terms, &reply)),
         },
-        Turned::JournalFull => Tried::Answered(send_journal_full(sink, terms)),
-        Turned::NoMemory => Tried::Answered(send_out_of_memory(sink, terms)),
+        Turned::JournalFull => Tried::Answered(send_journal_full(conn.sink, terms)),
+        Turned::NoMemory => Tried::Answered(send_out_of_memory(conn.sink, terms)),
         Turned::Begun { .. } | Turned::NotYet | Turned::Nothing => unreachable!(),
     }
 }
@@ -88,34 +81,25 @@ fn write_takeover<K: Sink>(sink: &mut K, upgrade: bool) -> Result<(), Failed>
 
 /// Takes the connection over: the head at once, and then the stream as it comes, while what comes behind the
 /// request is fed to the run, where that takes input. It may wait.
+#[inline(never)]
 pub(crate) fn overtake<R: Threads + Wait + Sync, T: Pairs, S: Source, K: Sink, C: Clock>(
-    rt: &R,
-    turns: &mut T,
-    alloc: Global,
-    conn: u32,
+    conn: &mut Connection<'_, R, T, K, C>,
     upgrade: bool,
     spec: &LogSpec,
     reader: &mut RequestReader,
     source: &mut S,
-    sink: &mut K,
-    clock: &mut C,
 ) -> Ending
-    requires connection { IsConnection conn }
-    requires number { IsNumber (T.pass turns.old).number conn }
-    requires pair { IsTrue (T.pass turns.old).pair }
-    requires may { MayFollow (state_after (T.pass turns.old).charter (T.pass turns.old).seen)
-        spec.now }
-    ensures { Overtakes conn upgrade spec.now result (T.pass turns.old) (T.pass turns.new)
-        reader.old.ahead
-        (outside (S.gives source.old) (K.takes sink.old) (C.times clock.old))
-        (outside (S.gives source.new) (K.takes sink.new) (C.times clock.new)) }
+    requires connection { IsConnection conn.old.who.number }
+    requires numbers { HasNumbers conn.old }
+    requires may { MayFollow (state_after conn.old.pass.charter conn.old.pass.seen) spec.now }
+    ensures same { conn.new.who ≡ conn.old.who }
+    ensures overtakes { Overtakes upgrade spec.now result conn.old conn.new reader.old.ahead
+        (S.gives source.old) (S.gives source.new) }
 {
-    match write_takeover(sink, upgrade) {
+    match write_takeover(conn.sink, upgrade) {
         Err(Failed) => Ending::WriteFault,
         Ok(()) => {
-            let (followed, pumped) = take_over(
-                rt, turns, alloc, conn, spec, reader, source, sink, clock,
-            );
+            let (followed, pumped) = take_over(conn, spec, reader, source);
             ending_of(followed, pumped)
         }
     }

@@ -1,26 +1,25 @@
 // A request for a stream, answered.
-ghost use Rattle.std.specs.Prelude.{◌≡◌, true, IsTrue, Some};
+ghost use Rattle.std.specs.Prelude.{◌≡◌, true, Some};
 ghost use Rattle.engine_text.specs.Soundness.{IsSound};
 ghost use Rattle.http_edge.specs.Reader.{request_of};
 ghost use Rattle.api_routes.specs.Class.{class_of};
 ghost use Rattle.api_routes.specs.declared.class.Class.TheVariants.{Stream};
 ghost use Rattle.api_routes.specs.declared.class.Takeover.TheVariants as takes;
-ghost use Rattle.session_model.specs.Pass.{IsNumber};
 ghost use Rattle.session_model.specs.Responses.{chunked_form};
 ghost use Rattle.session_model.specs.Session.{ending_by_pump, ending_of_ends};
+ghost use Rattle.attach_hub.specs.Connection.{HasNumbers};
 ghost use Rattle.attach_hub.specs.Following.{CanFollow, Follows};
 ghost use Rattle.engine_serve.specs.Serving.{Tries};
 ghost use Rattle.engine_serve.specs.Streaming.{IsStreamed, EndsStream, SendsStream};
 
 use crate::answer::{behind, send_journal_full, send_out_of_memory, send_reply};
 use crate::went::Went;
-use attach_hub::{follow_events, follow_journal, follow_log};
+use attach_hub::{Connection, follow_events, follow_journal, follow_log};
 use daemon_core::Turns;
 use engine_ports::{Clock, Failed, Sink};
 use engine_text::{Call, Reply};
 use http_edge::{Form, Head, RequestView, write_head, write_last};
 use session_model::{Ending, Followed, PumpEnd, Terms, Turned};
-use std::alloc::Global;
 use std::sync::Wait;
 
 /// The form of the stream that a reply gives.
@@ -78,67 +77,49 @@ fn end_stream<K: Sink>(sink: &mut K, terms: Terms, followed: Followed) -> Went
 
 /// Writes the stream that a reply gives, as it comes.
 fn follow<W: Wait, T: Turns, K: Sink, C: Clock>(
-    rt: &W,
-    turns: &mut T,
-    alloc: Global,
-    conn: u32,
+    conn: &mut Connection<'_, W, T, K, C>,
     reply: &Reply,
-    sink: &mut K,
-    clock: &mut C,
 ) -> Followed
-    requires number { IsNumber (T.pass turns.old).number conn }
-    requires pair { IsTrue (T.pass turns.old).pair }
-    requires may { CanFollow (T.pass turns.old).charter (T.pass turns.old).seen reply.now }
-    ensures { Follows conn reply.now true result
-        (T.pass turns.old) (T.pass turns.new) (K.takes sink.old) (K.takes sink.new)
-        (C.times clock.old) (C.times clock.new) }
+    requires numbers { HasNumbers conn.old }
+    requires may { CanFollow conn.old.pass.charter conn.old.pass.seen reply.now }
+    ensures same { conn.new.who ≡ conn.old.who }
+    ensures follows { Follows reply.now true result conn.old conn.new }
 {
     match reply {
-        Reply::LogStream { spec } => follow_log(rt, turns, alloc, conn, spec, true, sink, clock),
+        Reply::LogStream { spec } => follow_log(conn, spec, true),
         Reply::EventStream {
             first,
             until,
             filter,
-        } => follow_events(
-            rt, turns, alloc, conn, *first, *until, filter, true, sink, clock,
-        ),
-        Reply::JournalStream { count } => {
-            follow_journal(rt, turns, alloc, conn, *count, true, sink, clock)
-        }
+        } => follow_events(conn, *first, *until, filter, true),
+        Reply::JournalStream { count } => follow_journal(conn, *count, true),
         _ => unreachable!(),
     }
 }
 
 /// Sends a stream in chunks: the head at once, and then its parts as they come.
 fn send_stream<W: Wait, T: Turns, K: Sink, C: Clock>(
-    rt: &W,
-    turns: &mut T,
-    alloc: Global,
-    conn: u32,
+    conn: &mut Connection<'_, W, T, K, C>,
     terms: Terms,
     form: Form,
     reply: &Reply,
-    sink: &mut K,
-    clock: &mut C,
 ) -> Went
-    requires number { IsNumber (T.pass turns.old).number conn }
-    requires pair { IsTrue (T.pass turns.old).pair }
+    requires numbers { HasNumbers conn.old }
     requires form { chunked_form reply.now ≡ Some form }
-    requires may { CanFollow (T.pass turns.old).charter (T.pass turns.old).seen reply.now }
-    ensures { SendsStream conn terms reply.now result
-        (T.pass turns.old) (T.pass turns.new) (K.takes sink.old) (K.takes sink.new)
-        (C.times clock.old) (C.times clock.new) }
+    requires may { CanFollow conn.old.pass.charter conn.old.pass.seen reply.now }
+    ensures same { conn.new.who ≡ conn.old.who }
+    ensures sends { SendsStream terms reply.now result conn.old conn.new }
 {
     let head = Head {
         status: 200,
         form,
         close: terms.close,
     };
-    match write_head(sink, &head) {
+    match write_head(conn.sink, &head) {
         Err(Failed) => Went::Ends(Ending::WriteFault),
         Ok(()) => {
-            let followed = follow(rt, turns, alloc, conn, reply, sink, clock);
-            end_stream(sink, terms, followed)
+            let followed = follow(conn, reply);
+            end_stream(conn.sink, terms, followed)
         }
     }
 }
@@ -146,32 +127,25 @@ fn send_stream<W: Wait, T: Turns, K: Sink, C: Clock>(
 /// Answers a request for a log, for events or for the journal by its call: with the stream that it gives, or
 /// with its refusal.
 pub(crate) fn stream<W: Wait, T: Turns, K: Sink, C: Clock>(
-    rt: &W,
-    turns: &mut T,
-    alloc: Global,
-    conn: u32,
+    conn: &mut Connection<'_, W, T, K, C>,
     request: &RequestView<'_>,
     call: &Call,
-    sink: &mut K,
-    clock: &mut C,
 ) -> Went
-    requires number { IsNumber (T.pass turns.old).number conn }
-    requires pair { IsTrue (T.pass turns.old).pair }
+    requires numbers { HasNumbers conn.old }
     requires class { class_of (request_of request.now) ≡ Stream call.now takes.None }
     requires sound { IsSound call.now }
     requires streamed { IsStreamed call.now }
-    ensures { Tries conn (request_of request.now) result (T.pass turns.old) (T.pass turns.new)
-        (K.takes sink.old) (K.takes sink.new) (C.times clock.old) (C.times clock.new) }
+    ensures same { conn.new.who ≡ conn.old.who }
+    ensures tries { Tries (request_of request.now) result conn.old conn.new }
 {
     let terms = Terms::of(request);
-    let handed = clock.now();
-    match turns.turn(alloc, conn, handed, Some(call)) {
+    match conn.turn(call) {
         Turned::Replied(reply) => match form_of(&reply) {
-            Some(form) => send_stream(rt, turns, alloc, conn, terms, form, &reply, sink, clock),
-            None => send_reply(sink, terms, &reply),
+            Some(form) => send_stream(conn, terms, form, &reply),
+            None => send_reply(conn.sink, terms, &reply),
         },
-        Turned::JournalFull => send_journal_full(sink, terms),
-        Turned::NoMemory => send_out_of_memory(sink, terms),
+        Turned::JournalFull => send_journal_full(conn.sink, terms),
+        Turned::NoMemory => send_out_of_memory(conn.sink, terms),
         Turned::Begun { .. } | Turned::NotYet | Turned::Nothing => unreachable!(),
     }
 }

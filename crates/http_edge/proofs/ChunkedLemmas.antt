@@ -73,7 +73,7 @@ module _ (before : ℕ) (bytes : List ℕ) (d : Chunk) (after : List ℕ) (valid
   at_chunk : bytes ≡ d.line ++ (d.piece ++ (codes "\r\n" ++ after))
   at_chunk = whole ∙ append_assoc d.line d.piece (codes "\r\n" ++ after)
 
-  chunk_refused : (status : ℕ) → RefusesNext before bytes status → ⊥
+  pub chunk_refused : (status : ℕ) → RefusesNext before bytes status → ⊥
   chunk_refused status (by_line is r) = refused_part Line bytes d.line (d.piece ++ (codes "\r\n" ++ after)) (length d.piece) r valid.1 at_chunk
   chunk_refused status (by_sum is line behind size p e long) =
       let same = part_unique Line line d.line behind (d.piece ++ (codes "\r\n" ++ after)) size (length d.piece) p.0 valid.1.0 (sym e ∙ at_chunk) in
@@ -84,7 +84,7 @@ module _ (before : ℕ) (bytes : List ℕ) (d : Chunk) (after : List ℕ) (valid
       refused_part End behind (codes "\r\n") after 0 r ((refl, refl), omega arith) same.1
   chunk_refused status (by_trailers is l behind p e r) = not_last d l (codes "\r\n" ++ after) behind valid p (sym whole ∙ e)
 
-  chunk_cut : CutsNext before bytes → ⊥
+  pub chunk_cut : CutsNext before bytes → ⊥
   chunk_cut (in_line cut) = cut_part Line bytes d.line (d.piece ++ (codes "\r\n" ++ after)) (length d.piece) cut valid.1 at_chunk
   chunk_cut (in_chunk line behind size p le e less) =
       let same = part_unique Line line d.line behind (d.piece ++ (codes "\r\n" ++ after)) size (length d.piece) p.0 valid.1.0 (sym e ∙ at_chunk) in

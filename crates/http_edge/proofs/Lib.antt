@@ -16,4 +16,5 @@ pub mod DecideLemmas
 pub mod ToldLemmas
 pub mod ReadingLemmas
 pub mod ChunkingLemmas
+pub mod DecidedLemmas
 mod StandardFacts

@@ -11,7 +11,7 @@ use Rattle.engine_ports.specs.declared.ports.Got.TheVariants.{Bytes, End, Failed
 use Rattle.engine_ports.proofs.PortLemmas.{source_none, source_on, rose_since}
 use Rattle.http_edge.specs.Reading.{Fills, Reached, ReadsBehind, FillFacts, FillSays, HeadFacts}
 use Rattle.http_edge.specs.Bodies.{BodyBy}
-use Rattle.http_edge.specs.Refusal.{CutsBody}
+use Rattle.http_edge.specs.Refusal.{AwaitsMore, CutsBody, in_head}
 use Rattle.http_edge.specs.declared.framing.Framing.TheVariants.{Length}
 use Rattle.httparse.specs.Grammar.{HasNoRequest, MayBecomeRequest}
 use Rattle.httparse.specs.declared.spans.HeaderSpan.{HeaderSpan}
@@ -155,3 +155,13 @@ pub head_is_cut : (start before after : List ℕ) (spans : List HeaderSpan) (s t
 head_is_cut start before after spans s t u f (same, g, e) some short lacks may =
     subst (λ b. HeadFacts CutShort b spans s u) (sym same)
     (some, short, lacks, may, record { rose = rose_since s.ends t.ends u.ends f.gave.ends e.rose; spent = e.spent })
+
+-- a read failed before a head was whole
+head_awaits : (bytes : List ℕ) → length bytes < 16384 → HasNoRequest bytes → MayBecomeRequest bytes → AwaitsMore bytes
+head_awaits [] short lacks may = inl refl
+head_awaits (x ∷ bytes) short lacks may = inr (in_head (omega arith) short lacks may)
+
+pub head_is_unread : (start before after : List ℕ) (s t u : SourceView) → Fills start before s t → (after ≡ before) × Fills before after t u × Rose t.faults u.faults
+    → length before < 16384 → HasNoRequest before → MayBecomeRequest before → AwaitsMore after × Rose s.faults u.faults
+head_is_unread start before after s t u f (same, g, e) short lacks may =
+    (subst AwaitsMore (sym same) (head_awaits before short lacks may), rose_since s.faults t.faults u.faults f.gave.faults e)

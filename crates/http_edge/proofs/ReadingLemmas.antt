@@ -57,7 +57,7 @@ begins_told bytes = go (head_told bytes)
     go (inr none) = inr (headless_none bytes none)
 
 -- a request takes some bytes
-behind_less : (bytes behind : List ℕ) (r : Request) → Begins bytes r behind → length behind < length bytes
+pub behind_less : (bytes behind : List ℕ) (r : Request) → Begins bytes r behind → length behind < length bytes
 behind_less bytes behind r b =
     omega (arith, ap length (begins_head bytes behind r b).1, length-append (print_request b.1.head) (b.1.coded ++ behind), length-append b.1.coded behind, head_takes b.1.head b.1.valid)
 

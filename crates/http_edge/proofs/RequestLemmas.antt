@@ -1,5 +1,5 @@
 -- What the reads of one request say of its bytes.
-use Rattle.std.proofs.Common.{arith, ◌≡◌, ◌<◌, ◌≤◌, ℕ, List, [], ◌∷◌, length, ◌++◌, take, drop, map, sym, ap, subst, refl, ◌∙◌, length-append, append_assoc}
+use Rattle.std.proofs.Common.{arith, ◌≡◌, ◌<◌, ◌≤◌, ℕ, List, [], ◌∷◌, length, ◌++◌, take, drop, map, inr, sym, ap, subst, refl, ◌∙◌, length-append, append_assoc}
 use Rattle.std.proofs.lemmas.List.{take-take, take_all, length-take-le}
 use Rattle.std.proofs.lemmas.Slice.{between_is}
 use Rattle.std.proofs.lemmas.List.Elements.{All-weaker, All-head, All-tail}
@@ -15,8 +15,8 @@ use Rattle.httparse.specs.declared.spans.HeaderSpan.{HeaderSpan}
 use Rattle.httparse.specs.declared.spans.RequestSpans.{RequestSpans}
 use Rattle.engine_ports.specs.Source.{SourceView, SourceEnded}
 use Rattle.http_edge.specs.Framing.{framing_of}
-use Rattle.http_edge.specs.Spelling.{head_framing, SpellsBody, HasNoRequest}
-use Rattle.http_edge.specs.Refusal.{BeginsWithHead, RefusesBody, CutsBody, IsRefused, never, too_long, by_framing, IsUnfinished, in_head, in_body}
+use Rattle.http_edge.specs.Spelling.{head_framing, SpellsBody}
+use Rattle.http_edge.specs.Refusal.{BeginsWithHead, RefusesBody, CutsBody, IsRefused, never, too_long, by_framing, IsUnfinished, in_head, in_body, AwaitsMore}
 use Rattle.http_edge.specs.Reading.{Fills, Reached}
 use Rattle.http_edge.specs.Bodies.{BodyBy}
 use Rattle.http_edge.specs.Outcome.{ShowsRequest, Facts}
@@ -24,7 +24,6 @@ use Rattle.http_edge.specs.Shown.{IsShown}
 use Rattle.http_edge.specs.declared.framing.Framing.{Framing}
 use Rattle.http_edge.specs.declared.request.Outcome.{Outcome}
 use Rattle.http_edge.specs.declared.request.Outcome.TheVariants.{Whole, End, Bad, CutShort, Failed}
-use Rattle.http_edge.proofs.EndLemmas.{headless_none, unfinished_none}
 use Rattle.http_edge.proofs.ReadLemmas.{reached, reached_on, reached_behind, ended_on, failed_on}
 
 -- ---- the outcome
@@ -53,8 +52,8 @@ pub head_cut : (before got : List ℕ) (s s' : SourceView) → Fills before got 
     → Reached before s s' IsUnfinished
 head_cut before got s s' f some short lacks may = reached before got s s' IsUnfinished f (in_head some short lacks may)
 
-pub head_failed : (before got : List ℕ) (s s' : SourceView) → Fills before got s s' → HasNoHead got → Reached before s s' HasNoRequest
-head_failed before got s s' f lacks = reached before got s s' HasNoRequest f (headless_none got lacks)
+pub head_failed : (before got : List ℕ) (s s' : SourceView) → Fills before got s s' → AwaitsMore got → Reached before s s' AwaitsMore
+head_failed before got s s' f awaits = reached before got s s' AwaitsMore f awaits
 
 -- what was said of the bytes that stood there, of those before them
 pub facts_on : (o : Outcome) (before got ahead head : List ℕ) (spans : List HeaderSpan) (b : List ℕ) (s t u : SourceView) → Fills before got s t
@@ -67,7 +66,7 @@ facts_on Failed before got ahead head spans b s t u f x = (reached_on before got
 
 -- ---- the head stands in its first bytes
 
-narrow_span : (bytes : List ℕ) (n : ℕ) (p : Span) → IsWithin n p → span_bytes (take n bytes) p ≡ span_bytes bytes p
+pub narrow_span : (bytes : List ℕ) (n : ℕ) (p : Span) → IsWithin n p → span_bytes (take n bytes) p ≡ span_bytes bytes p
 narrow_span bytes n p within =
     between_is (take n bytes) p.start p.end
     ∙ ap (drop p.start) (take-take p.end n bytes within.1)
@@ -76,7 +75,7 @@ narrow_span bytes n p within =
 narrow_field : (bytes : List ℕ) (n : ℕ) (h : HeaderSpan) → IsHeaderWithin n h → header_bytes (take n bytes) h ≡ header_bytes bytes h
 narrow_field bytes n h within = λ i. (narrow_span bytes n h.name within.0 i, narrow_span bytes n h.value within.1 i)
 
-narrow_fields : (bytes : List ℕ) (n : ℕ) (hs : List HeaderSpan) → All (IsHeaderWithin n) hs → map (header_bytes (take n bytes)) hs ≡ map (header_bytes bytes) hs
+pub narrow_fields : (bytes : List ℕ) (n : ℕ) (hs : List HeaderSpan) → All (IsHeaderWithin n) hs → map (header_bytes (take n bytes)) hs ≡ map (header_bytes bytes) hs
 narrow_fields bytes n [] all = refl
 narrow_fields bytes n (h ∷ hs) all =
     let first = narrow_field bytes n h (All-head (IsHeaderWithin n) h hs all) in
@@ -107,7 +106,7 @@ token_text bytes pass = IsUtf8-from_ascii bytes (IsAscii-from_all bytes (All-wea
 module _ (got : List ℕ) (spans : List HeaderSpan) (r : RequestSpans) (h : RequestHead) (small : length got ≤ 16384)
     (within : IsRequestWithin got spans r) (at : IsRequestAt got spans r h) where
   -- it can be shown
-  shown : IsShown (take r.len got) spans r
+  pub shown : IsShown (take r.len got) spans r
   shown = record {
     within = narrow_within got spans r within;
     method = subst IsUtf8 (sym (narrow_span got r.len r.method within.method ∙ at.method)) (token_text h.method at.reads.0.method.1);
@@ -115,10 +114,10 @@ module _ (got : List ℕ) (spans : List HeaderSpan) (r : RequestSpans) (h : Requ
   }
 
   -- the framing at the spans is that of the head
-  framing_at : framing_of r.version (map (header_bytes got) (take r.headers spans)) ≡ head_framing h
+  pub framing_at : framing_of r.version (map (header_bytes got) (take r.headers spans)) ≡ head_framing h
   framing_at = rw (at.version, at.fields) refl
 
-  begins : (more : List ℕ) → BeginsWithHead (got ++ more) h (drop r.len got ++ more)
+  pub begins : (more : List ℕ) → BeginsWithHead (got ++ more) h (drop r.len got ++ more)
   begins more = (ReadsRequest-append got h (drop r.len got) more at.reads, omega (arith, at.len, within.section.len_fits, small))
 
   module _ (f : Framing) (is : f ≡ framing_of r.version (map (header_bytes got) (take r.headers spans))) where
@@ -131,8 +130,8 @@ module _ (got : List ℕ) (spans : List HeaderSpan) (r : RequestSpans) (h : Requ
     body_cut s s' = reached_behind got (drop r.len got) s s' _ _ (λ more cuts.
         in_body h (drop r.len got ++ more) (begins more) (subst (λ k. CutsBody k (drop r.len got ++ more)) (is ∙ framing_at) cuts))
 
-    pub body_failed : (s s' : SourceView) → Reached (drop r.len got) s s' (CutsBody f) → Reached got s s' HasNoRequest
-    body_failed s s' x = reached_behind got got s s' IsUnfinished HasNoRequest (λ more u. unfinished_none (got ++ more) u) (body_cut s s' x)
+    pub body_failed : (s s' : SourceView) → Reached (drop r.len got) s s' (CutsBody f) → Reached got s s' AwaitsMore
+    body_failed s s' x = reached_behind got got s s' IsUnfinished AwaitsMore (λ more u. inr u) (body_cut s s' x)
 
     whole_bytes : (more coded ahead : List ℕ) → drop r.len got ++ more ≡ coded ++ ahead → got ++ more ≡ (print_request h ++ coded) ++ ahead
     whole_bytes more coded ahead e =

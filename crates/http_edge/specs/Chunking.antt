@@ -3,7 +3,7 @@ use Rattle.std.specs.Prelude.{ℕ, ◌≡◌, ◌<◌, ◌≤◌, ◌+◌, List,
 use Rattle.engine_ports.specs.Rose.{Rose}
 use Rattle.engine_ports.specs.Source.{SourceView, SourceEnded}
 use Rattle.http_edge.specs.Limits.{body_limit}
-use Rattle.http_edge.specs.Reading.{Reached}
+use Rattle.http_edge.specs.Reading.{Fills, Reached}
 use Rattle.http_edge.specs.Parts.{IsText, IsPart, HasNoPart, NeverHasPart, MayBecomePart, RefusesPart, CutsPart}
 use Rattle.http_edge.specs.Chunked.{Chunk, IsChunk, print_open, RefusesNext, CutsNext}
 use Rattle.http_edge.specs.declared.parts.Part.{Part}
@@ -33,7 +33,8 @@ PartFacts kind parsed.Malformed bytes = NeverHasPart kind bytes
 abbrev pub PartSays : Part → PartRead → List ℕ → List ℕ → SourceView → SourceView → Type 0
 PartSays kind (part.Whole size count) before ahead s s' = Reached before s s' (PartBy kind size count ahead)
 PartSays kind part.Refused before ahead s s' = Reached before s s' (RefusesPart kind)
-PartSays kind part.CutShort before ahead s s' = Reached before s s' (CutsPart kind) × SourceEnded s s'
+PartSays kind part.CutShort before ahead s s' =
+    Reached before s s' (CutsPart kind) × SourceEnded s s' × Fills before ahead s s'
 PartSays kind part.Failed before ahead s s' = Reached before s s' (CutsPart kind) × Rose s.faults s'.faults
 
 -- what it came to that a body grows by so many bytes

@@ -2,7 +2,8 @@
 use Rattle.std.specs.Prelude.{ℕ, ◌≡◌, List, ◌++◌}
 use Rattle.http_edge.specs.Message.{Request}
 use Rattle.http_edge.specs.Spelling.{HasNoRequest, ReadsRequests, ReadsAll}
-use Rattle.http_edge.specs.Refusal.{IsRefused, IsUnfinished}
+use Rattle.httparse.specs.Grammar.{EndsInTarget}
+use Rattle.http_edge.specs.Refusal.{AwaitsMore, IsRefused, IsUnfinished}
 
 -- bytes are one list of requests and one rest
 abbrev pub HaveOneReading : Type 0
@@ -27,3 +28,7 @@ UnfinishedHaveNone = (bytes : List ℕ) → IsUnfinished bytes → HasNoRequest 
 -- what is refused stays refused, whatever follows
 abbrev pub RefusedStay : Type 0
 RefusedStay = (bytes more : List ℕ) (status : ℕ) → IsRefused bytes status → IsRefused (bytes ++ more) status
+
+-- what is refused awaits nothing more, but the end of a target
+abbrev pub RefusedAwaitNone : Type 0
+RefusedAwaitNone = (bytes : List ℕ) (status : ℕ) → IsRefused bytes status → AwaitsMore bytes → EndsInTarget bytes

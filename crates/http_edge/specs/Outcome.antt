@@ -6,8 +6,8 @@ use Rattle.httparse.specs.declared.spans.RequestSpans.{RequestSpans}
 use Rattle.engine_ports.specs.Rose.{Rose}
 use Rattle.engine_ports.specs.Source.{SourceView, SourceEnded}
 use Rattle.http_edge.specs.Message.{Request}
-use Rattle.http_edge.specs.Spelling.{Begins, HasNoRequest}
-use Rattle.http_edge.specs.Refusal.{IsRefused, IsUnfinished}
+use Rattle.http_edge.specs.Spelling.{Begins}
+use Rattle.http_edge.specs.Refusal.{AwaitsMore, IsRefused, IsUnfinished}
 use Rattle.http_edge.specs.Reading.{Reached}
 use Rattle.http_edge.specs.Shown.{IsShown}
 use Rattle.http_edge.specs.declared.request.Outcome.{Outcome}
@@ -39,4 +39,4 @@ Facts (Whole r count) before ahead head spans body s s' =
 Facts End before ahead head spans body s s' = Reached before s s' (λ all. all ≡ []) × (ahead ≡ []) × SourceEnded s s'
 Facts (Bad status) before ahead head spans body s s' = Reached before s s' (λ all. IsRefused all status)
 Facts CutShort before ahead head spans body s s' = Reached before s s' IsUnfinished × SourceEnded s s'
-Facts Failed before ahead head spans body s s' = Reached before s s' HasNoRequest × Rose s.faults s'.faults
+Facts Failed before ahead head spans body s s' = Reached before s s' AwaitsMore × Rose s.faults s'.faults

@@ -5,8 +5,7 @@ use Rattle.engine_ports.specs.Source.{SourceView, SourceGave, SourceEnded}
 use Rattle.engine_ports.specs.declared.ports.Got.{Got}
 use Rattle.engine_ports.specs.declared.ports.Got.TheVariants as got
 use Rattle.http_edge.specs.Message.{Request}
-use Rattle.http_edge.specs.Spelling.{HasNoRequest}
-use Rattle.http_edge.specs.Refusal.{IsRefused, IsUnfinished}
+use Rattle.http_edge.specs.Refusal.{AwaitsMore, IsRefused, IsUnfinished}
 use Rattle.http_edge.specs.Reading.{Reached}
 use Rattle.http_edge.specs.Outcome.{request_at, BeginsBy}
 use Rattle.http_edge.specs.Held.{Reading}
@@ -53,7 +52,7 @@ NextSays old new (next.Bad status at) s s' =
 NextSays old new next.CutShort s s' =
     Stops old new stop.CutShort s s' (Reached old.ahead s s' IsUnfinished × SourceEnded s s')
 NextSays old new next.ReadFault s s' =
-    Stops old new stop.ReadFault s s' (Reached old.ahead s s' HasNoRequest × Rose s.faults s'.faults)
+    Stops old new stop.ReadFault s s' (Reached old.ahead s s' AwaitsMore × Rose s.faults s'.faults)
 
 -- what the bytes behind a takeover say: first those ahead, and then the source's
 abbrev pub RestSays : Got → List ℕ → Reading → Reading → SourceView → SourceView → Type 0

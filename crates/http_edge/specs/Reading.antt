@@ -8,6 +8,7 @@ use Rattle.engine_ports.specs.Source.{SourceView, SourceGave, SourceEnded}
 use Rattle.engine_ports.specs.declared.ports.Got.{Got}
 use Rattle.engine_ports.specs.declared.ports.Got.TheVariants as got
 use Rattle.http_edge.specs.Limits.{head_limit}
+use Rattle.http_edge.specs.Refusal.{AwaitsMore}
 use Rattle.http_edge.specs.declared.front.Parsed.{Parsed}
 use Rattle.http_edge.specs.declared.front.Parsed.TheVariants as parsed
 use Rattle.http_edge.specs.declared.front.HeadRead.{HeadRead}
@@ -55,7 +56,7 @@ HeadFacts TooLong bytes spans s s' =
 HeadFacts End bytes spans s s' = (length bytes ≡ 0) × SourceEnded s s'
 HeadFacts CutShort bytes spans s s' =
     (0 < length bytes) × (length bytes < head_limit) × HasNoRequest bytes × MayBecomeRequest bytes × SourceEnded s s'
-HeadFacts Failed bytes spans s s' = HasNoRequest bytes × Rose s.faults s'.faults
+HeadFacts Failed bytes spans s s' = AwaitsMore bytes × Rose s.faults s'.faults
 
 -- what filling a place of this size came to: len bytes of it stand there
 abbrev pub FillFacts : Filled → ℕ → ℕ → SourceView → SourceView → Type 0

@@ -1,5 +1,5 @@
 -- When bytes are refused, and when they are part of a request (own: the order of the rules).
-use Rattle.std.specs.Prelude.{ℕ, ◌≡◌, ◌<◌, ◌≤◌, List, length, take}
+use Rattle.std.specs.Prelude.{ℕ, ◌≡◌, ◌<◌, ◌≤◌, ◌⊎◌, List, [], length, take}
 use Rattle.httparse.specs.Grammar.{RequestHead, print_request, ReadsRequest, NeverHasRequest, MayBecomeRequest, HasNoRequest as HasNoHead}
 use Rattle.http_edge.specs.Limits.{head_limit}
 use Rattle.http_edge.specs.Chunked.{RefusesChunks, CutsChunks}
@@ -40,3 +40,7 @@ pub data IsRefused (bytes : List ℕ) (status : ℕ) : Type 0 where
 pub data IsUnfinished (bytes : List ℕ) : Type 0 where
   in_head : 0 < length bytes → length bytes < head_limit → HasNoHead bytes → MayBecomeRequest bytes → IsUnfinished bytes
   in_body : (h : RequestHead) (behind : List ℕ) → BeginsWithHead bytes h behind → CutsBody (head_framing h) behind → IsUnfinished bytes
+
+-- nothing stands there, or it is unfinished: more is to come before any rule decides
+abbrev pub AwaitsMore : List ℕ → Type 0
+AwaitsMore bytes = (bytes ≡ []) ⊎ IsUnfinished bytes

@@ -8,12 +8,15 @@ use crate::answer::write_both;
 use crate::line::{LINE_ROOM, Line};
 use engine_ports::{Failed, Sink};
 
-/// Writes a piece, which isn't empty, as a chunk: at once where it is short. It takes no memory.
+/// Writes a piece, which isn't empty, as a chunk: at once where it is short. It takes no memory, and
+/// of the stack only while it runs.
+#[inline(never)]
 pub fn write_chunk<K: Sink>(sink: &mut K, piece: &[u8]) -> Result<(), Failed>
     requires { 0 < length piece.now }
     ensures { WriteSays result (chunk_text piece.now) (K.takes sink.old) (K.takes sink.new) }
 {
-    let mut line = chunk_line(piece.len() as u64);
+    let mut line = Line::new();
+    push_size(&mut line, piece.len() as u64);
     if piece.len() <= LINE_ROOM - 32 {
         line.push(piece);
         line.push(b"\r\n");
@@ -30,15 +33,14 @@ pub fn write_last<K: Sink>(sink: &mut K) -> Result<(), Failed>
     sink.write(b"0\r\n\r\n")
 }
 
-/// The line before a chunk of so many bytes.
-fn chunk_line(size: u64) -> Line
-    ensures text { result ≡ hex_text size ++ codes "\r\n" }
-    ensures short { length result ≤ 18 }
+/// The line before a chunk of so many bytes, in a line that is empty.
+fn push_size(line: &mut Line, size: u64)
+    requires { line.old ≡ [] }
+    ensures text { line.new ≡ hex_text size ++ codes "\r\n" }
+    ensures short { length line.new ≤ 18 }
 {
-    let mut line = Line::new();
-    push_hex(&mut line, size);
+    push_hex(line, size);
     line.push(b"\r\n");
-    line
 }
 
 fn push_hex(line: &mut Line, n: u64)

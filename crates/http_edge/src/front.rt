@@ -67,7 +67,7 @@ fn parse_with_room(bytes: &[u8], spans: &mut [HeaderSpan]) -> Parsed
 
 /// What the front of the input is.
 #[derive(Clone, Copy)]
-pub(crate) enum HeadRead {
+pub enum HeadRead {
     Head(RequestSpans),
     Malformed,
     TooLong,
@@ -76,8 +76,8 @@ pub(crate) enum HeadRead {
     Failed,
 }
 
-/// Reads until the bytes ahead begin with a head.
-pub(crate) fn read_head<S: Source>(
+/// Reads until the bytes ahead begin with a head. They stay there.
+pub fn read_head<S: Source>(
     source: &mut S,
     ahead: &mut Ahead,
     spans: &mut Vec<HeaderSpan>,

@@ -37,11 +37,13 @@ pub struct Head {
     pub close: bool,
 }
 
-/// Writes the head of a response at once. It takes no memory.
+/// Writes the head of a response at once. It takes no memory, and of the stack only while it runs.
+#[inline(never)]
 pub fn write_head<K: Sink>(sink: &mut K, head: &Head) -> Result<(), Failed>
     ensures { WriteSays result (head_text head.now) (K.takes sink.old) (K.takes sink.new) }
 {
-    let line = head_line(head);
+    let mut line = Line::new();
+    push_head(&mut line, head);
     sink.write(line.as_slice())
 }
 
@@ -51,15 +53,24 @@ pub fn head_line(head: &Head) -> Line
     ensures short { length result ≤ 512 }
 {
     let mut line = Line::new();
+    push_head(&mut line, head);
+    line
+}
+
+/// The head's bytes, in a line that is empty.
+pub(crate) fn push_head(line: &mut Line, head: &Head)
+    requires { line.old ≡ [] }
+    ensures text { line.new ≡ head_text head.now }
+    ensures short { length line.new ≤ 512 }
+{
     match head.form {
         Form::Takeover { upgrade } => line.push(takeover_head(upgrade)),
         form => {
-            push_first(&mut line, head.status, head.close);
-            push_form(&mut line, form);
+            push_first(line, head.status, head.close);
+            push_form(line, form);
             line.push(b"\r\n");
         }
     }
-    line
 }
 
 fn takeover_head(upgrade: bool) -> &'static [u8]

@@ -1,5 +1,5 @@
 // What holds of every connection's bytes.
-ghost use Rattle.http_edge.specs.Laws.{HaveOneReading, HaveSomeReading, RefusedHaveNone, UnfinishedHaveNone, RefusedStay};
+ghost use Rattle.http_edge.specs.Laws.{HaveOneReading, HaveSomeReading, RefusedAwaitNone, RefusedHaveNone, UnfinishedHaveNone, RefusedStay};
 
 /// The bytes of a connection are one list of requests and one rest.
 pub fn law_one_reading()
@@ -20,4 +20,9 @@ pub fn law_begins_with_none()
 /// What is refused stays refused, whatever follows.
 pub fn law_refused_stays()
     ensures { RefusedStay }
+{}
+
+/// What is refused awaits nothing more, but where it ends inside a target, which is told to be text at its end.
+pub fn law_refused_is_decided()
+    ensures { RefusedAwaitNone }
 {}

@@ -25,12 +25,17 @@ pub use ahead::Ahead;
 pub use answer::{write_answer, write_refusal};
 pub use asks::Want;
 pub use chunk::{write_chunk, write_last};
-pub use framing::Framing;
+pub use framing::{Framing, frame_head};
+pub use front::{HeadRead, read_head};
 pub use head::{Form, Head, head_line, write_head};
-pub use laws::{law_begins_with_none, law_of_requests, law_one_reading, law_refused_stays};
+pub use laws::{
+    law_begins_with_none, law_of_requests, law_one_reading, law_refused_is_decided,
+    law_refused_stays,
+};
 pub use limits::{BODY_LIMIT, FIELD_LIMIT, HEAD_LIMIT};
 pub use line::Line;
 pub use parts::{Part, PartRead, read_part};
 pub use reader::{Next, RequestReader, Stopped};
+pub use request::keep_head;
 pub use shown_fields::Fields;
 pub use view::{Buffers, RequestView};

@@ -74,7 +74,7 @@ fn read_framed<S: Source>(
 }
 
 /// Keeps the head in the place of the last one.
-fn keep_head(bytes: &[u8], head: &mut Vec<u8>)
+pub fn keep_head(bytes: &[u8], head: &mut Vec<u8>)
     requires small { length bytes.now ≤ head_limit }
     requires room { head_limit ≤ vec_capacity head.old }
     ensures room { head_limit ≤ vec_capacity head.new }

@@ -1,5 +1,5 @@
 // A request, as it stands in the reader's buffers.
-ghost use Rattle.std.specs.Prelude.{◌≡◌, ◌≤◌, length, take, IsUtf8, IfOk};
+ghost use Rattle.std.specs.Prelude.{◌≡◌, ◌≤◌, ◌+◌, length, take, IsUtf8, IfOk};
 ghost use Rattle.http_edge.specs.Shown.{IsShown};
 
 use crate::asks::{Want, has_field};
@@ -13,9 +13,9 @@ use std::str;
 /// What reading a request fills: its head, where its fields stand, and its body.
 #[derive(Drop)]
 pub struct Buffers {
-    pub(crate) head: Vec<u8>,
-    pub(crate) spans: Vec<HeaderSpan>,
-    pub(crate) body: Vec<u8>,
+    pub head: Vec<u8>,
+    pub spans: Vec<HeaderSpan>,
+    pub body: Vec<u8>,
 }
 
 impl Buffers {
@@ -23,7 +23,7 @@ impl Buffers {
 
     /// Takes room for the greatest head, the most fields and the greatest body. Only what a request
     /// needs is written, so most of an idle reader's room stays untouched.
-    pub(crate) fn new(alloc: Global) -> Result<Buffers, NoMemory>
+    pub fn new(alloc: Global) -> Result<Buffers, NoMemory>
         ensures { IfOk result HaveRoom }
     {
         let mut spans = Vec::with_capacity(alloc, FIELD_PLACES)?;
@@ -36,7 +36,7 @@ impl Buffers {
     }
 
     /// Drops what the last request wrote, and keeps the room.
-    pub(crate) fn clear(&mut self)
+    pub fn clear(&mut self)
         requires { HaveRoom self.old }
         ensures { HaveRoom self.new }
     {
@@ -59,7 +59,25 @@ pub struct RequestView<'r> {
 impl<'r> RequestView<'r> {
     ghost use Rattle.std.specs.Prelude.{◌≡◌, map};
     ghost use Rattle.http_edge.specs.Asks.{is_head, closes, asks_upgrade, starts_on_head, asks_early};
-    ghost use Rattle.http_edge.specs.Reader.{request_of};
+    ghost use Rattle.http_edge.specs.Outcome.{request_at};
+    ghost use Rattle.http_edge.specs.Reader.{request_of, count_of};
+
+    /// The request that stands in the buffers: its head at these places, and its body, which so many bytes spell.
+    pub fn new(buffers: &'r Buffers, found: RequestSpans, coded: usize) -> RequestView<'r>
+        requires fits { found.len ≤ length buffers.now.head.items }
+        requires shown { IsShown (take found.len buffers.now.head.items)
+            buffers.now.spans.items found }
+        ensures request { request_of result
+            ≡ request_at (take found.len buffers.now.head.items) buffers.now.spans.items found
+            buffers.now.body.items }
+        ensures count { count_of result ≡ found.len + coded }
+    {
+        RequestView {
+            buffers,
+            found,
+            coded,
+        }
+    }
 
     /// The method, as GET.
     pub fn method(&self) -> &'r str

@@ -32,8 +32,9 @@ module _ (ch : Charter) (k : ℕ) where
   out_before owner n left P.Ended a b c quiet (none, (taken, made)) = (none, (taken, made_before ch k (input_of k) (FeedEnd owner n) a b c (Fed taken) made quiet))
   out_before owner n left P.Gone a b c quiet (piece, front, made) = (piece, front, made_before ch k (input_of k) (Feed owner n piece) a b c (Fed false) made quiet)
   out_before owner n left P.JournalFull a b c quiet (q, at) = (quiet_on k a b c q quiet, some_on a b c _ (quiet_extends k b c quiet) at)
-  out_before owner n left P.Stopped a b c quiet q = quiet_on k a b c q quiet
-  out_before owner n left P.ReadFault a b c quiet q = quiet_on k a b c q quiet
+  out_before owner n left P.Stopped a b c quiet (q, (x, asked, held)) =
+      (quiet_on k a b c q quiet, (x, asked, (held.0, some_on a b c _ (quiet_extends k b c quiet) held.1)))
+  out_before owner n left P.ReadFault a b c quiet (none, q) = (none, quiet_on k a b c q quiet)
   out_before owner n left P.NoMemory a b c quiet q = quiet_on k a b c q quiet
 
   pub out_behind : (owner : Owner) (n : ℕ) (left : List ℕ) (end : PumpEnd) (a b c : List Step) → IsQuiet k a b
@@ -41,16 +42,17 @@ module _ (ch : Charter) (k : ℕ) where
   out_behind owner n left P.Ended a b c quiet (none, (taken, made)) = (none, (taken, made_behind ch k (input_of k) (FeedEnd owner n) a b c (Fed taken) quiet made))
   out_behind owner n left P.Gone a b c quiet (piece, front, made) = (piece, front, made_behind ch k (input_of k) (Feed owner n piece) a b c (Fed false) quiet made)
   out_behind owner n left P.JournalFull a b c quiet (q, (at, from, to, none)) = (quiet_on k a b c quiet q, (at, extends_on a b at (quiet_extends k a b quiet) from, to, none))
-  out_behind owner n left P.Stopped a b c quiet q = quiet_on k a b c quiet q
-  out_behind owner n left P.ReadFault a b c quiet q = quiet_on k a b c quiet q
+  out_behind owner n left P.Stopped a b c quiet (q, (x, asked, (sound, (at, from, to, refused)))) =
+      (quiet_on k a b c quiet q, (x, asked, (sound, (at, extends_on a b at (quiet_extends k a b quiet) from, to, refused))))
+  out_behind owner n left P.ReadFault a b c quiet (none, q) = (none, quiet_on k a b c quiet q)
   out_behind owner n left P.NoMemory a b c quiet q = quiet_on k a b c quiet q
 
   pub out_extends : (owner : Owner) (n : ℕ) (left : List ℕ) (end : PumpEnd) (a b : List Step) → PumpsOut ch k owner n left end a b → Extends a b
   out_extends owner n left P.Ended a b (none, (taken, made)) = made_extends ch k (input_of k) (FeedEnd owner n) a b (Fed taken) made
   out_extends owner n left P.Gone a b (piece, front, made) = made_extends ch k (input_of k) (Feed owner n piece) a b (Fed false) made
   out_extends owner n left P.JournalFull a b (q, at) = quiet_extends k a b q
-  out_extends owner n left P.Stopped a b q = quiet_extends k a b q
-  out_extends owner n left P.ReadFault a b q = quiet_extends k a b q
+  out_extends owner n left P.Stopped a b (q, held) = quiet_extends k a b q
+  out_extends owner n left P.ReadFault a b (none, q) = quiet_extends k a b q
   out_extends owner n left P.NoMemory a b q = quiet_extends k a b q
 
   -- one piece more is fed

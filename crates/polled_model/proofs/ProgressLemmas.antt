@@ -10,7 +10,6 @@ use Rattle.api_routes.specs.declared.class.Takeover.{Takeover}
 use Rattle.session_model.specs.declared.followed.Followed.TheVariants as F
 use Rattle.session_model.specs.Responses.{terms_of, head_of_stream, out_of_memory_response}
 use Rattle.session_model.specs.Exchange.{EndsSo, Flow, Leaves, flow_of, IsQuiet, IsBody, IsMadeAt, IsAnswered, AtOnce, InChunks, HeadIsLost, DroppedForMemory, OfStream}
-use Rattle.session_model.specs.Moments.{ComesTo}
 use Rattle.session_model.specs.Session.{NoneYet, Span}
 use Rattle.session_model.proofs.HistoryLemmas.{quiet_same, quiet_on, none_append}
 use Rattle.polled_model.specs.Progress.{IsBegun, IsProgress, Underway, Nothing, One, Refusal, law_beginnings, law_others}
@@ -64,14 +63,10 @@ others_on ch k s b q x = record {
 }
 
 -- a stream of which a write failed says nothing of its end
-ends_lost : (ch : Charter) (reply : Reply) (body : List ℕ) (a b : List Step) → EndsSo ch reply F.WriteFault body a b
-ends_lost ch (R.LogStream spec) body a b = tt
-ends_lost ch (R.EventStream first until filter) body a b = tt
-ends_lost ch reply body a b = tt
-
-comes_lost : (reply : Reply) (ms : List ℕ) → ComesTo reply F.WriteFault ms
-comes_lost (R.EventStream first (Some u) filter) ms = tt
-comes_lost reply ms = tt
+ends_lost : (ch : Charter) (reply : Reply) (body ms : List ℕ) (a b : List Step) → EndsSo ch reply F.WriteFault body ms a b
+ends_lost ch (R.LogStream spec) body ms a b = tt
+ends_lost ch (R.EventStream first until filter) body ms a b = tt
+ends_lost ch reply body ms a b = tt
 
 module _ (ch : Charter) (k : ℕ) where
   -- ---- what may come of each state
@@ -99,7 +94,7 @@ module _ (ch : Charter) (k : ℕ) where
       subst (λ w. IsAnswered ch k r behind x.mid x.now (Leaves F.WriteFault None) w (x.m ∷ x.late))
       (append-nil (head_of_stream (terms_of r) Takeover.None reply ++ x.chunks) ∙ x.whole)
       (InChunks F.WriteFault (head_of_stream (terms_of r) Takeover.None reply) body x.chunks (x.m ∷ x.late)
-      (OfStream x.c reply F.WriteFault x.at x.m body x.late x.asks x.made x.since told (ends_lost ch reply body x.at x.now) (comes_lost reply x.late)) x.cut)
+      (OfStream x.c reply F.WriteFault x.at x.m body x.late x.asks x.made x.since told (ends_lost ch reply body x.late x.at x.now) x.comes) x.cut)
 
   pub stream_row : (r : Request) (behind : List ℕ) (reply : Reply) (body rest : List ℕ) (s : Span) → (x : Streams ch k r behind reply body rest s)
       → IsAnswered ch k r behind x.mid x.now (Leaves F.WriteFault None) (x.sent ++ rest) (x.m ∷ x.late)

@@ -14,6 +14,7 @@ use Rattle.session_model.specs.Responses.{terms_of, direct_bytes, head_of_stream
 use Rattle.session_model.specs.Exchange.{GoesOn, flow_of, IsQuiet, IsMadeAt, IsAnswered, IsAnsweredWhole, AtOnce, FromItsBytes, ByItsCall, JournalIsFull, OutOfMemory}
 use Rattle.session_model.specs.Session.{AreAnswered, OneMore, Span}
 use Rattle.session_model.proofs.HistoryLemmas.{quiet_same, quiet_on, made_behind_at}
+use Rattle.session_model.proofs.MomentLemmas.{none_handed}
 use Rattle.session_model.proofs.SessionLemmas.{reads_more, reads_on}
 use Rattle.polled_model.specs.Stages.{HoldsTicket, Reads, Sends}
 use Rattle.polled_model.specs.Steps.{StaysBeside, StepsOfReads, StepsOfWrites, come_to}
@@ -87,6 +88,7 @@ module _ (ch : Charter) (k : ℕ) where
       form = x.form;
       made = x.made;
       told = x.told;
+      comes = x.comes;
       cut = x.cut;
       since = x.since;
       quiet = quiet_on k x.now s.to b x.quiet quiet;
@@ -192,8 +194,8 @@ module _ (ch : Charter) (k : ℕ) where
       quiet = x.quiet;
     };
     direct = λ behind r answer. direct' tail behind r answer s;
-    short = λ behind ms r b x begins quiet unasked.
-        at_once tail behind _ ms r s b x begins (λ more. OutOfMemory ms (quiet_on k x.mid s.to b x.quiet quiet) unasked);
+    short = λ behind ms r b x begins quiet unasked once.
+        at_once tail behind _ ms r s b x begins (λ more. OutOfMemory ms (quiet_on k x.mid s.to b x.quiet quiet) unasked once);
     full = λ behind m r c b x begins asks quiet none.
         at_once tail behind _ (m ∷ []) r s b x begins (λ more. JournalIsFull c m asks (quiet_on k x.mid s.to b x.quiet quiet) none);
     called = λ behind m r c status body b x begins asks made.
@@ -227,6 +229,7 @@ module _ (ch : Charter) (k : ℕ) where
       form = form;
       made = made_behind_at ch k m c x.mid s.to b reply x.quiet made;
       told = inl (refl, refl);
+      comes = none_handed reply;
       cut = none_chunked;
       since = quiet_same k b;
       quiet = quiet_same k b;
@@ -291,6 +294,7 @@ module _ (ch : Charter) (k : ℕ) where
       form = x.form;
       made = x.made;
       told = x.told;
+      comes = x.comes;
       cut = x.cut;
       since = x.since;
       quiet = x.quiet;

@@ -24,7 +24,7 @@ module _ (ch : Charter) (k : ℕ) where
 
   pub streaming : (r : Request) (behind : List ℕ) (reply : Reply) (body rest : List ℕ) (s : Span) → StepsOfStreams ch k r behind reply body rest s
   streaming r behind reply body rest s = record {
-    tells = λ part chunks ms b x quiet tells cut. record {
+    tells = λ part chunks ms b x quiet tells comes cut. record {
       c = x.c;
       tail = x.tail;
       mid = x.mid;
@@ -42,6 +42,7 @@ module _ (ch : Charter) (k : ℕ) where
       form = x.form;
       made = x.made;
       told = inr tells;
+      comes = comes;
       cut = chunked_on body part x.chunks chunks x.cut cut;
       since = quiet_on k x.at x.now b x.since (quiet_on k x.now s.to b x.quiet quiet);
       quiet = quiet_same k b;

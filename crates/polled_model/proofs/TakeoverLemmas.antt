@@ -38,7 +38,7 @@ module _ (ch : Charter) (k : ℕ) where
 
   row : (r : Request) (t : Takeover) (spec : LogSpec) (behind : List ℕ) (input : Input) (f : Followed) (body w ms : List ℕ) (c : Call) (m : ℕ) (a at b : List Step)
       → class_of r ≡ Stream c t → (t ≡ Takeover.None → ⊥) → IsMadeAt ch k m c a at (LogStream spec) → InputSays ch k spec input behind at b
-      → IsBody ch (LogStream spec) (is_whole f) at b body → AtLast (end_of input) at b (EndsSo ch (LogStream spec) f body at)
+      → IsBody ch (LogStream spec) (is_whole f) at b body → AtLast (end_of input) at b (EndsSo ch (LogStream spec) f body ms at)
       → takeover_head t ++ body ≡ w → IsAnswered ch k r behind a b (Leaves f (end_of input)) w (m ∷ ms)
   row r t spec behind input f body w ms c m a at b asks over made input_is told ends whole =
       subst (λ v. IsAnswered ch k r behind a b (Leaves f (end_of input)) v (m ∷ ms)) whole
@@ -50,7 +50,7 @@ module _ (ch : Charter) (k : ℕ) where
         → IsAnswered ch k r behind x.mid x.now (Leaves F.WriteFault (end_of input)) (x.sent ++ rest) (x.m ∷ x.late)
     told_row x from =
         row r t spec behind input F.WriteFault body (x.sent ++ rest) x.late x.c x.m x.mid x.at x.now x.asks x.over x.made x.input_is x.told
-        (last_at ch k (end_of input) x.at x.now (EndsSo ch (LogStream spec) F.WriteFault body x.at) from tt) x.whole
+        (last_at ch k (end_of input) x.at x.now (EndsSo ch (LogStream spec) F.WriteFault body x.late x.at) from tt) x.whole
 
     ended_row : (f : Followed) (x : Takes ch k r t spec behind input (Some f) body rest s)
         → IsAnswered ch k r behind x.mid x.now (Leaves f (end_of input)) (x.sent ++ rest) (x.m ∷ x.late)
@@ -170,13 +170,13 @@ module _ (ch : Charter) (k : ℕ) where
       }
 
   -- what is told of a stream beside an input, at a later history
-  told_on : (spec : LogSpec) (input input' : Input) (end : PumpEnd) (followed : Option Followed) (at b c : List Step) (body : List ℕ) → end_of input ≡ Some end
-      → (end' : PumpEnd) → end_of input' ≡ Some end' → Extends b c → Tells ch k spec input followed at b body → Tells ch k spec input' followed at c body
-  told_on spec input input' end None at b c body is end' is' e told = body_on ch spec false at b c body e told
-  told_on spec input input' end (Some f) at b c body is end' is' e told = (
+  told_on : (spec : LogSpec) (input input' : Input) (end : PumpEnd) (followed : Option Followed) (at b c : List Step) (body ms : List ℕ) → end_of input ≡ Some end
+      → (end' : PumpEnd) → end_of input' ≡ Some end' → Extends b c → Tells ch k spec input followed at b body ms → Tells ch k spec input' followed at c body ms
+  told_on spec input input' end None at b c body ms is end' is' e told = body_on ch spec false at b c body e told
+  told_on spec input input' end (Some f) at b c body ms is end' is' e told = (
     body_on ch spec (is_whole f) at b c body e told.0,
-    subst (λ o. AtLast o at c (EndsSo ch (LogStream spec) f body at)) (sym is')
-        (some_on at b c (EndsSo ch (LogStream spec) f body at) e (subst (λ o. AtLast o at b (EndsSo ch (LogStream spec) f body at)) is told.1)),
+    subst (λ o. AtLast o at c (EndsSo ch (LogStream spec) f body ms at)) (sym is')
+        (some_on at b c (EndsSo ch (LogStream spec) f body ms at) e (subst (λ o. AtLast o at b (EndsSo ch (LogStream spec) f body ms at)) is told.1)),
   )
 
   steps_of : (r : Request) (t : Takeover) (spec : LogSpec) (behind : List ℕ) (followed : Option Followed) (body rest : List ℕ) (s : Span)
@@ -204,7 +204,7 @@ module _ (ch : Charter) (k : ℕ) where
           over = x.over;
           made = x.made;
           input_is = (i.0, i.1, (i.2.0, i.2.1, ap (λ l. l ++ more) i.2.2 ∙ append_assoc (concat i.2.0) left more, i.2.3, i.2.4));
-          told = told_on spec (Open left) (Open (left ++ more)) P.NoMemory followed x.at x.now x.now body refl P.NoMemory refl (extends_same x.now) x.told;
+          told = told_on spec (Open left) (Open (left ++ more)) P.NoMemory followed x.at x.now x.now body x.late refl P.NoMemory refl (extends_same x.now) x.told;
           quiet = x.quiet;
           whole = x.whole;
           wrote = x.wrote;
@@ -244,7 +244,7 @@ module _ (ch : Charter) (k : ℕ) where
               quiet_same k b,
             ),
           );
-          told = told_on spec (Open (piece ++ left)) (Open left) P.NoMemory followed x.at x.now b body refl P.NoMemory refl e x.told;
+          told = told_on spec (Open (piece ++ left)) (Open left) P.NoMemory followed x.at x.now b body x.late refl P.NoMemory refl e x.told;
           quiet = quiet_same k b;
           whole = x.whole;
           wrote = x.wrote;
@@ -282,7 +282,7 @@ module _ (ch : Charter) (k : ℕ) where
               out_behind ch k spec.owner i.0 left end i.2.1 s.to b (quiet_on k i.2.1 x.now s.to i.2.4 x.quiet) out',
             ),
           );
-          told = told_on spec (Open left) (Over end) P.NoMemory followed x.at x.now b body refl end refl e x.told;
+          told = told_on spec (Open left) (Over end) P.NoMemory followed x.at x.now b body x.late refl end refl e x.told;
           quiet = quiet_same k b;
           whole = x.whole;
           wrote = x.wrote;
@@ -328,7 +328,7 @@ module _ (ch : Charter) (k : ℕ) where
       over = x.over;
       made = x.made;
       input_is = input_on ch k spec input behind x.at x.now b (quiet_on k x.now s.to b x.quiet quiet) x.input_is;
-      told = (told, last_at ch k (end_of input) x.at b (EndsSo ch (LogStream spec) f (body ++ part) x.at) (extends_on x.at told.0 b told.1 told.2) ends);
+      told = (told, last_at ch k (end_of input) x.at b (EndsSo ch (LogStream spec) f (body ++ part) (x.late ++ ms) x.at) (extends_on x.at told.0 b told.1 told.2) ends);
       quiet = quiet_same k b;
       whole = sym (append_assoc (takeover_head t) body part) ∙ ap (λ l. l ++ part) x.whole ∙ append_assoc x.sent rest part;
       wrote = x.wrote;

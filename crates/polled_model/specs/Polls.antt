@@ -82,7 +82,7 @@ IsLate ch k m a b =
 abbrev pub IsUpToDate : Charter → ℕ → Span → Type 0
 IsUpToDate ch k s =
     (r : Request) × (behind : List ℕ) × (reply : Reply) × (body : List ℕ) × (x : Streams ch k r behind reply body [] s)
-    × EndsSo ch reply F.Stopped body x.at s.to × ComesTo reply F.Stopped x.late
+    × EndsSo ch reply F.Stopped body x.late x.at s.to × ComesTo reply F.Stopped x.late
 
 -- the count rose by so many, or stands at its last value
 abbrev pub RoseBy : ℕ → ℕ → ℕ → Type 0

@@ -1,5 +1,5 @@
 -- How far a session has come that is polled. own: sessions of this project that hold no thread.
-use Rattle.std.specs.Prelude.{ℕ, ◌≡◌, ◌⊎◌, Bool, List, [], ◌++◌}
+use Rattle.std.specs.Prelude.{ℕ, ◌≡◌, Bool, List, [], ◌++◌}
 use Rattle.engine_ports.specs.Sink.{IsFront}
 use Rattle.engine_ports.specs.Door.{Outside}
 use Rattle.engine_text.specs.declared.step.Step.{Step}
@@ -7,7 +7,7 @@ use Rattle.machine_model.specs.History.{Charter, own_calls}
 use Rattle.http_edge.specs.Message.{Request}
 use Rattle.http_edge.specs.Response.{refusal_bytes}
 use Rattle.http_edge.specs.Spelling.{Begins, ReadsRequests}
-use Rattle.http_edge.specs.Refusal.{IsRefused, IsUnfinished}
+use Rattle.http_edge.specs.Refusal.{AwaitsMore, IsRefused}
 use Rattle.session_model.specs.declared.ending.Ending.{Ending}
 use Rattle.session_model.specs.Exchange.{Flow, IsAnswered, IsQuiet}
 use Rattle.session_model.specs.Session.{AreAnswered, Span, IsSession}
@@ -53,7 +53,7 @@ module _ (ch : Charter) (k : ℕ) where
 
   -- every whole request that was read is answered, and what else was read may become one
   abbrev pub IsIdle : Span → Type 0
-  IsIdle s = (x : IsProgress s) × IsNothing x.underway × ((x.tail ≡ []) ⊎ IsUnfinished x.tail)
+  IsIdle s = (x : IsProgress s) × IsNothing x.underway × AwaitsMore x.tail
 
   -- it has ended so at some history, behind which there are steps of others alone: its last bytes may have waited for the sink
   abbrev pub HasEnded : Ending → Bool → Span → Type 0

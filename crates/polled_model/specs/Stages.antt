@@ -14,7 +14,9 @@ use Rattle.http_edge.specs.Refusal.{IsRefused}
 use Rattle.api_routes.specs.Class.{class_of}
 use Rattle.api_routes.specs.declared.class.Class.TheVariants.{Ask, Stream}
 use Rattle.api_routes.specs.declared.class.Takeover.{Takeover}
+use Rattle.session_model.specs.declared.followed.Followed.TheVariants as F
 use Rattle.session_model.specs.Exchange.{Flow, IsAnswered, IsBody, IsQuiet, IsMadeAt, is_early}
+use Rattle.session_model.specs.Moments.{ComesTo}
 use Rattle.session_model.specs.Responses.{terms_of, chunked_form, early_head, head_of_stream}
 use Rattle.session_model.specs.Session.{AreAnswered, Span}
 
@@ -82,6 +84,8 @@ module _ (ch : Charter) (k : ℕ) where
     pub made : IsMadeAt ch k m c mid at reply
     -- nothing was asked of it yet, or what was told is a part of it
     pub told : ((body ≡ []) × (late ≡ [])) ⊎ IsBody ch reply false at now body
+    -- for the journal no moment was read
+    pub comes : ComesTo reply F.WriteFault late
     pub cut : IsChunked body chunks
     pub since : IsQuiet k at now
     pub quiet : IsQuiet k now s.to

@@ -1,6 +1,6 @@
 -- How a session that is polled goes from one of its states to the next, how it ends, and what each state is.
 -- own: sessions of this project that hold no thread.
-use Rattle.std.specs.Prelude.{ℕ, ◌≡◌, true, false, if◌then◌else◌, List, [], ◌∷◌, ◌++◌, None, Some, IsFalse, IsTrue, IsSome}
+use Rattle.std.specs.Prelude.{ℕ, ◌≡◌, ◌≤◌, true, false, if◌then◌else◌, List, [], ◌∷◌, ◌++◌, length, None, Some, IsFalse, IsTrue, IsSome}
 use Rattle.engine_ports.specs.Rose.{Rose}
 use Rattle.engine_ports.specs.Source.{SourceEnded}
 use Rattle.engine_text.specs.declared.call.Call.{Call}
@@ -13,8 +13,8 @@ use Rattle.journal_lines.specs.Room.{HasRoom}
 use Rattle.http_edge.specs.Message.{Request}
 use Rattle.http_edge.specs.Chunks.{IsChunked, last_chunk}
 use Rattle.http_edge.specs.Response.{refusal_bytes}
-use Rattle.http_edge.specs.Spelling.{Begins, HasNoRequest}
-use Rattle.http_edge.specs.Refusal.{IsRefused, IsUnfinished}
+use Rattle.http_edge.specs.Spelling.{Begins}
+use Rattle.http_edge.specs.Refusal.{AwaitsMore, IsRefused, IsUnfinished}
 use Rattle.api_routes.specs.Class.{class_of}
 use Rattle.api_routes.specs.declared.class.Class.TheVariants.{Direct, Ask, Stream}
 use Rattle.api_routes.specs.declared.class.DirectAnswer.{DirectAnswer}
@@ -57,7 +57,7 @@ module _ (ch : Charter) (k : ℕ) where
     pub direct : (behind : List ℕ) (r : Request) (answer : DirectAnswer) → Reads ch k tail s → Begins tail r behind
         → class_of r ≡ Direct answer → Sends ch k (flow_of (terms_of r)) r behind (direct_bytes (terms_of r) answer) s
     pub short : (behind ms : List ℕ) (r : Request) (b : List Step) → Reads ch k tail s → Begins tail r behind
-        → IsQuiet k s.to b → (call_of (class_of r) ≡ None → ms ≡ [])
+        → IsQuiet k s.to b → (call_of (class_of r) ≡ None → ms ≡ []) → length ms ≤ 1
         → Sends ch k (flow_of (terms_of r)) r behind (out_of_memory_response (terms_of r)) (come_to s b ms)
     pub full : (behind : List ℕ) (m : ℕ) (r : Request) (c : Call) (b : List Step) → Reads ch k tail s → Begins tail r behind
         → call_of (class_of r) ≡ Some c → IsQuiet k s.to b → (HasRoom ch (state_after ch b) c → ⊥)
@@ -101,10 +101,10 @@ module _ (ch : Charter) (k : ℕ) where
   -- a stream is told on, up to date too, or ends by what it is then
   pub record StepsOfStreams (r : Request) (behind : List ℕ) (reply : Reply) (body rest : List ℕ) (s : Span) : Type 0 where
     pub tells : (part chunks ms : List ℕ) (b : List Step) (x : Streams ch k r behind reply body rest s) → IsQuiet k s.to b
-        → IsBody ch reply false x.at b (body ++ part) → IsChunked part chunks
+        → IsBody ch reply false x.at b (body ++ part) → ComesTo reply F.WriteFault (x.late ++ ms) → IsChunked part chunks
         → Streams ch k r behind reply (body ++ part) (rest ++ chunks) (come_to s b ms)
     pub ends : (f : Followed) (part chunks ms : List ℕ) (b : List Step) (x : Streams ch k r behind reply body rest s)
-        → IsQuiet k s.to b → IsBody ch reply (is_whole f) x.at b (body ++ part) → EndsSo ch reply f (body ++ part) x.at b
+        → IsQuiet k s.to b → IsBody ch reply (is_whole f) x.at b (body ++ part) → EndsSo ch reply f (body ++ part) (x.late ++ ms) x.at b
         → ComesTo reply f (x.late ++ ms) → IsChunked part chunks
         → Sends ch k (flow_behind (terms_of r) f) r behind (rest ++ chunks ++ (if is_whole f then last_chunk else [])) (come_to s b ms)
 
@@ -126,7 +126,7 @@ module _ (ch : Charter) (k : ℕ) where
     pub closed : Reads ch k [] s → SourceEnded s.old.source s.new.source → HasEnded ch k E.Closed false s
     pub cut : (tail : List ℕ) → Reads ch k tail s → IsUnfinished tail → SourceEnded s.old.source s.new.source
         → HasEnded ch k E.CutShort false s
-    pub unread : (tail : List ℕ) → Reads ch k tail s → HasNoRequest tail → Rose s.old.source.faults s.new.source.faults
+    pub unread : (tail : List ℕ) → Reads ch k tail s → AwaitsMore tail → Rose s.old.source.faults s.new.source.faults
         → HasEnded ch k E.ReadFault false s
     -- behind the whole of a last answer, and of a refusal
     pub behind : (flow : Flow) (e : Ending) (r : Request) (behind : List ℕ) → Sends ch k flow r behind [] s

@@ -53,10 +53,10 @@ module _ (ch : Charter) (k : ℕ) where
   InputSays spec (Over end) behind a b = Pumps ch k spec behind (Some end) a b
 
   -- the stream, told in part; or ended so, where it is still so or, beside an input, was at some history
-  abbrev pub Tells : LogSpec → Input → Option Followed → List Step → List Step → List ℕ → Type 0
-  Tells spec input None a b body = IsBody ch (LogStream spec) false a b body
-  Tells spec input (Some f) a b body =
-      IsBody ch (LogStream spec) (is_whole f) a b body × AtLast (end_of input) a b (EndsSo ch (LogStream spec) f body a)
+  abbrev pub Tells : LogSpec → Input → Option Followed → List Step → List Step → List ℕ → List ℕ → Type 0
+  Tells spec input None a b body ms = IsBody ch (LogStream spec) false a b body
+  Tells spec input (Some f) a b body ms =
+      IsBody ch (LogStream spec) (is_whole f) a b body × AtLast (end_of input) a b (EndsSo ch (LogStream spec) f body ms a)
 
   -- the call of a request took the connection over; its input is so, its stream told or ended so, and these bytes of it are still to be
   -- written
@@ -78,7 +78,7 @@ module _ (ch : Charter) (k : ℕ) where
     pub over : t ≡ Takeover.None → ⊥
     pub made : IsMadeAt ch k m c mid at (LogStream spec)
     pub input_is : InputSays spec input behind at now
-    pub told : Tells spec input followed at now body
+    pub told : Tells spec input followed at now body late
     pub quiet : IsQuiet k now s.to
     pub whole : takeover_head t ++ body ≡ sent ++ rest
     pub wrote : s.written ≡ bytes ++ sent
@@ -111,7 +111,7 @@ module _ (ch : Charter) (k : ℕ) where
         → Takes r t spec behind input None (body ++ part) (rest ++ part) (come_to s b ms)
     pub ends : (input : Input) (f : Followed) (part ms : List ℕ) (b : List Step) (x : Takes r t spec behind input None body rest s)
         → IsQuiet k s.to b → IsBody ch (LogStream spec) (is_whole f) x.at b (body ++ part)
-        → EndsSo ch (LogStream spec) f (body ++ part) x.at b
+        → EndsSo ch (LogStream spec) f (body ++ part) (x.late ++ ms) x.at b
         → Takes r t spec behind input (Some f) (body ++ part) (rest ++ part) (come_to s b ms)
     pub writes : (input : Input) (part more : List ℕ) → rest ≡ part ++ more → Takes r t spec behind input followed body rest s
         → Takes r t spec behind input followed body more (wrote_more s part)

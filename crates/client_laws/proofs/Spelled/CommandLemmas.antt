@@ -14,7 +14,7 @@ use Rattle.client_model.specs.declared.command.Command.{Command}
 use Rattle.client_model.specs.declared.command.Command.TheVariants as command
 use Rattle.client_model.specs.Words.{no_word, one_word, two_words, value_of, has_flag}
 use Rattle.client_model.specs.Bodies.{status_code_in, container_lines_in, volume_names_in}
-use Rattle.client_model.specs.Plans.{done, prints_all}
+use Rattle.client_model.specs.Plans.{done, kept, prints_all}
 use Rattle.client_model.specs.Streams.{events_in}
 use Rattle.client_model.specs.declared.showing.Showing.TheVariants.{Copied, Demuxed}
 use Rattle.client_model.specs.Client.{plan_of}
@@ -46,7 +46,7 @@ use Rattle.client_laws.proofs.Spelled.SizeLemmas.{words_size}
 use Rattle.client_laws.proofs.Spelled.WordLemmas.{IfSome-map, IfSome-and_then, IfSome-each, given_size, value_size, behind_within, length_value}
 use Rattle.client_laws.proofs.Spelled.BodyLemmas.{IsShortPolicy, policy_short}
 use Rattle.client_laws.proofs.Spelled.RequestLemmas.{start_spelled, pause_spelled, unpause_spelled, stop_spelled, restart_spelled, kill_spelled, remove_spelled, rename_spelled, update_spelled, list_spelled, inspect_spelled, version_spelled, logs_spelled, attach_spelled, wait_spelled, events_spelled, volume_create_spelled, volume_inspect_spelled, volume_remove_spelled, volume_list_spelled, journal_spelled}
-use Rattle.client_laws.proofs.Spelled.PlanLemmas.{AsksSpelled, all_printed, reading, answered, asking_any, asking_prints, asking_shows, streaming}
+use Rattle.client_laws.proofs.Spelled.PlanLemmas.{AsksSpelled, all_printed, reading, asking_for, asking_any, asking_prints, asking_shows, streaming}
 
 -- the command asks only what is spelled
 abbrev pub Fit : Command → Type 0
@@ -174,10 +174,9 @@ watched_fit (Some (suc n)) body whole = tt
 
 pub watches : IsFit read_watch
 watches words short =
-    one_within Fit command.Watch words (λ word is. (
-      events_spelled (codes "0") word (omega arith),
-      answered (λ h body whole. watched (first_in h.form) body whole) (λ h body whole. watched_fit (first_in h.form) body whole),
-    ))
+    one_within Fit command.Watch words (λ word is.
+    asking_for (kept (events_request (codes "0") word)) (λ h body whole. watched (first_in h.form) body whole)
+    (events_spelled (codes "0") word (omega arith)) (λ h body whole. watched_fit (first_in h.form) body whole))
 
 pub volume_creates : IsFit read_volume_create
 volume_creates words short =

@@ -9,7 +9,7 @@ use Rattle.response_reader.specs.Answers.{Answer, NoHead, Answered}
 use Rattle.client_model.specs.Judgement.{Judgement}
 use Rattle.client_model.specs.declared.fault.Fault.TheVariants as F
 use Rattle.client_model.specs.Bodies.{message_in}
-use Rattle.client_model.specs.Plans.{Plan, Ends, Asks, Judges, Written, to_out, writes, prints, prints_all, fails, done, goes_on, reads, refuses, by_answer, asks, asks_and_prints, asks_and_shows}
+use Rattle.client_model.specs.Plans.{Plan, Ends, Asks, Judges, Done, Fails, Written, Asked, to_out, writes, prints, prints_all, fails, done, goes_on, reads, refuses, kept, by_answer, line_to, status_in, named, asks_for, asks, asks_and_prints, asks_and_shows}
 use Rattle.client_model.specs.Streams.{shows, may_end, streams}
 use Rattle.client_model.specs.declared.showing.Showing.{Showing}
 use Rattle.client_model.specs.Client.{said_by}
@@ -48,7 +48,7 @@ pub reading : {A : Type 0} (read : List ℕ → Option A) (next : A → Plan) (b
 reading read next body true is = going next (read body) is
 reading read next body false is = tt
 
-pub answered : (next : Head → List ℕ → Bool → Plan)
+answered : (next : Head → List ℕ → Bool → Plan)
     → ((h : Head) (body : List ℕ) (whole : Bool) → AsksSpelled (next h body whole))
     → (answer : Answer) → AsksSpelled (by_answer next answer)
 answered next each NoHead = tt
@@ -60,12 +60,25 @@ answered next each (Answered h body whole) = by (nat_lt h.status 400)
         reading message_in (λ message. fails (F.Refused message)) body whole
         (IfSome-each (λ message. AsksSpelled (fails (F.Refused message))) (message_in body) (λ message. tt))
 
+-- also where a fault names its request
+telling : (line : List ℕ) (status : Option ℕ) (plan : Plan) → AsksSpelled plan → AsksSpelled (named line status plan)
+telling line status (Ends w (Done code)) is = is
+telling line status (Ends w (Fails fault)) is = is
+telling line status (Asks w asked next) is = is
+telling line status (Judges charter next) is = is
+
+-- it asks, and goes on so by each answer that doesn't refuse
+pub asking_for : (asked : Asked) (next : Head → List ℕ → Bool → Plan) → IsSpelled asked
+    → ((h : Head) (body : List ℕ) (whole : Bool) → AsksSpelled (next h body whole)) → AsksSpelled (asks_for asked next)
+asking_for asked next is each =
+    (is, λ answer. telling (line_to asked.request) (status_in answer) (by_answer next answer) (answered next each answer))
+
 -- it asks, and what is read of an answer goes on so
 pub asking : {A : Type 0} (request : Request) (read : List ℕ → Option A) (next : A → Plan) → SpellsItself request
     → ((body : List ℕ) → IfSome (read body) (λ x. AsksSpelled (next x)))
     → AsksSpelled (asks request read next)
 asking request read next is each =
-    (is, answered (λ h body whole. reads read next body whole) (λ h body whole. reading read next body whole (each body)))
+    asking_for (kept request) (λ h body whole. reads read next body whole) is (λ h body whole. reading read next body whole (each body))
 
 -- it goes on so whatever is read
 pub asking_any : {A : Type 0} (request : Request) (read : List ℕ → Option A) (next : A → Plan) → SpellsItself request
@@ -81,11 +94,10 @@ asking_shows request is = asking_any request Some (λ body. prints body done) is
 
 pub streaming : (showing : Showing) (request : Request) (input : Bool) (next : Plan)
     → SpellsItself request → AsksSpelled next → AsksSpelled (streams showing request input next)
-streaming showing request input next is behind = (
-  is,
-  answered (λ h body whole. writes (shows showing body) (cond (whole && may_end showing body) next (fails F.Answer)))
-      (λ h body whole. written (shows showing body) (cond (whole && may_end showing body) next (fails F.Answer)) (by (whole && may_end showing body))),
-)
+streaming showing request input next is behind =
+    asking_for (record { request = request; input = input; showing = showing })
+    (λ h body whole. writes (shows showing body) (cond (whole && may_end showing body) next (fails F.Answer))) is
+    (λ h body whole. written (shows showing body) (cond (whole && may_end showing body) next (fails F.Answer)) (by (whole && may_end showing body)))
   where
     by : (t : Bool) → AsksSpelled (cond t next (fails F.Answer))
     by true = behind

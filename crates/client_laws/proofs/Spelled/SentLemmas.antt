@@ -75,6 +75,7 @@ was_front F.NoMemory x bytes all = all_front x bytes all
 was_front F.Words x bytes all = all_front x bytes all
 was_front F.Answer x bytes all = all_front x bytes all
 was_front F.NoCode x bytes all = all_front x bytes all
+was_front (F.AnswerTo request status) x bytes all = all_front x bytes all
 was_front F.NoCheck x bytes all = all_front x bytes all
 was_front F.EventsGone x bytes all = all_front x bytes all
 was_front F.TooLong x bytes all = all_front x bytes all

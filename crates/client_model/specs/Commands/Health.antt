@@ -1,6 +1,6 @@
 -- `health UNTIL REF` (Docker Engine API v1.43, ContainerInspect, definitions HealthConfig and Health, and SystemEvents; own: the client
 -- computes the health, of the check and the events of a container).
-use Rattle.std.specs.Prelude.{ℕ, zero, suc, ◌/◌, ◌*◌, ◌==◌, ◌&&◌, nat_le, List, [], ◌∷◌, ◌++◌, length, map, codes, decimal, Bool, true, false, Option, Some, None, option_map, option_and_then, unwrap_or, if◌then◌else◌}
+use Rattle.std.specs.Prelude.{ℕ, zero, suc, ◌/◌, ◌*◌, ◌==◌, ◌&&◌, nat_le, List, [], ◌∷◌, ◌++◌, length, map, codes, decimal, Bool, true, Option, Some, None, option_map, option_and_then, unwrap_or, if◌then◌else◌}
 use Rattle.std.specs.Char.{is_digit}
 use Rattle.std.specs.List.{list_all, fold}
 use Rattle.std.specs.Option.{option_map_or}
@@ -25,7 +25,7 @@ use Rattle.health_watch.specs.declared.health.Health.{Health}
 use Rattle.health_watch.specs.declared.health.Health.TheVariants as health
 use Rattle.client_model.specs.Words.{value_of}
 use Rattle.client_model.specs.Requests.{get, key}
-use Rattle.client_model.specs.Plans.{Plan, Asks, nothing, asks, kept, by_answer, reads, prints_all, done, fails}
+use Rattle.client_model.specs.Plans.{Plan, asks, asks_for, kept, reads, prints_all, done, fails}
 use Rattle.client_model.specs.Streams.{events_in}
 use Rattle.client_model.specs.Commands.Inspect.{inspect_request}
 use Rattle.client_model.specs.declared.checked.Checked.{Checked}
@@ -194,7 +194,7 @@ told_health until c (Some (suc n)) body whole = fails F.EventsGone
 -- it asks for the events of the container
 abbrev pub asks_events : List ℕ → Checked → Plan
 asks_events until c =
-    Asks nothing (kept (container_events_request until c.id)) (by_answer (λ h body whole. told_health until c (first_in h.form) body whole))
+    asks_for (kept (container_events_request until c.id)) (λ h body whole. told_health until c (first_in h.form) body whole)
 
 -- it asks for the check, and where there is one for the events; it prints the changes of health, and the health at UNTIL
 abbrev pub health_plan : List ℕ → List ℕ → Plan

@@ -4,7 +4,7 @@ use Rattle.engine_text.specs.declared.event.FoldRow.{FoldRow}
 use Rattle.event_ring.specs.Fold.{fold_of}
 use Rattle.response_reader.specs.Heads.{first_in}
 use Rattle.client_model.specs.Words.{one_word}
-use Rattle.client_model.specs.Plans.{Plan, Asks, nothing, fails, kept, by_answer, reads, prints_all, done}
+use Rattle.client_model.specs.Plans.{Plan, fails, kept, asks_for, reads, prints_all, done}
 use Rattle.client_model.specs.Streams.{events_in}
 use Rattle.client_model.specs.Commands.Events.{events_request}
 use Rattle.client_model.specs.declared.fault.Fault.TheVariants as F
@@ -33,5 +33,4 @@ watched (Some zero) body whole = reads events_in (λ es. prints_all (map row_lin
 watched (Some (suc n)) body whole = fails F.EventsGone
 
 abbrev pub watch_plan : List ℕ → Plan
-watch_plan until =
-    Asks nothing (kept (events_request (codes "0") until)) (by_answer (λ h body whole. watched (first_in h.form) body whole))
+watch_plan until = asks_for (kept (events_request (codes "0") until)) (λ h body whole. watched (first_in h.form) body whole)

@@ -1,5 +1,5 @@
 use Rattle.session_model.proofs.HistoryLemmas.{extends_same}
 use Rattle.attach_hub.proofs.following.follow_journal.Goals as goal
 
-pub returns : goal.returns
-returns g c = c.follow.ensures.since _ (extends_same (g.T.Turns.pass c.args.turns.now).seen) c.requires.counted
+pub returns-clause-follows : goal.returns-clause-follows
+returns-clause-follows g c = c.follow.ensures.follows.since _ (extends_same c.args.conn.now.pass.seen) c.requires.counted

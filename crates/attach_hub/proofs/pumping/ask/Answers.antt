@@ -20,7 +20,7 @@ returns-in-Replied g c =
 
 pub returns-in-Stop : goal.returns-in-Stop
 returns-in-Stop g c =
-    heard_stopped c.args.conn c.now-handed.result c.args.call.now _ _ _ _ _ _ _ c.loop.invariant.asking c.now-handed.ensures c.in-NotYet.ensures
+    heard_stopped c.args.conn c.now-handed.result c.args.call.now _ _ _ _ _ _ _ c.requires.sound c.loop.invariant.asking c.now-handed.ensures c.in-NotYet.ensures
     c.in-Stop.ensures.0 c.in-Stop.ensures.1
 
 pub returns-in-JournalFull : goal.returns-in-JournalFull

@@ -12,7 +12,7 @@ returns-in-End-clause-says g c =
 pub returns-in-Failed-clause-says : goal.returns-in-Failed-clause-says
 returns-in-Failed-clause-says g c =
     let e = c.in-Failed.ensures in
-    read_failed c.args.conn c.args.spec.now c.args.run _ _ _ _ _ c.requires.feed e.2 e.3
+    read_failed c.args.conn c.args.spec.now c.args.run _ _ _ _ _ c.requires.feed e.1 e.2 e.3
 
 pub returns-in-Ok-false-clause-says : goal.returns-in-Ok-false-clause-says
 returns-in-Ok-false-clause-says g c =

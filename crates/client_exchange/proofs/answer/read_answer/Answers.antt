@@ -6,12 +6,12 @@ pub returns-then-status-lt400 : goal.returns-then-status-lt400
 returns-then-status-lt400 g c =
     let says = c.in-Head.ensures.says.1 in
     c.go_on.ensures _ says.0 c.requires.new (head_stands _ _ _ _ says.0 c.requires.unread says.4 says.3)
-    (below c.in-Head.status says.0.status says.1 c.if-status-lt400.true) says.2
+    (below c.in-Head.status says.0.status says.1 c.if-status-lt400.true) says.1 says.2
 
 pub returns-else-status-lt400 : goal.returns-else-status-lt400
 returns-else-status-lt400 g c =
     let says = c.in-Head.ensures.says.1 in
-    refusal_says c.refusal.result c.args.taker.now.showing c.args.taker.now _ _ _ _
+    refusal_says c.refusal.result c.in-Head.status says.0.status c.args.taker.now.showing c.args.taker.now _ _ _ _ says.1
     (c.refusal.ensures _ says.0 c.requires.new (head_stands _ _ _ _ says.0 c.requires.unread says.4 says.3)
     (above c.in-Head.status says.0.status says.1 c.if-status-lt400.false))
 

@@ -1,4 +1,4 @@
-use Rattle.std.proofs.Common.{inl, inr, refl}
+use Rattle.std.proofs.Common.{inl, inr, refl, None}
 use Rattle.client_model.specs.declared.fault.Fault.TheVariants as F
 use Rattle.client_exchange.proofs.connection.converse.Goals as goal
 
@@ -8,4 +8,4 @@ returns-in-Ok g c = inl (c.in-Ok.ensures, c.read_answer.ensures)
 pub returns-in-Err : goal.returns-in-Err
 returns-in-Err g c =
     let w = c.in-Err.ensures in
-    inr (record { fault = F.Connection; is = refl; unread = refl; unshown = refl; part = w.0; front = w.1; took = w.2; cause = w.3 })
+    inr (record { failure = record { fault = F.Connection; status = None }; is = refl; unread = refl; unshown = refl; part = w.0; front = w.1; took = w.2; cause = w.3 })

@@ -1,4 +1,4 @@
-use Rattle.std.proofs.Common.{inl, inr, refl}
+use Rattle.std.proofs.Common.{inl, inr, refl, None}
 use Rattle.client_exchange.proofs.feeding.talk.Goals as goal
 
 pub returns-in-Ok : goal.returns-in-Ok
@@ -11,5 +11,5 @@ returns-in-Err g c =
     let sent = c.in-Err.ensures in (
       sent.input,
       sent.gave,
-      inr (record { fault = c.in-Err.fault; is = refl; unread = refl; unshown = refl; part = sent.part; front = sent.front; took = sent.took; cause = sent.cause }),
+      inr (record { failure = record { fault = c.in-Err.fault; status = None }; is = refl; unread = refl; unshown = refl; part = sent.part; front = sent.front; took = sent.took; cause = sent.cause }),
     )

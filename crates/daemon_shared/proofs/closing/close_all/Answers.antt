@@ -1,4 +1,4 @@
-use Rattle.std.proofs.Common.{refl, ◌≡◌, ◌∙◌, subst, arith, [], length}
+use Rattle.std.proofs.Common.{refl, ◌∙◌, subst, arith}
 use Rattle.daemon_shared.specs.Sessions.{told_by}
 use Rattle.daemon_shared.specs.Threads.{LeavesSome}
 use Rattle.daemon_shared.proofs.RootLemmas.{none_left}

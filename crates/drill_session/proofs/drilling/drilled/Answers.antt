@@ -9,7 +9,7 @@ use Rattle.drill_session.proofs.drilling.drilled.Goals as goal
 
 pub outcome-drilled-requires-clause-charter : goal.outcome-drilled-requires-clause-charter
 outcome-drilled-requires-clause-charter g c =
-    ap (λ (p : PassView). p.charter) c.daemon.ensures ∙ c.serve-ending.ensures.same.charter
+    ap (λ (p : PassView). p.charter) c.daemon.ensures ∙ c.serve-ending.ensures.goes.same.charter
     ∙ ap (λ (p : PassView). p.charter) (c.new-turns.ensures ∙ c.in_ok-daemon.ensures)
 
 pub returns : goal.returns

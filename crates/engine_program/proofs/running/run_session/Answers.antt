@@ -30,7 +30,7 @@ returns-in_default g c =
 pub returns : goal.returns
 returns g c =
     let ch = charter_by c.args.line c.opening_by-opening.result in
-    let began = c.new-turns.ensures ∙ subst (λ r. IfOk r (λ d. whole_pass d ≡ pass_of ch [])) c.in-Ok.is c.daemon_of.ensures in
+    let began = c.new-turns.ensures ∙ subst (λ r. IfOk r (λ made. whole_pass made.0 ≡ pass_of ch [])) c.in-Ok.is c.daemon_of.ensures in
     record {
       opening = c.opening_by-opening.result;
       opened = g.C.Clock.times c.opening_by-opening.new.clock;

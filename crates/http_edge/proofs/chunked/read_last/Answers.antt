@@ -8,7 +8,7 @@ pub returns-in-Refused : goal.returns-in-Refused
 returns-in-Refused g c = λ body. last_refused c.args.count _ c.read_part.new.ahead body _ _ c.in-Refused.ensures
 
 pub returns-in-CutShort : goal.returns-in-CutShort
-returns-in-CutShort g c = λ body. last_cut c.args.count _ c.read_part.new.ahead body _ _ c.in-CutShort.ensures
+returns-in-CutShort g c = λ body. last_cut c.args.count _ c.read_part.new.ahead body _ _ (c.in-CutShort.ensures.0, c.in-CutShort.ensures.1)
 
 pub returns-in-Failed : goal.returns-in-Failed
 returns-in-Failed g c = λ body. last_failed c.args.count _ c.read_part.new.ahead body _ _ c.in-Failed.ensures

@@ -22,7 +22,7 @@ returns-in-Refused-clause-says g c =
 pub returns-in-CutShort-read_part-clause-says : goal.returns-in-CutShort-read_part-clause-says
 returns-in-CutShort-read_part-clause-says g c =
     end_cut c.args.size c.args.count _ c.args.body.now.items c.grow.new.body.items _ _ c.requires.fits c.grow.new.ahead c.requires.some c.in-Whole.ensures.says
-    c.read_part.new.ahead _ c.in-CutShort-read_part.ensures
+    c.read_part.new.ahead _ (c.in-CutShort-read_part.ensures.0, c.in-CutShort-read_part.ensures.1)
 
 pub returns-in-Failed-read_part-clause-says : goal.returns-in-Failed-read_part-clause-says
 returns-in-Failed-read_part-clause-says g c =

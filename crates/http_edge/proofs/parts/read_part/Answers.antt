@@ -26,6 +26,7 @@ returns-in-End g c =
     let reads = c.in-End.ensures.reads in (
       part_cut c.args.part _ _ _ _ c.more.invariant _ _ short (rw (c.window.ensures, c.as_slice.ensures) at c.in-Piece.ensures) reads.0 reads.1,
       ended_on _ _ _ _ _ c.more.invariant reads.2,
+      fills_on _ _ _ _ _ _ c.more.invariant reads.1,
     )
 
 pub returns-in-Failed : goal.returns-in-Failed

@@ -15,7 +15,7 @@ returns-in-Refused g c =
 pub returns-in-CutShort : goal.returns-in-CutShort
 returns-in-CutShort g c =
     let none : c.args.size ≡ 0 = omega arith in
-    last_cut c.args.size c.args.count _ c.read_part.new.ahead _ _ none c.in-CutShort.ensures
+    last_cut c.args.size c.args.count _ c.read_part.new.ahead _ _ none (c.in-CutShort.ensures.0, c.in-CutShort.ensures.1)
 
 pub returns-in-Failed : goal.returns-in-Failed
 returns-in-Failed g c =

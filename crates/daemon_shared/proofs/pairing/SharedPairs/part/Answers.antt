@@ -1,4 +1,4 @@
-use Rattle.std.proofs.Common.{◌≡◌, sym, ◌∙◌, ap, subst}
+use Rattle.std.proofs.Common.{sym, ◌∙◌, ap, subst}
 use Rattle.turnstile.specs.Plays.{Learned}
 use Rattle.turnstile.specs.Views.{admittee, admits}
 use Rattle.daemon_shared.specs.Sharing.{author_of, IsKept}

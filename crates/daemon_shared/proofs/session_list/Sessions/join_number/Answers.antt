@@ -1,5 +1,5 @@
 use Rattle.std.proofs.Common.{sym, arith}
-use Rattle.daemon_shared.proofs.RunLemmas.{joins_none, joins_one, keep_at}
+use Rattle.daemon_shared.proofs.RunLemmas.{joins_one, keep_at}
 use Rattle.daemon_shared.proofs.session_list.Sessions.join_number.Goals as goal
 
 pub join_one-requires-clause-keeps : goal.join_one-requires-clause-keeps

@@ -1,5 +1,0 @@
-use Rattle.std.proofs.Common.{refl}
-use Rattle.attach_hub.proofs.tickets.give_up.Goals as goal
-
-pub turn-requires-clause-may : goal.turn-requires-clause-may
-turn-requires-clause-may g c = (refl, c.requires.begun)
