@@ -1,5 +1,5 @@
 -- Bytes spell one body by chunks at most, and none where they are refused or cut.
-use Rattle.std.proofs.Common.{arith, ◌≡◌, ◌<◌, ◌≤◌, ℕ, List, [], ◌∷◌, ◌++◌, length, ◌+◌, sym, ap, subst, refl, ◌∙◌, append_assoc, length-append}
+use Rattle.std.proofs.Common.{arith, ◌≡◌, ◌≤◌, ℕ, List, [], ◌∷◌, ◌++◌, length, ◌+◌, sym, ap, subst, refl, ◌∙◌, append_assoc, length-append}
 use Rattle.std.specs.Prelude.{codes, All}
 use Rattle.std.proofs.lemmas.List.Elements.{All-head, All-tail}
 use Rattle.http_edge.specs.Parts.{IsPart}

@@ -1,5 +1,5 @@
 -- What is refused or unfinished begins with no request.
-use Rattle.std.proofs.Common.{arith, ◌≡◌, ◌<◌, ◌≤◌, append_assoc, ℕ, List, [], length, ◌+◌, ◌-◌, ◌++◌, take, sym, ap, subst, ◌∙◌, length-append}
+use Rattle.std.proofs.Common.{arith, ◌≡◌, append_assoc, ℕ, List, [], length, ◌+◌, ◌-◌, ◌++◌, take, sym, ap, subst, ◌∙◌, length-append}
 use Rattle.std.proofs.lemmas.List.{append-nil, take-append-le}
 use Rattle.std.proofs.Math.Seq.{take-append-add}
 use Rattle.httparse.proofs.GrammarLemmas.{request_unique, ReadsRequest-append}

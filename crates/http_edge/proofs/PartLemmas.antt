@@ -1,5 +1,5 @@
 -- Bytes begin with one part of a kind at most, and with none where it is refused or cut.
-use Rattle.std.proofs.Common.{arith, ◌≡◌, ◌<◌, ◌≤◌, ◌⊎◌, inl, inr, ℕ, List, [], ◌∷◌, ◌++◌, length, ◌+◌, ◌-◌, take, drop, sym, ap, subst, refl, ◌∙◌, append_assoc, append-nil, length-append}
+use Rattle.std.proofs.Common.{arith, ◌≡◌, ◌<◌, ◌≤◌, ◌⊎◌, inl, inr, ℕ, List, [], ◌++◌, length, ◌+◌, ◌-◌, take, drop, sym, ap, subst, refl, ◌∙◌, append_assoc, append-nil, length-append}
 use Rattle.std.proofs.lemmas.Bool.{cases_lt}
 use Rattle.std.proofs.lemmas.List.{take-append-le, take_at, drop_at, take_all}
 use Rattle.std.proofs.Math.Seq.{take-append-add}

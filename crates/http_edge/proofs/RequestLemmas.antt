@@ -138,7 +138,7 @@ module _ (got : List ℕ) (spans : List HeaderSpan) (r : RequestSpans) (h : Requ
         ap (λ l. l ++ more) at.reads.1 ∙ append_assoc (print_request h) (drop r.len got) more ∙ ap (λ l. print_request h ++ l) e
         ∙ sym (append_assoc (print_request h) coded ahead)
 
-    shows : (b ahead more : List ℕ) (count : ℕ) → BodyBy f b count ahead (drop r.len got ++ more)
+    pub shows : (b ahead more : List ℕ) (count : ℕ) → BodyBy f b count ahead (drop r.len got ++ more)
         → ShowsRequest (take r.len got) spans r b count ahead (got ++ more)
     shows b ahead more count x =
         let bytes = whole_bytes more x.0 ahead x.3 in (

@@ -17,6 +17,7 @@ pub mod Reader
 pub mod Lending
 pub mod Asks
 pub mod Room
+pub mod Stored
 pub mod Rooms
 pub mod Response
 pub mod Chunks

@@ -19,7 +19,7 @@ use Rattle.http_edge.specs.declared.reader.Next.TheVariants as next
 abbrev pub request_of : RequestView → Request
 request_of view =
     let buffers = view.buffers.now in
-    request_at (take view.found.len buffers.head.items) buffers.spans.items view.found buffers.body.items
+    request_at (take view.found.len buffers.head) buffers.spans view.found buffers.body
 
 -- how many bytes spell it
 abbrev pub count_of : RequestView → ℕ

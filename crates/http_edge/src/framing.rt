@@ -23,7 +23,7 @@ pub enum Framing {
 }
 
 /// The framing of a head, whose fields stand in these bytes.
-pub fn frame_head(bytes: &[u8], minor: u8, fields: &[HeaderSpan]) -> Framing
+pub(crate) fn frame_head(bytes: &[u8], minor: u8, fields: &[HeaderSpan]) -> Framing
     requires { All (IsHeaderWithin (length bytes.now)) fields.now }
     ensures framing { result ≡ framing_of minor (map (header_bytes bytes.now) fields.now) }
     ensures fits { IsWithinLimit result }

@@ -77,7 +77,7 @@ pub enum HeadRead {
 }
 
 /// Reads until the bytes ahead begin with a head. They stay there.
-pub fn read_head<S: Source>(
+pub(crate) fn read_head<S: Source>(
     source: &mut S,
     ahead: &mut Ahead,
     spans: &mut Vec<HeaderSpan>,

@@ -19,14 +19,15 @@ mod parts;
 mod reader;
 mod request;
 mod shown_fields;
+mod stored;
 mod view;
 
 pub use ahead::Ahead;
 pub use answer::{write_answer, write_refusal};
 pub use asks::Want;
 pub use chunk::{write_chunk, write_last};
-pub use framing::{Framing, frame_head};
-pub use front::{HeadRead, read_head};
+pub use framing::Framing;
+pub use front::HeadRead;
 pub use head::{Form, Head, head_line, write_head};
 pub use laws::{
     law_begins_with_none, law_of_requests, law_one_reading, law_refused_is_decided,
@@ -36,6 +37,6 @@ pub use limits::{BODY_LIMIT, FIELD_LIMIT, HEAD_LIMIT};
 pub use line::Line;
 pub use parts::{Part, PartRead, read_part};
 pub use reader::{Next, RequestReader, Stopped};
-pub use request::keep_head;
 pub use shown_fields::Fields;
-pub use view::{Buffers, RequestView};
+pub use stored::Buffers;
+pub use view::RequestView;

@@ -4,7 +4,8 @@ ghost use Rattle.std.specs.Borrow.{sem};
 
 use crate::ahead::Ahead;
 use crate::request::{Outcome, read_request};
-use crate::view::{Buffers, RequestView};
+use crate::stored::Buffers;
+use crate::view::RequestView;
 use engine_ports::{Got, NoMemory, Source};
 use std::alloc::Global;
 use std::marker::Model;
@@ -43,13 +44,10 @@ pub struct RequestReader {
 
 impl Model for RequestReader {
     ghost use Rattle.http_edge.specs.Held.{Reading};
-    ghost use Rattle.http_edge.specs.Rooms.{HaveRoom};
 
     ghost Value = { Reading };
 
     ghost view = { λ r. record { ahead = r.ahead; taken = r.taken; stopped = r.stopped } };
-
-    ghost invariant = { λ r. HaveRoom r.buffers };
 }
 
 impl RequestReader {

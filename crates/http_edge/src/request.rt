@@ -1,16 +1,13 @@
 // One request, from the bytes that were read ahead and those that the source gives.
-ghost use Rattle.std.specs.Prelude.{◌≡◌, ◌≤◌, length};
-ghost use Rattle.std.specs.Vec.{vec_capacity};
+ghost use Rattle.std.specs.Prelude.{◌≤◌, length};
 ghost use Rattle.httparse.specs.Spans.{IsRequestWithin, IsRequestOf};
 ghost use Rattle.http_edge.specs.Limits.{head_limit};
-ghost use Rattle.http_edge.specs.Rooms.{HaveRoom};
 ghost use Rattle.http_edge.specs.Outcome.{Facts};
 
 use crate::ahead::Ahead;
-use crate::body::{BodyRead, read_body};
-use crate::framing::frame_head;
-use crate::front::{HeadRead, read_head};
-use crate::view::Buffers;
+use crate::body::BodyRead;
+use crate::front::HeadRead;
+use crate::stored::Buffers;
 use engine_ports::Source;
 use httparse::spans::RequestSpans;
 
@@ -31,12 +28,10 @@ pub(crate) fn read_request<S: Source>(
     ahead: &mut Ahead,
     buffers: &mut Buffers,
 ) -> Outcome
-    requires room { HaveRoom buffers.old }
-    ensures room { HaveRoom buffers.new }
-    ensures facts { Facts result ahead.old ahead.new buffers.new.head.items buffers.new.spans.items
-        buffers.new.body.items (S.gives source.old) (S.gives source.new) }
+    ensures { Facts result ahead.old ahead.new buffers.new.head buffers.new.spans
+        buffers.new.body (S.gives source.old) (S.gives source.new) }
 {
-    match read_head(source, ahead, &mut buffers.spans) {
+    match buffers.read_head(source, ahead) {
         HeadRead::Head(found) => read_framed(source, ahead, buffers, found),
         HeadRead::Malformed => Outcome::Bad(400),
         HeadRead::TooLong => Outcome::Bad(431),
@@ -54,34 +49,16 @@ fn read_framed<S: Source>(
     found: RequestSpans,
 ) -> Outcome
     requires small { length ahead.old ≤ head_limit }
-    requires within { IsRequestWithin ahead.old buffers.old.spans.items found }
-    requires of { IsRequestOf ahead.old buffers.old.spans.items found }
-    requires room { HaveRoom buffers.old }
-    ensures room { HaveRoom buffers.new }
-    ensures facts { Facts result ahead.old ahead.new buffers.new.head.items buffers.new.spans.items
-        buffers.new.body.items (S.gives source.old) (S.gives source.new) }
+    requires within { IsRequestWithin ahead.old buffers.old.spans found }
+    requires of { IsRequestOf ahead.old buffers.old.spans found }
+    ensures { Facts result ahead.old ahead.new buffers.new.head buffers.new.spans
+        buffers.new.body (S.gives source.old) (S.gives source.new) }
 {
-    let bytes = ahead.as_slice();
-    let framing = frame_head(bytes, found.version, &buffers.spans[..found.headers]);
-    keep_head(&bytes[..found.len], &mut buffers.head);
-    ahead.skip(found.len);
-    match read_body(source, ahead, &mut buffers.body, framing) {
+    let framing = buffers.take_head(ahead, found);
+    match buffers.read_body(source, ahead, framing) {
         BodyRead::Whole(count) => Outcome::Whole(found, count),
         BodyRead::Refused(status) => Outcome::Bad(status),
         BodyRead::CutShort => Outcome::CutShort,
         BodyRead::Failed => Outcome::Failed,
     }
-}
-
-/// Keeps the head in the place of the last one.
-pub fn keep_head(bytes: &[u8], head: &mut Vec<u8>)
-    requires small { length bytes.now ≤ head_limit }
-    requires room { head_limit ≤ vec_capacity head.old }
-    ensures room { head_limit ≤ vec_capacity head.new }
-    ensures kept { head.new.items ≡ bytes.now }
-{
-    head.clear();
-    let Ok(()) = head.extend_from_slice(bytes) else {
-        unreachable!()
-    };
 }

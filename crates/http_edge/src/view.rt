@@ -1,49 +1,12 @@
 // A request, as it stands in the reader's buffers.
-ghost use Rattle.std.specs.Prelude.{◌≡◌, ◌≤◌, ◌+◌, length, take, IsUtf8, IfOk};
+ghost use Rattle.std.specs.Prelude.{◌≡◌, ◌≤◌, ◌+◌, length, take, IsUtf8};
 ghost use Rattle.http_edge.specs.Shown.{IsShown};
 
 use crate::asks::{Want, has_field};
-use crate::limits::{BODY_LIMIT, FIELD_LIMIT, FIELD_PLACES, HEAD_LIMIT};
 use crate::shown_fields::Fields;
-use engine_ports::NoMemory;
-use httparse::spans::{EMPTY_HEADER_SPAN, HeaderSpan, RequestSpans};
-use std::alloc::Global;
+use crate::stored::Buffers;
+use httparse::spans::{HeaderSpan, RequestSpans};
 use std::str;
-
-/// What reading a request fills: its head, where its fields stand, and its body.
-#[derive(Drop)]
-pub struct Buffers {
-    pub head: Vec<u8>,
-    pub spans: Vec<HeaderSpan>,
-    pub body: Vec<u8>,
-}
-
-impl Buffers {
-    ghost use Rattle.http_edge.specs.Rooms.{HaveRoom};
-
-    /// Takes room for the greatest head, the most fields and the greatest body. Only what a request
-    /// needs is written, so most of an idle reader's room stays untouched.
-    pub fn new(alloc: Global) -> Result<Buffers, NoMemory>
-        ensures { IfOk result HaveRoom }
-    {
-        let mut spans = Vec::with_capacity(alloc, FIELD_PLACES)?;
-        spans.resize(FIELD_LIMIT, EMPTY_HEADER_SPAN)?;
-        Ok(Buffers {
-            head: Vec::with_capacity(alloc, HEAD_LIMIT)?,
-            spans,
-            body: Vec::with_capacity(alloc, BODY_LIMIT)?,
-        })
-    }
-
-    /// Drops what the last request wrote, and keeps the room.
-    pub fn clear(&mut self)
-        requires { HaveRoom self.old }
-        ensures { HaveRoom self.new }
-    {
-        self.spans.truncate(FIELD_LIMIT);
-        self.body.clear();
-    }
-}
 
 /// A request, as it stands in the reader's buffers.
 #[derive(Clone, Copy)]
@@ -51,8 +14,8 @@ pub struct RequestView<'r> {
     pub(crate) buffers: &'r Buffers,
     pub(crate) found: RequestSpans,
     pub(crate) coded: usize,
-    ghost len_fits: { found.len ≤ length buffers.now.head.items },
-    ghost shown: { ∥ IsShown (take found.len buffers.now.head.items) buffers.now.spans.items found
+    ghost len_fits: { found.len ≤ length buffers.now.head },
+    ghost shown: { ∥ IsShown (take found.len buffers.now.head) buffers.now.spans found
         ∥₁ },
 }
 
@@ -64,12 +27,11 @@ impl<'r> RequestView<'r> {
 
     /// The request that stands in the buffers: its head at these places, and its body, which so many bytes spell.
     pub fn new(buffers: &'r Buffers, found: RequestSpans, coded: usize) -> RequestView<'r>
-        requires fits { found.len ≤ length buffers.now.head.items }
-        requires shown { IsShown (take found.len buffers.now.head.items)
-            buffers.now.spans.items found }
+        requires fits { found.len ≤ length buffers.now.head }
+        requires shown { ∥ IsShown (take found.len buffers.now.head) buffers.now.spans found ∥₁ }
         ensures request { request_of result
-            ≡ request_at (take found.len buffers.now.head.items) buffers.now.spans.items found
-            buffers.now.body.items }
+            ≡ request_at (take found.len buffers.now.head) buffers.now.spans found
+            buffers.now.body }
         ensures count { count_of result ≡ found.len + coded }
     {
         RequestView {
@@ -104,7 +66,7 @@ impl<'r> RequestView<'r> {
     pub fn body(&self) -> &'r [u8]
         ensures { result.now ≡ (request_of self.now).body }
     {
-        &self.buffers.body
+        self.buffers.body()
     }
 
     /// Whether the method is HEAD.
@@ -157,15 +119,15 @@ impl<'r> RequestView<'r> {
     }
 
     fn head(&self) -> &'r [u8]
-        ensures { result.now ≡ take self.now.found.len self.now.buffers.now.head.items }
+        ensures { result.now ≡ take self.now.found.len self.now.buffers.now.head }
     {
-        &self.buffers.head[..self.found.len]
+        self.buffers.head(self.found.len)
     }
 
     fn spans(&self) -> &'r [HeaderSpan]
-        ensures { result.now ≡ take self.now.found.headers self.now.buffers.now.spans.items }
+        ensures { result.now ≡ take self.now.found.headers self.now.buffers.now.spans }
     {
-        &self.buffers.spans[..self.found.headers]
+        self.buffers.spans(self.found.headers)
     }
 }
 
