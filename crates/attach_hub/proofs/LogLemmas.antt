@@ -1,6 +1,6 @@
 -- A log's stream between two places, as the log grows, and where it ends.
 use Rattle.std.specs.Prelude.{is_some, unwrap_or}
-use Rattle.std.specs.Option.{option_map_or, option_or}
+use Rattle.std.specs.Option.{option_or}
 use Rattle.std.proofs.Common.{◌≡◌, ◌≤◌, ℕ, List, [], ◌++◌, refl, sym, ◌∙◌, ap, subst, arith, Bool, true, false, Option, Some, None, take, drop, length, length-append, take-append-drop, length-take}
 use Rattle.std.specs.Prelude.{IsTrue}
 use Rattle.std.proofs.lemmas.Bool.{false≢true}
@@ -11,7 +11,7 @@ use Rattle.engine_text.specs.declared.reply.LogSpec.{LogSpec}
 use Rattle.engine_text.specs.declared.reply.StopRule.{StopRule}
 use Rattle.engine_text.specs.declared.reply.StopRule.TheVariants as Stop
 use Rattle.machine_model.specs.State.{State}
-use Rattle.machine_model.specs.LogStream.{log_of, is_kept, standing_log, kept_log, log_bytes, some_if, at_rest, length_at_end, standing_end, kept_end, fixed_end, log_end, log_reach}
+use Rattle.machine_model.specs.LogStream.{log_of, is_kept, standing_log, kept_log, log_bytes, some_if, at_rest, length_at_end, standing_end, kept_end, fixed_end, found_in, end_by, log_end, log_reach}
 use Rattle.daemon_core.specs.Framing.{asked_bytes}
 use Rattle.daemon_core.proofs.WrittenLemmas.{asked_append}
 use Rattle.attach_hub.proofs.RunLemmas.{HasRuns, run_longer, run_stands}
@@ -78,19 +78,22 @@ standing_reach (Stop.At n) owner log s fit is = refl
 standing_reach (Stop.RunEnd run) owner log s fit is = run_stands owner run log s fit is
 standing_reach Stop.NotRunning owner log s fit is = some_reach (at_rest owner s) (length log)
 
-kept_reach : (kept : Option (List LogRecord)) (stop : StopRule) → IsTrue (is_some kept)
-    → unwrap_or (option_map_or (λ (log : List LogRecord). Some (kept_end stop log)) kept (fixed_end stop)) (length (unwrap_or kept [])) ≡ reach_by stop (unwrap_or kept [])
-kept_reach None stop is = absurd (false≢true is)
-kept_reach (Some log) (Stop.At n) is = refl
-kept_reach (Some log) (Stop.RunEnd run) is = refl
-kept_reach (Some log) Stop.NotRunning is = refl
+kept_stop : (stop : StopRule) (log : List LogRecord) → kept_end stop log ≡ reach_by stop log
+kept_stop (Stop.At n) log = refl
+kept_stop (Stop.RunEnd run) log = refl
+kept_stop Stop.NotRunning log = refl
+
+kept_reach : (kept : Option (List LogRecord)) (spec : LogSpec) (s : State) → IsTrue (is_some kept)
+    → unwrap_or (end_by (found_in None kept) spec s) (length (unwrap_or kept [])) ≡ reach_by spec.stop (unwrap_or kept [])
+kept_reach None spec s is = absurd (false≢true is)
+kept_reach (Some log) spec s is = kept_stop spec.stop log
 
 found_reach : (standing : Option (List LogRecord)) (spec : LogSpec) (s : State) → standing_log spec.owner s ≡ standing
     → IsTrue (is_some (option_or standing (kept_log spec.owner s))) → Fits spec.stop s
-    → unwrap_or (option_map_or (λ (log : List LogRecord). standing_end spec.stop spec.owner log s) standing (option_map_or (λ (log : List LogRecord). Some (kept_end spec.stop log)) (kept_log spec.owner s) (fixed_end spec.stop))) (length (unwrap_or (option_or standing (kept_log spec.owner s)) []))
+    → unwrap_or (end_by (found_in standing (kept_log spec.owner s)) spec s) (length (unwrap_or (option_or standing (kept_log spec.owner s)) []))
     ≡ reach_by spec.stop (unwrap_or (option_or standing (kept_log spec.owner s)) [])
 found_reach (Some log) spec s stands is fit = standing_reach spec.stop spec.owner log s fit stands
-found_reach None spec s stands is fit = kept_reach (kept_log spec.owner s) spec.stop is
+found_reach None spec s stands is fit = kept_reach (kept_log spec.owner s) spec s is
 
 pub reach_is : (s : State) (spec : LogSpec) → IsTrue (is_kept s spec.owner) → Fits spec.stop s
     → log_reach s spec ≡ reach_by spec.stop (log_of s spec.owner)
@@ -122,15 +125,15 @@ IsPlace (Some n) = Unit {0}
 no_place : (n : ℕ) → None ≡ Some n → ⊥
 no_place n is = subst IsPlace (sym is) tt
 
-lost_by : (standing : Option (List LogRecord)) (spec : LogSpec) (s : State) (kept : Option (List LogRecord)) → kept_log spec.owner s ≡ kept
-    → is_some (option_or standing kept) ≡ false → (option_map_or (λ (log : List LogRecord). standing_end spec.stop spec.owner log s) standing (option_map_or (λ (log : List LogRecord). Some (kept_end spec.stop log)) (kept_log spec.owner s) (fixed_end spec.stop))) ≡ fixed_end spec.stop
-lost_by (Some log) spec s kept is lost = absurd (false≢true (sym lost))
-lost_by None spec s None is lost = ap (λ o. (option_map_or (λ (log : List LogRecord). Some (kept_end spec.stop log)) o (fixed_end spec.stop))) is
-lost_by None spec s (Some log) is lost = absurd (false≢true (sym lost))
+lost_by : (standing kept : Option (List LogRecord)) (spec : LogSpec) (s : State) → is_some (option_or standing kept) ≡ false
+    → end_by (found_in standing kept) spec s ≡ fixed_end spec.stop
+lost_by (Some log) kept spec s lost = absurd (false≢true (sym lost))
+lost_by None None spec s lost = refl
+lost_by None (Some log) spec s lost = absurd (false≢true (sym lost))
 
 -- only a fixed place is known
 lost_end : (s : State) (spec : LogSpec) → is_kept s spec.owner ≡ false → log_end s spec ≡ fixed_end spec.stop
-lost_end s spec lost = lost_by (standing_log spec.owner s) spec s (kept_log spec.owner s) refl lost
+lost_end s spec lost = lost_by (standing_log spec.owner s) (kept_log spec.owner s) spec s lost
 
 standing_fixed : (stop : StopRule) (owner : Owner) (log : List LogRecord) (s : State) (n : ℕ) → fixed_end stop ≡ Some n
     → standing_end stop owner log s ≡ Some n
@@ -138,17 +141,17 @@ standing_fixed (Stop.At m) owner log s n is = is
 standing_fixed (Stop.RunEnd run) owner log s n is = absurd (no_place n is)
 standing_fixed Stop.NotRunning owner log s n is = absurd (no_place n is)
 
-kept_fixed : (kept : Option (List LogRecord)) (stop : StopRule) (n : ℕ) → fixed_end stop ≡ Some n → (option_map_or (λ (log : List LogRecord). Some (kept_end stop log)) kept (fixed_end stop)) ≡ Some n
-kept_fixed None stop n is = is
-kept_fixed (Some log) (Stop.At m) n is = is
-kept_fixed (Some log) (Stop.RunEnd run) n is = absurd (no_place n is)
-kept_fixed (Some log) Stop.NotRunning n is = absurd (no_place n is)
+kept_fixed : (stop : StopRule) (log : List LogRecord) (n : ℕ) → fixed_end stop ≡ Some n → Some (kept_end stop log) ≡ Some n
+kept_fixed (Stop.At m) log n is = is
+kept_fixed (Stop.RunEnd run) log n is = absurd (no_place n is)
+kept_fixed Stop.NotRunning log n is = absurd (no_place n is)
 
-end_fixed : (standing : Option (List LogRecord)) (spec : LogSpec) (s : State) (n : ℕ) → fixed_end spec.stop ≡ Some n
-    → (option_map_or (λ (log : List LogRecord). standing_end spec.stop spec.owner log s) standing (option_map_or (λ (log : List LogRecord). Some (kept_end spec.stop log)) (kept_log spec.owner s) (fixed_end spec.stop))) ≡ Some n
-end_fixed (Some log) spec s n is = standing_fixed spec.stop spec.owner log s n is
-end_fixed None spec s n is = kept_fixed (kept_log spec.owner s) spec.stop n is
+end_fixed : (standing kept : Option (List LogRecord)) (spec : LogSpec) (s : State) (n : ℕ) → fixed_end spec.stop ≡ Some n
+    → end_by (found_in standing kept) spec s ≡ Some n
+end_fixed (Some log) kept spec s n is = standing_fixed spec.stop spec.owner log s n is
+end_fixed None (Some log) spec s n is = kept_fixed spec.stop log n is
+end_fixed None None spec s n is = is
 
 -- what is known of it then was known before
 pub known_before : (s s' : State) (spec : LogSpec) (n : ℕ) → is_kept s' spec.owner ≡ false → log_end s' spec ≡ Some n → log_end s spec ≡ Some n
-known_before s s' spec n lost is = end_fixed (standing_log spec.owner s) spec s n (sym (lost_end s' spec lost) ∙ is)
+known_before s s' spec n lost is = end_fixed (standing_log spec.owner s) (kept_log spec.owner s) spec s n (sym (lost_end s' spec lost) ∙ is)

@@ -1,5 +1,5 @@
 -- Frames that a daemon writes of records are shown by the client as what the records carry.
-use Rattle.std.proofs.Common.{arith, ◌≡◌, ◌+◌, ◌-◌, ◌*◌, ◌/◌, ◌<◌, ◌≤◌, ◌^◌, inr, ℕ, zero, suc, List, [], ◌∷◌, ◌++◌, length, map, take, drop, true, refl, sym, ap, ◌∙◌, append_assoc, take-append-drop, if◌then◌else◌}
+use Rattle.std.proofs.Common.{arith, ◌≡◌, ◌+◌, ◌-◌, ◌*◌, ◌<◌, ◌≤◌, ◌^◌, inr, ℕ, zero, suc, List, [], ◌∷◌, ◌++◌, length, map, take, drop, true, refl, sym, subst, ap, ◌∙◌, append_assoc, take-append-drop, if◌then◌else◌}
 use Rattle.std.specs.Prelude.{nat_le, filter, Ok}
 use Rattle.std.specs.List.{flat_map}
 use Rattle.std.proofs.lemmas.Bool.Decides.{nat_tests}
@@ -12,7 +12,8 @@ use Rattle.stream_frame.specs.Demuxing.{Header, Payload, Held, Item}
 use Rattle.stream_frame.specs.Steps.{counted, behind_header, by_payload, held_after, items_of}
 use Rattle.stream_frame.proofs.AddLemmas.{parts_append, tagged_append}
 use Rattle.stream_frame.proofs.ChunkLemmas.{held_chunk, items_chunk}
-use Rattle.machine_model.specs.Frames.{cut_into, cut, framed}
+use Rattle.machine_model.specs.Frames.{cut, framed, pieces}
+use Rattle.machine_model.proofs.FrameLemmas.{cut_into, cut_is}
 use Rattle.client_model.specs.Plans.{Written}
 use Rattle.client_model.specs.Streams.{parts_of, payloads_of, is_border, ends_frames}
 
@@ -172,13 +173,14 @@ cut_tags (suc k) p fits =
 
 all_parts : (ps : List Part) → AreParts (flat_map cut ps)
 all_parts [] = tt
-all_parts (p ∷ ps) = parts_append (cut p) (flat_map cut ps) (cut_parts ((length p.1 + 32767) / 32768) p) (all_parts ps)
+all_parts (p ∷ ps) =
+    parts_append (cut p) (flat_map cut ps) (subst AreParts (sym (cut_is p.0 p.1)) (cut_parts (pieces (length p.1)) p)) (all_parts ps)
 
 all_tags : (ps : List Part) → tagged (flat_map cut ps) ≡ tagged ps
 all_tags [] = refl
 all_tags (p ∷ ps) =
     tagged_append (cut p) (flat_map cut ps)
-    ∙ (ap (λ l. l ++ tagged (flat_map cut ps)) (cut_tags ((length p.1 + 32767) / 32768) p (omega arith))
+    ∙ (ap (λ l. l ++ tagged (flat_map cut ps)) (ap tagged (cut_is p.0 p.1) ∙ cut_tags (pieces (length p.1)) p (omega arith))
     ∙ ap (λ l. map (tag p.0) p.1 ++ l) (all_tags ps))
 
 -- the frames of these parts, cut, are shown as what they carry, and may end there

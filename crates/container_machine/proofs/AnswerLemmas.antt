@@ -7,7 +7,8 @@ use Rattle.machine_model.specs.Outcome.{Outcome, answers, replies}
 use Rattle.machine_model.specs.State.{State}
 use Rattle.machine_model.specs.Step.{at_moment}
 use Rattle.container_machine.specs.Making.{IsAnswer, IsStream, Makes}
-use Rattle.container_machine.specs.Plans.{plan_effect, Brings}
+use Rattle.container_machine.specs.Needs.{Brings}
+use Rattle.container_machine.specs.Plans.{plan_effect, need_of}
 use Rattle.container_machine.specs.declared.prepared.Prepared.{Prepared}
 
 -- an answer that changes nothing
@@ -19,7 +20,7 @@ answered p t s status body f is a =
       effect = ap (λ q. plan_effect q z) a.plan ∙ sym (ap (λ (o : Outcome). o.effect) is);
       events = a.events ∙ sym (ap (λ (o : Outcome). o.effect.events) is);
       reply = a.reply ∙ sym (ap (λ (o : Outcome). o.reply) is);
-      brings = subst (λ q. Brings q t s) (sym a.plan) tt;
+      brings = subst (λ q. Brings (need_of q) t s) (sym a.plan) tt;
     }
 
 -- a stream that changes nothing
@@ -31,7 +32,7 @@ streamed p t s given f is a =
       effect = ap (λ q. plan_effect q z) a.plan ∙ sym (ap (λ (o : Outcome). o.effect) is);
       events = a.events ∙ sym (ap (λ (o : Outcome). o.effect.events) is);
       reply = a.reply ∙ sym (ap (λ (o : Outcome). o.reply) is);
-      brings = subst (λ q. Brings q t s) (sym a.plan) tt;
+      brings = subst (λ q. Brings (need_of q) t s) (sym a.plan) tt;
     }
 
 -- an outcome that is the same there

@@ -13,7 +13,8 @@ use Rattle.machine_model.specs.Step.{at_moment}
 use Rattle.machine_effects.proofs.SettleLemmas.{tell_still}
 use Rattle.container_machine.specs.Calls.Attach.{attach_effect}
 use Rattle.container_machine.specs.Making.{Makes}
-use Rattle.container_machine.specs.Plans.{plan_effect, Brings}
+use Rattle.container_machine.specs.Needs.{Brings}
+use Rattle.container_machine.specs.Plans.{plan_effect, need_of}
 use Rattle.container_machine.specs.declared.plan.Plan.{Plan}
 use Rattle.container_machine.specs.declared.prepared.Prepared.{Prepared}
 
@@ -43,5 +44,5 @@ makes_attach p t s c to given empty e found moment plan reply is h1 h2 h3 =
       effect = ap (λ q. plan_effect q z) plan;
       events = h2 ∙ (ap (λ l. l ++ e ∷ []) h1 ∙ (ap (λ d. d ∷ []) h3 ∙ sym (attached_told c.number z c found)));
       reply = reply ∙ ap LogStream is;
-      brings = subst (λ q. Brings q t s) (sym plan) tt;
+      brings = subst (λ q. Brings (need_of q) t s) (sym plan) tt;
     }

@@ -1,10 +1,13 @@
 -- A commit in its parts is the call's outcome.
-use Rattle.std.proofs.Common.{◌≡◌, ℕ, ◌+◌, ◌*◌, ◌<◌, ◌≤◌, ◌^◌, List, Some, ap, sym, ◌∙◌, subst, arith, Option, length}
+use Rattle.std.proofs.Common.{◌≡◌, ℕ, ◌+◌, ◌*◌, ◌<◌, ◌≤◌, ◌^◌, List, ap, sym, ◌∙◌, subst, arith, Option, length}
 use Rattle.engine_text.specs.declared.event.Event.{Event}
 use Rattle.machine_model.specs.State.{State}
-use Rattle.machine_model.specs.Chain.{Effect, Died}
+use Rattle.machine_model.specs.Chain.{Effect, Died, still}
+use Rattle.std.specs.Prelude.{unwrap_or}
+use Rattle.engine_text.specs.declared.step.Step.{Step}
 use Rattle.machine_model.specs.Call.{outcome_of}
-use Rattle.machine_model.specs.Step.{at_moment, call_outcome, counted, due_step, finished}
+use Rattle.machine_model.specs.History.{after_step}
+use Rattle.machine_model.specs.Step.{at_moment, counted, finished, step_of}
 use Rattle.machine_model.specs.Effects.Settle.{settle_tickets}
 use Rattle.machine_model.specs.Consistency.{live_execs}
 use Rattle.container_machine.specs.DuePlans.{due_plan_effect}
@@ -12,9 +15,9 @@ use Rattle.container_machine.specs.Plans.{plan_effect}
 use Rattle.machine_effects.specs.Settled.{deaths}
 use Rattle.machine_model.specs.Consistency.{IsConsistent}
 use Rattle.container_machine.specs.Parts.{MachineParts}
-use Rattle.container_machine.specs.Prepared.{Asked, IsFor}
+use Rattle.container_machine.specs.Prepared.{Asked, IsFor, step_of_call}
 use Rattle.machine_effects.specs.declared.death.Death.{Death}
-use Rattle.container_machine.specs.Dues.{IsForDue, IsStepped, due_at}
+use Rattle.container_machine.specs.Dues.{IsForDue, due_at}
 use Rattle.container_machine.specs.declared.prepared.Prepared.{Prepared}
 use Rattle.container_machine.specs.declared.due.PreparedDue.{PreparedDue}
 
@@ -27,12 +30,12 @@ after_parts e events died k b d f h1 h2 h3 h4 h5 =
 -- of a prepared call
 pub commit_parts : (p : Prepared) (w : MachineParts) (asked : Asked) (death : Option Death) (events : List Event) (a b d f : State) → IsFor p w asked → a ≡ at_moment p.moment w.memory.state
     → b ≡ (plan_effect p.plan a).state → deaths death ≡ (plan_effect p.plan a).died → d ≡ settle_tickets (deaths death) b → events ≡ p.events.items → f ≡ counted events 1 d
-    → f ≡ (call_outcome asked.connection asked.moment asked.call w.memory.state).effect.state
+    → f ≡ after_step w.memory.state (step_of_call asked)
 commit_parts p w asked death events a b d f for h0 h1 h2 h3 h4 h5 =
-    let at : a ≡ at_moment asked.moment w.memory.state = h0 ∙ ap (λ m. at_moment m w.memory.state) for.moment in
-    let same : plan_effect p.plan a ≡ (outcome_of asked.call asked.connection (at_moment asked.moment w.memory.state)).effect = ap (plan_effect p.plan) at ∙ for.effect in
+    let at : a ≡ at_moment asked.moment w.memory.state = h0 ∙ ap (λ m. at_moment m w.memory.state) for.makes.moment in
+    let same : plan_effect p.plan a ≡ (outcome_of asked.call asked.connection (at_moment asked.moment w.memory.state)).effect = ap (plan_effect p.plan) at ∙ for.makes.effect in
     after_parts (outcome_of asked.call asked.connection (at_moment asked.moment w.memory.state)).effect events (deaths death) 1 b d f
-    (h1 ∙ ap (λ (e : Effect). e.state) same) (h2 ∙ ap (λ (e : Effect). e.died) same) (h4 ∙ for.events) h3 h5
+    (h1 ∙ ap (λ (e : Effect). e.state) same) (h2 ∙ ap (λ (e : Effect). e.died) same) (h4 ∙ for.makes.events) h3 h5
 
 -- what is kept is counted without an overflow
 pub count_fits : (es : List Event) (n : ℕ) (d : State) → IsConsistent (counted es n d) → (d.call_count + n < 2 ^ 63) × (d.event_count + length es < 2 ^ 64)
@@ -53,18 +56,16 @@ kept_parts p w asked death events a b d f for h0 h1 h2 h3 h4 h5 =
 
 pub due_parts : (p : PreparedDue) (w : MachineParts) (death : Option Death) (events : List Event) (a b d f : State) (h : IsForDue p w) → a ≡ at_moment p.moment w.memory.state
     → b ≡ (due_plan_effect p.plan a).state → deaths death ≡ (due_plan_effect p.plan a).died → d ≡ settle_tickets (deaths death) b → events ≡ p.events.items → f ≡ counted events 0 d
-    → f ≡ (finished 0 (due_at h.due w.memory.state)).state
+    → f ≡ after_step w.memory.state Step.Due
 due_parts p w death events a b d f h h0 h1 h2 h3 h4 h5 =
-    let at : a ≡ at_moment h.due.moment w.memory.state = h0 ∙ ap (λ m. at_moment m w.memory.state) h.moment in
-    let same : due_plan_effect p.plan a ≡ due_at h.due w.memory.state = ap (due_plan_effect p.plan) at ∙ h.effect in
+    let at : a ≡ at_moment h.due.moment w.memory.state = h0 ∙ ap (λ m. at_moment m w.memory.state) h.makes.moment in
+    let same : due_plan_effect p.plan a ≡ due_at h.due w.memory.state = ap (due_plan_effect p.plan) at ∙ h.makes.effect in
     after_parts (due_at h.due w.memory.state) events (deaths death) 0 b d f
-    (h1 ∙ ap (λ (e : Effect). e.state) same) (h2 ∙ ap (λ (e : Effect). e.died) same) (h4 ∙ h.events) h3 h5
+    (h1 ∙ ap (λ (e : Effect). e.state) same) (h2 ∙ ap (λ (e : Effect). e.died) same) (h4 ∙ h.makes.events) h3 h5
+    ∙ sym (ap (λ o. (unwrap_or (step_of o w.memory.state) (still w.memory.state)).state) h.least)
 
 pub kept_due_parts : (p : PreparedDue) (w : MachineParts) (death : Option Death) (events : List Event) (a b d f : State) (h : IsForDue p w) → a ≡ at_moment p.moment w.memory.state
     → b ≡ (due_plan_effect p.plan a).state → deaths death ≡ (due_plan_effect p.plan a).died → d ≡ settle_tickets (deaths death) b → events ≡ p.events.items → f ≡ counted events 0 d
     → IsConsistent f
 kept_due_parts p w death events a b d f h h0 h1 h2 h3 h4 h5 =
     subst (λ (s : State). IsConsistent s) (sym (due_parts p w death events a b d f h h0 h1 h2 h3 h4 h5)) h.kept
-
-pub stepped_as : (w v : MachineParts) (e : Effect) → due_step w.memory.state ≡ Some e → v.memory.state ≡ e.state → v.memory.room ≡ w.memory.room → IsStepped (due_step w.memory.state) w v
-stepped_as w v e is state room = subst (λ (o : Option Effect). IsStepped o w v) (sym is) (state, room)

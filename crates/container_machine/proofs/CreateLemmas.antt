@@ -4,6 +4,7 @@ use Rattle.std.specs.Cmp.Lexicographic.{bytes_decides}
 use Rattle.std.specs.List.{AllByRecursion}
 use Rattle.std.specs.Prelude.{codes}
 use Rattle.container_table.specs.Tables.{with_id}
+use Rattle.exec_table.specs.Execs.{exec_with_id}
 use Rattle.engine_text.specs.Id.{id_of}
 use Rattle.engine_text.specs.Texts.{same_bytes}
 use Rattle.engine_text.specs.declared.call.CreateSpec.{CreateSpec}
@@ -18,7 +19,7 @@ use Rattle.engine_text.specs.declared.volume.Volume.{Volume}
 use Rattle.machine_model.specs.Calls.Create.{add, created, new_container, new_life}
 use Rattle.machine_model.specs.Chain.{Effect}
 use Rattle.machine_model.proofs.IdLemmas.{id_of_below}
-use Rattle.machine_model.proofs.ListLemmas.{all_front, all_of_mapped, found_nowhere}
+use Rattle.machine_model.proofs.ListLemmas.{all_front, all_back, all_of_mapped, found_nowhere}
 use Rattle.machine_model.specs.Consistency.{IsConsistent}
 use Rattle.machine_model.specs.EventTexts.{plain_event}
 use Rattle.machine_model.specs.Names.{holder}
@@ -29,7 +30,8 @@ use Rattle.machine_effects.proofs.ListLemmas.{All-both, All-imp}
 use Rattle.machine_effects.proofs.CreateLemmas.{added_told}
 use Rattle.container_machine.specs.Calls.Create.{IsNew}
 use Rattle.container_machine.specs.Making.{Makes}
-use Rattle.container_machine.specs.Plans.{plan_effect, Brings}
+use Rattle.container_machine.specs.Needs.{Brings}
+use Rattle.container_machine.specs.Plans.{plan_effect, need_of}
 use Rattle.container_machine.specs.declared.prepared.Prepared.{Prepared}
 
 -- the container in memory, whose log is empty
@@ -47,7 +49,7 @@ pub is_new : (d : Container) (made : List Volume) (t : ℕ) (s : State) → d.nu
 is_new d made t s number id name volumes = record { number = number; id = id; name = name; volumes = volumes }
 
 pub makes_create : (p : Prepared) (t : ℕ) (s : State) (name : List ℕ) (asked : CreateSpec) (d : Container) (volumes : List Volume) (empty one : List Event) (e : Event)
-    → d ≡ new_container name asked (at_moment t s) → p.moment ≡ t → ((z : State) → plan_effect p.plan z ≡ add d z) → Brings p.plan t s
+    → d ≡ new_container name asked (at_moment t s) → p.moment ≡ t → ((z : State) → plan_effect p.plan z ≡ add d z) → Brings (need_of p.plan) t s
     → p.reply ≡ Answer 201 (codes "{\"Id\":\"" ++ d.id ++ codes "\",\"Warnings\":[]}") → volumes ≡ missing_volumes t d.life.mounts s.volumes
     → empty ≡ [] → one ≡ empty ++ told_volumes volumes t → p.events.items ≡ one ++ e ∷ [] → e ≡ plain_event Create d t
     → Makes p t s (λ z. created (new_container name asked z) z)
@@ -87,3 +89,19 @@ has_new_id id s k e =
     (All-imp (λ (d : Container). (d.number < s.next_number) × (d.id ≡ id_of s.seed d.number)) (λ (d : Container). same_bytes d.id id ≡ false)
     (λ d h. same_either (same_bytes d.id id) d.id id refl (λ same. id_of_below s.seed d.number s.next_number d.id h.0 most h.1 (same ∙ e)))
     s.containers (All-both (λ (d : Container). d.number < s.next_number) (λ (d : Container). d.id ≡ id_of s.seed d.number) s.containers (numbers_below s k) k.names.container_ids))
+
+-- so are those of execs, and their ids
+exec_numbers_below : (s : State) → IsConsistent s → AllByRecursion (λ (x : Exec). x.number < s.next_number) s.execs
+exec_numbers_below s k = all_of_mapped (λ n. n < s.next_number) (λ (x : Exec). x.number) s.execs
+    (all_back (λ n. n < s.next_number) (map (λ (d : Container). d.number) s.containers) (map (λ (x : Exec). x.number) s.execs) k.names.below)
+
+pub is_exec_above : (n : ℕ) (s : State) → IsConsistent s → n ≡ s.next_number → AllByRecursion (λ (x : Exec). x.number < n) s.execs
+is_exec_above n s k e = All-imp (λ (x : Exec). x.number < s.next_number) (λ (x : Exec). x.number < n) (λ x low. omega (arith, low, e)) s.execs (exec_numbers_below s k)
+
+pub has_new_exec_id : (id : List ℕ) (s : State) → IsConsistent s → id ≡ id_of s.seed s.next_number → exec_with_id id s.execs ≡ None
+has_new_exec_id id s k e =
+    let most : s.next_number < 2 ^ 64 = omega (arith, k.numbers.next_number, k.counts.steps) in
+    found_nowhere (λ (x : Exec). same_bytes x.id id) s.execs
+    (All-imp (λ (x : Exec). (x.number < s.next_number) × (x.id ≡ id_of s.seed x.number)) (λ (x : Exec). same_bytes x.id id ≡ false)
+    (λ x h. same_either (same_bytes x.id id) x.id id refl (λ same. id_of_below s.seed x.number s.next_number x.id h.0 most h.1 (same ∙ e)))
+    s.execs (All-both (λ (x : Exec). x.number < s.next_number) (λ (x : Exec). x.id ≡ id_of s.seed x.number) s.execs (exec_numbers_below s k) k.names.exec_ids))

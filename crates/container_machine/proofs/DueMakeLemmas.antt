@@ -12,12 +12,12 @@ use Rattle.proc_kernel.specs.Foretelling.{code_at}
 use Rattle.proc_kernel.specs.Processes.{run_due, signal}
 use Rattle.proc_kernel.specs.Tables.{Entry, process_of, due_at as op_due_at}
 use Rattle.machine_model.specs.State.{State, container_numbered}
-use Rattle.machine_model.specs.Chain.{Effect, with_found, still}
+use Rattle.machine_model.specs.Chain.{Effect, with_found}
 use Rattle.machine_model.specs.Consistency.{HasOwner, IsConsistent, is_there}
 use Rattle.machine_model.specs.Due.{by_rank, least_due, stop_deadline}
 use Rattle.machine_model.specs.Effects.Meet.{step_process}
 use Rattle.machine_model.specs.History.{IsLawful, latest}
-use Rattle.machine_model.specs.Step.{at_moment, step_of}
+use Rattle.machine_model.specs.Step.{at_moment}
 use Rattle.machine_model.proofs.Laws.{IsMomentOf, kept_due, timely_due}
 use Rattle.machine_model.proofs.ObeyLemmas.{found_all}
 use Rattle.machine_effects.specs.Deadlines.{CanRestart, HasId}
@@ -41,8 +41,8 @@ use Rattle.container_machine.proofs.DueFoundLemmas.{OpStands, due_stands}
 use Rattle.container_machine.proofs.MakeLemmas.{stand_once}
 use Rattle.container_machine.proofs.ReadyLemmas.{few, settles, timely}
 use Rattle.container_machine.proofs.RunEndLemmas.{kill_next, main_next, own_script, script_for, serves_end}
-use Rattle.std.specs.Prelude.{nat_le, false, unwrap_or}
-use Rattle.std.specs.Option.{option_map_or, unwrap_or}
+use Rattle.std.specs.Prelude.{nat_le, false}
+use Rattle.std.specs.Option.{option_map_or}
 
 -- an action's effect, by its rank
 of_rank : (d : DueAction) (r : ℕ) (s : State) → d.rank ≡ r → due_at d s ≡ by_rank r d.number (at_moment d.moment s)
@@ -200,9 +200,7 @@ pub ready_due : (p : PreparedDue) (w : MachineParts) (d : DueAction) → IsConsi
 ready_due p w d k lawful least makes room = record {
   due = d;
   least = least;
-  moment = makes.moment;
-  effect = makes.effect;
-  events = makes.events;
+  makes = makes;
   fits = fits_due p.plan d.moment w.memory makes.brings k (timely_due w.memory.state d k lawful least) room;
-  kept = subst (λ (s : State). IsConsistent s) (ap (λ o. (unwrap_or (step_of o w.memory.state) (still w.memory.state)).state) least) (kept_due w.memory.state k lawful);
+  kept = kept_due w.memory.state k lawful;
 }

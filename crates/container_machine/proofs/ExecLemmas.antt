@@ -11,13 +11,11 @@ use Rattle.machine_model.specs.Chain.{tell, with_found}
 use Rattle.machine_model.specs.EventTexts.{exec_event}
 use Rattle.machine_model.specs.State.{State, container_numbered}
 use Rattle.machine_model.specs.Step.{at_moment}
-use Rattle.machine_effects.specs.Held.{output_in}
-use Rattle.machine_effects.specs.NewExecs.{empty_output}
-use Rattle.machine_effects.specs.declared.held.HeldOutput.{HeldOutput}
 use Rattle.machine_effects.proofs.SettleLemmas.{tell_still}
 use Rattle.container_machine.specs.Calls.Execs.{add_exec}
 use Rattle.container_machine.specs.Making.{Makes}
-use Rattle.container_machine.specs.Plans.{plan_effect, Brings}
+use Rattle.container_machine.specs.Needs.{Brings}
+use Rattle.container_machine.specs.Plans.{plan_effect, need_of}
 use Rattle.container_machine.specs.declared.plan.Plan.{Plan}
 use Rattle.container_machine.specs.declared.prepared.Prepared.{Prepared}
 
@@ -37,11 +35,11 @@ added_told : (x : Exec) (s : State) (c : Container) → container_numbered x.con
 added_told x s c found =
     ap (λ o. (with_found o (λ (d : Container) (z : State). tell (exec_event Action.ExecCreate x.id d z.clock ∷ []) z) (with_exec x s)).events) found
 
-pub makes_exec : (p : Prepared) (t : ℕ) (s : State) (c : Container) (x : Exec) (output : HeldOutput) (words : List (List ℕ)) (stdin out err : Bool) (body : List ℕ) (empty : List Event) (e : Event)
-    → container_numbered c.number s ≡ Some c → x ≡ new_exec c words stdin out err s → output_in output ≡ empty_output x.number
-    → p.moment ≡ t → p.plan ≡ Plan.ExecCreate x output → p.reply ≡ Answer 201 body → body ≡ codes "{\"Id\":\"" ++ x.id ++ codes "\"}"
+pub makes_exec : (p : Prepared) (t : ℕ) (s : State) (c : Container) (x : Exec) (words : List (List ℕ)) (stdin out err : Bool) (body : List ℕ) (empty : List Event) (e : Event)
+    → container_numbered c.number s ≡ Some c → x ≡ new_exec c words stdin out err s
+    → p.moment ≡ t → p.plan ≡ Plan.ExecCreate x → p.reply ≡ Answer 201 body → body ≡ codes "{\"Id\":\"" ++ x.id ++ codes "\"}"
     → empty ≡ [] → p.events.items ≡ empty ++ e ∷ [] → e ≡ exec_event Action.ExecCreate x.id c t → Makes p t s (λ z. created (new_exec c words stdin out err z) c z)
-makes_exec p t s c x output words stdin out err body empty e found is silent moment plan reply text h1 h2 h3 =
+makes_exec p t s c x words stdin out err body empty e found is moment plan reply text h1 h2 h3 =
     let z : State = at_moment t s in
     let y : Exec = new_exec c words stdin out err z in
     record {
@@ -49,5 +47,5 @@ makes_exec p t s c x output words stdin out err body empty e found is silent mom
       effect = ap (λ q. plan_effect q z) plan ∙ ap (λ w. add_exec w z) is;
       events = h2 ∙ (ap (λ l. l ++ e ∷ []) h1 ∙ (ap (λ d. d ∷ []) h3 ∙ (ap (λ (w : Exec). exec_event Action.ExecCreate w.id c t ∷ []) is ∙ sym (added_told y z c found))));
       reply = reply ∙ ap (Answer 201) (text ∙ ap (λ (w : Exec). codes "{\"Id\":\"" ++ w.id ++ codes "\"}") is);
-      brings = subst (λ q. Brings q t s) (sym plan) silent;
+      brings = subst (λ q. Brings (need_of q) t s) (sym plan) (record { number = ap (λ (w : Exec). w.number) is; id = ap (λ (w : Exec). w.id) is });
     }

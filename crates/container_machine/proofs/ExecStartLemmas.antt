@@ -24,7 +24,8 @@ use Rattle.machine_model.proofs.ObeyLemmas.{found_all}
 use Rattle.machine_effects.specs.ExecStarts.{exec_begun, start_effect}
 use Rattle.container_machine.specs.Calls.ExecRefusals.{exec_refusal}
 use Rattle.container_machine.specs.Making.{Makes}
-use Rattle.container_machine.specs.Plans.{plan_effect, Brings}
+use Rattle.container_machine.specs.Needs.{Brings}
+use Rattle.container_machine.specs.Plans.{plan_effect, need_of}
 use Rattle.container_machine.specs.declared.plan.Plan.{Plan}
 use Rattle.container_machine.specs.declared.prepared.Prepared.{Prepared}
 use Rattle.container_machine.proofs.MakeLemmas.{stand_once}
@@ -66,7 +67,7 @@ makes_start p t s c x program detach reply empty e found own named moment plan r
       effect = ap (λ q. plan_effect q z) plan ∙ (started_as x program detach z own ∙ sym (ap (λ (o : Outcome). o.effect) out));
       events = h2 ∙ (ap (λ l. l ++ e ∷ []) h1 ∙ (ap (λ d. d ∷ []) h3 ∙ (sym (started_told x c program detach z found) ∙ sym (ap (λ (o : Outcome). o.effect.events) out))));
       reply = replied ∙ (is ∙ sym (ap (λ (o : Outcome). o.reply) out));
-      brings = subst (λ q. Brings q t s) (sym plan) tt;
+      brings = subst (λ q. Brings (need_of q) t s) (sym plan) tt;
     }
 
 -- ---- the exec that is found

@@ -12,7 +12,8 @@ use Rattle.machine_model.specs.Step.{at_moment}
 use Rattle.machine_model.specs.Streams.{RunState, Live, run_state}
 use Rattle.container_machine.specs.Calls.Feed.{IsFed, end_plan, ends_input}
 use Rattle.container_machine.specs.Making.{Makes}
-use Rattle.container_machine.specs.Plans.{plan_effect, Brings}
+use Rattle.container_machine.specs.Needs.{Brings}
+use Rattle.container_machine.specs.Plans.{plan_effect, need_of}
 use Rattle.container_machine.specs.Runs.{run_in}
 use Rattle.container_machine.specs.declared.plan.Plan.{Plan}
 use Rattle.container_machine.specs.declared.prepared.Prepared.{Prepared}
@@ -25,7 +26,7 @@ run_at (Owner.Exec n) run t s = refl
 
 -- an answer whether it was taken
 made_fed : (p : Prepared) (t : ℕ) (s : State) (taken : Bool) (plan : Plan) (f : State → Outcome) → IsFed t taken plan p
-    → replies (Fed taken) (plan_effect plan) (at_moment t s) ≡ f (at_moment t s) → [] ≡ (plan_effect plan (at_moment t s)).events → Brings plan t s → Makes p t s f
+    → replies (Fed taken) (plan_effect plan) (at_moment t s) ≡ f (at_moment t s) → [] ≡ (plan_effect plan (at_moment t s)).events → Brings (need_of plan) t s → Makes p t s f
 made_fed p t s taken plan f fed out silent brings =
     let z : State = at_moment t s in
     record {
@@ -33,7 +34,7 @@ made_fed p t s taken plan f fed out silent brings =
       effect = ap (λ q. plan_effect q z) fed.plan ∙ ap (λ (o : Outcome). o.effect) out;
       events = fed.events ∙ (silent ∙ ap (λ (o : Outcome). o.effect.events) out);
       reply = fed.reply ∙ ap (λ (o : Outcome). o.reply) out;
-      brings = subst (λ q. Brings q t s) (sym fed.plan) brings;
+      brings = subst (λ q. Brings (need_of q) t s) (sym fed.plan) brings;
     }
 
 -- ---- a piece
@@ -74,7 +75,7 @@ silent_plan : (b : Bool) (owner : Owner) (s : State) → [] ≡ (plan_effect (en
 silent_plan true owner s = refl
 silent_plan false owner s = refl
 
-plan_brings : (b : Bool) (owner : Owner) (t : ℕ) (s : State) → Brings (end_plan b owner) t s
+plan_brings : (b : Bool) (owner : Owner) (t : ℕ) (s : State) → Brings (need_of (end_plan b owner)) t s
 plan_brings true owner t s = tt
 plan_brings false owner t s = tt
 

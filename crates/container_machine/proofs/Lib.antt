@@ -24,3 +24,4 @@ pub mod DueMakeLemmas
 pub mod UnpauseLemmas
 pub mod UpdateLemmas
 pub mod VolumeLemmas
+pub mod RankLemmas

@@ -5,16 +5,7 @@ use Rattle.std.proofs.lemmas.List.{at_drop_all, at_drop_more}
 use Rattle.std.specs.List.{range_with_len, slice_get}
 use Rattle.std.proofs.Math.Seq.{get_or-append_seam}
 use Rattle.engine_text.specs.declared.log.LogRecord.{LogRecord}
-use Rattle.engine_text.specs.declared.reply.LogSpec.{LogSpec}
-use Rattle.engine_text.specs.declared.reply.Reply.TheVariants.{LogStream}
 use Rattle.machine_model.specs.Calls.Logs.{from_end, places}
-use Rattle.machine_model.specs.Chain.{still}
-use Rattle.machine_model.specs.Outcome.{Outcome, replies}
-use Rattle.machine_model.specs.State.{State}
-use Rattle.machine_model.specs.Step.{at_moment}
-use Rattle.container_machine.specs.Making.{IsStream, Makes}
-use Rattle.container_machine.specs.Plans.{plan_effect, Brings}
-use Rattle.container_machine.specs.declared.prepared.Prepared.{Prepared}
 
 -- the places of those that pass, the first of these standing at k
 abbrev pub places_at : (LogRecord → Bool) → ℕ → List LogRecord → List ℕ

@@ -26,7 +26,8 @@ use Rattle.machine_model.specs.Calls.Kill.{deliver, is_final, kill_running}
 use Rattle.container_machine.specs.Calls.Kill.{kill_effect}
 use Rattle.machine_effects.specs.Fit.{AreFew}
 use Rattle.container_machine.specs.Making.{Makes}
-use Rattle.container_machine.specs.Plans.{plan_effect, Brings}
+use Rattle.container_machine.specs.Needs.{Brings}
+use Rattle.container_machine.specs.Plans.{plan_effect, need_of}
 use Rattle.container_machine.specs.RunEnds.{IsEndKit}
 use Rattle.container_machine.proofs.RunEndLemmas.{deliver_next, own_script, script_for, serves_end}
 use Rattle.machine_model.specs.Chain.{Effect}
@@ -87,6 +88,6 @@ makes_kill p t s c sent last code kit empty one e k found low final is moment pl
           ∙ (ap (λ l. kill_event sent.number c t ∷ l) told
           ∙ (sym (kill_told sent last c.number z c (own_script c) code found refl (once_at t s k) (is t)) ∙ ap (λ (x : Effect). x.events) same));
       reply = reply;
-      brings = subst (λ q. Brings q t s) (sym plan)
+      brings = subst (λ q. Brings (need_of q) t s) (sym plan)
           (serves_end code c.number c.life.goal c c s z kit (deliver last sent.number c.number z).died (deliver_died last sent.number c.number z c code found (is t)) of found refl refl refl, low);
     }

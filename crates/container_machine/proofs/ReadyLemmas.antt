@@ -1,9 +1,8 @@
 -- A call that is made ready may be committed.
-use Rattle.std.proofs.Common.{◌≡◌, ℕ, ◌+◌, ◌<◌, ◌≤◌, ◌^◌, List, Option, None, refl, sym, subst, arith, length}
+use Rattle.std.proofs.Common.{◌≡◌, ℕ, ◌<◌, ◌≤◌, ◌^◌, List, Option, None, refl, sym, subst, arith, length}
 use Rattle.engine_text.specs.Scripts.{Program}
 use Rattle.engine_text.specs.declared.call.Call.{Call}
 use Rattle.engine_text.specs.declared.container.Container.{Container}
-use Rattle.engine_text.specs.declared.container.Life.{Life}
 use Rattle.engine_text.specs.declared.container.Removed.{Removed}
 use Rattle.engine_text.specs.declared.exec.Exec.{Exec}
 use Rattle.engine_text.specs.declared.log.KeptLogs.{KeptLogs}
@@ -12,7 +11,6 @@ use Rattle.engine_text.specs.declared.ticket.Asked.{Asked}
 use Rattle.engine_text.specs.declared.step.Step.{Step}
 use Rattle.machine_model.proofs.Laws.{IsMomentOf, kept_call, timely_call}
 use Rattle.machine_model.specs.State.{State, change_life}
-use Rattle.machine_model.specs.Calls.Remove.{to_remove}
 use Rattle.machine_model.specs.Tickets.{begun}
 use Rattle.machine_model.specs.Call.{outcome_of}
 use Rattle.machine_model.specs.Consistency.{IsConsistent}
@@ -20,23 +18,20 @@ use Rattle.machine_model.specs.History.{IsLawful, greatest_moment}
 use Rattle.machine_model.specs.Step.{at_moment}
 use Rattle.machine_effects.specs.Fit.{AreFew, AreTimely, CanRemove, CanSettle, IsScriptOf}
 use Rattle.machine_effects.specs.Kits.{IsKitOf}
-use Rattle.machine_effects.specs.Halts.{asked_of, mark_of}
+use Rattle.machine_effects.specs.Marks.{marked}
 use Rattle.machine_effects.specs.Memory.{Memory, Room, HasRoom, standing}
 use Rattle.machine_effects.specs.Removing.{HasRemovalRoom}
-use Rattle.machine_effects.specs.declared.halting.Halting.{Halting}
 use Rattle.machine_effects.specs.declared.kit.Kit.{Kit}
-use Rattle.machine_effects.specs.declared.marks.Mark.{Mark}
-use Rattle.machine_effects.proofs.HaltLemmas.{timely_begun}
+use Rattle.container_table.specs.declared.life_change.LifeChange.{LifeChange}
 use Rattle.machine_effects.proofs.SettleLemmas.{few_renew}
 use Rattle.machine_effects.proofs.ListLemmas.{All-imp}
-use Rattle.container_machine.specs.Calls.Start.{CanStart}
-use Rattle.container_machine.proofs.CreateLemmas.{has_new_id, is_above}
+use Rattle.container_machine.proofs.CreateLemmas.{has_new_exec_id, has_new_id, is_above, is_exec_above}
 use Rattle.container_machine.specs.Making.{Makes}
 use Rattle.container_machine.specs.Parts.{MachineParts}
-use Rattle.container_machine.specs.Plans.{Brings, Fits, HasRoomFor}
+use Rattle.container_machine.specs.Needs.{Need, Nothing, FreeName, Unused, End, TicketEnd, Launch, Removal, Ticket, Listing, Process, NewContainer, NewExec, NewVolume, CanStart, Brings, Fits, HasSpace, space_of}
+use Rattle.container_machine.specs.Plans.{need_of}
 use Rattle.container_machine.specs.RunEnds.{Serves}
 use Rattle.container_machine.specs.Prepared.{asked_by, IsFor}
-use Rattle.container_machine.specs.declared.plan.Plan.{Plan}
 use Rattle.container_machine.specs.declared.prepared.Prepared.{Prepared}
 
 pub few : (s : State) → IsConsistent s → AreFew s.containers
@@ -71,16 +66,12 @@ pub settles : (n : ℕ) (kit : Kit) (t : ℕ) (m : Memory) → Serves n kit (at_
 settles n kit t m serves k until room =
     settled n kit m.room (at_moment t m.state) serves (few m.state k) (omega (arith, k.numbers.next_pid, k.counts.steps)) until m room refl refl refl refl refl
 
--- behind the begin of a ticket, with a mark of its call
-settles_as : (n : ℕ) (kit : Kit) (mark : Life → Life) (connection container : ℕ) (asked : Asked) (t : ℕ) (m : Memory) → Serves n kit (change_life n mark (begun connection container asked (at_moment t m.state)))
-    → ((s : State) → AreFew s.containers → AreFew (change_life n mark s).containers) → IsConsistent m.state → t ≤ greatest_moment → HasRoom m → CanSettle n kit m.room (change_life n mark (begun connection container asked (at_moment t m.state)))
-settles_as n kit mark connection container asked t m serves marks k until room =
-    settled n kit m.room (change_life n mark (begun connection container asked (at_moment t m.state))) serves (marks (begun connection container asked (at_moment t m.state)) (few m.state k))
+-- behind the begin of a ticket, with the mark of its call
+settles_as : (n : ℕ) (kit : Kit) (noted : LifeChange) (connection : ℕ) (asked : Asked) (t : ℕ) (m : Memory) → Serves n kit (change_life n (marked noted) (begun connection n asked (at_moment t m.state)))
+    → IsConsistent m.state → t ≤ greatest_moment → HasRoom m → CanSettle n kit m.room (change_life n (marked noted) (begun connection n asked (at_moment t m.state)))
+settles_as n kit noted connection asked t m serves k until room =
+    settled n kit m.room (change_life n (marked noted) (begun connection n asked (at_moment t m.state))) serves (few_renew n noted (begun connection n asked (at_moment t m.state)) (few m.state k))
     (omega (arith, k.numbers.next_pid, k.counts.steps)) until m room refl refl refl refl refl
-
-few_halted : (halting : Halting) (n : ℕ) (s : State) → AreFew s.containers → AreFew (change_life n (mark_of halting) s).containers
-few_halted Halting.Stop n s h = few_renew n Mark.Stopping s h
-few_halted Halting.Restart n s h = few_renew n Mark.ToRestart s h
 
 -- the container may be removed
 removes : (n : ℕ) (kit : Kit) (t : ℕ) (m : Memory) → IsKitOf n None m.state kit → HasRemovalRoom m → CanRemove n kit m.room (at_moment t m.state)
@@ -93,82 +84,51 @@ starts n script t m named k room = record {
   spare = room.spare;
 }
 
-fits : (plan : Plan) (t : ℕ) (m : Memory) → Brings plan t m.state → IsConsistent m.state → IsMomentOf m.state t → HasRoomFor plan m → Fits plan (standing t m)
-fits Plan.Nothing t m brings k at room = tt
-fits (Plan.Attach n) t m brings k at room = tt
-fits (Plan.Create held volumes) t m brings k at room = record {
-  room = record { place = room.place; volumes = room.volumes; uses = room.uses };
-  volumes = brings.volumes;
-  number = omega (arith, k.numbers.next_number, k.counts.steps);
-  above = is_above held.container.number m.state k brings.number;
-  id = has_new_id held.container.id m.state k brings.id;
-  name = brings.name;
-}
-fits (Plan.EndTicket ticket) t m brings k at room = tt
-fits (Plan.Halt connection n halting sent seconds kit) t m brings k at room = record {
-  signal = brings.1;
-  begin = record { room = room.ticket; number = omega (arith, k.numbers.next_ticket, k.counts.steps) };
-  halt = record {
-    timely = timely_begun connection n (asked_of halting) (at_moment t m.state) (timely t m.state at);
-    execs = room.end.execs;
-    end = λ ended. settles_as n kit (mark_of halting) connection n (asked_of halting) t m (brings.0 ended) (few_halted halting n) k at.until room.end;
-    deadline = room.deadline;
-    spare = room.end.spare;
-  };
-}
-fits (Plan.ExecCreate x output) t m brings k at room = record {
-  room = record { place = room.place; output = room.output };
-  output = brings;
-  number = omega (arith, k.numbers.next_number, k.counts.steps);
-}
-fits (Plan.ExecStart n script detach) t m brings k at room = record { pid = omega (arith, k.numbers.next_pid, k.counts.steps); spare = room }
-fits (Plan.Feed owner piece) t m brings k at room = room
-fits (Plan.FeedEnd owner) t m brings k at room = tt
-fits (Plan.Kill n sent last kit) t m brings k at room = record {
+fits : (need : Need) (t : ℕ) (m : Memory) → Brings need t m.state → IsConsistent m.state → IsMomentOf m.state t → HasSpace (space_of need) m → Fits need (standing t m)
+fits Nothing t m brings k at room = tt
+fits (FreeName name) t m brings k at room = brings
+fits (Unused name) t m brings k at room = record { stands = brings.stands; unused = brings.unused }
+fits (End n sent e kit) t m brings k at room = record {
   signal = brings.1;
   timely = timely t m.state at;
   room = room.execs;
   end = λ ended. settles n kit t m (brings.0 ended) k at.until room;
   spare = room.spare;
 }
-fits (Plan.KillRestarting n sent) t m brings k at room = tt
-fits (Plan.Pause n) t m brings k at room = room.execs
-fits (Plan.Remove n kit) t m brings k at room = removes n kit t m brings room
-fits (Plan.RemoveRestarting n kit) t m brings k at room = removes n kit t m brings room
-fits (Plan.RemoveForced connection n kit) t m brings k at room = record {
+fits (TicketEnd connection n asked noted sent e kit) t m brings k at room = record {
+  signal = brings.1;
   begin = record { room = room.ticket; number = omega (arith, k.numbers.next_ticket, k.counts.steps) };
   timely = timely t m.state at;
   room = room.end.execs;
-  timers = room.end.timers;
-  end = λ ended. settles_as n kit to_remove connection n Asked.Remove t m (brings ended) (few_renew n Mark.ToRemove) k at.until room.end;
+  timers = room.deadline;
+  end = λ ended. settles_as n kit noted connection asked t m (brings.0 ended) k at.until room.end;
   spare = room.end.spare;
 }
-fits (Plan.Rename n name) t m brings k at room = brings
-fits (Plan.Restart n script) t m brings k at room = starts n script t m brings k room
-fits (Plan.RestartRestarting n script) t m brings k at room = starts n script t m brings k room
-fits (Plan.Start n script) t m brings k at room = starts n script t m brings k room
-fits (Plan.StopRestarting n) t m brings k at room = tt
-fits (Plan.Unpause n kit) t m brings k at room = record {
-  timely = timely t m.state at;
-  room = room.execs;
-  end = λ ended. settles n kit t m (brings ended) k at.until room;
-  spare = room.spare;
+fits (Launch n script) t m brings k at room = starts n script t m brings k room
+fits (Removal n kit) t m brings k at room = removes n kit t m brings room
+fits Ticket t m brings k at room = record { room = room; number = omega (arith, k.numbers.next_ticket, k.counts.steps) }
+fits Listing t m brings k at room = room.execs
+fits Process t m brings k at room = record { pid = omega (arith, k.numbers.next_pid, k.counts.steps); spare = room }
+fits (NewContainer c made) t m brings k at room = record {
+  room = record { place = room.place; volumes = room.volumes; uses = room.uses };
+  volumes = brings.volumes;
+  number = omega (arith, k.numbers.next_number, k.counts.steps);
+  above = is_above c.number m.state k brings.number;
+  id = has_new_id c.id m.state k brings.id;
+  name = brings.name;
 }
-fits (Plan.Update n policy) t m brings k at room = tt
-fits (Plan.VolumeCreate name labels) t m brings k at room = record { free = brings; room = room }
-fits (Plan.VolumeRemove name) t m brings k at room = record { stands = brings.stands; unused = brings.unused }
-fits (Plan.Wait connection n until) t m brings k at room = record {
+fits (NewExec x) t m brings k at room = record {
   room = room;
-  number = omega (arith, k.numbers.next_ticket, k.counts.steps);
+  above = is_exec_above x.number m.state k brings.number;
+  id = has_new_exec_id x.id m.state k brings.id;
+  number = omega (arith, k.numbers.next_number, k.counts.steps);
 }
+fits (NewVolume name) t m brings k at room = record { free = brings; room = room }
 
 pub ready : (p : Prepared) (w : MachineParts) (connection moment : ℕ) (c : Call) → IsConsistent w.memory.state → IsLawful w.memory.state (Step.Call connection moment c)
-    → Makes p moment w.memory.state (outcome_of c connection) → HasRoomFor p.plan w.memory → IsFor p w (asked_by connection moment c)
+    → Makes p moment w.memory.state (outcome_of c connection) → HasSpace (space_of (need_of p.plan)) w.memory → IsFor p w (asked_by connection moment c)
 ready p w connection moment c k lawful makes room = record {
-  moment = makes.moment;
-  effect = makes.effect;
-  events = makes.events;
-  reply = makes.reply;
-  fits = fits p.plan moment w.memory makes.brings k (timely_call w.memory.state connection moment c k lawful) room;
+  makes = makes;
+  fits = fits (need_of p.plan) moment w.memory makes.brings k (timely_call w.memory.state connection moment c k lawful) room;
   kept = kept_call w.memory.state connection moment c k lawful;
 }

@@ -37,7 +37,8 @@ use Rattle.machine_effects.proofs.KillToldLemmas.{kill_begun, kill_to_remove_tol
 use Rattle.machine_effects.proofs.SettleLemmas.{remove_alike}
 use Rattle.container_machine.specs.Calls.Remove.{give_up_effect}
 use Rattle.container_machine.specs.Making.{IsAnswer, Makes}
-use Rattle.container_machine.specs.Plans.{plan_effect, Brings}
+use Rattle.container_machine.specs.Needs.{Brings}
+use Rattle.container_machine.specs.Plans.{plan_effect, need_of}
 use Rattle.container_machine.specs.declared.plan.Plan.{Plan}
 use Rattle.container_machine.specs.declared.prepared.Prepared.{Prepared}
 use Rattle.container_machine.specs.RunEnds.{IsEndKit}
@@ -76,7 +77,7 @@ makes_gone p t s c kit empty e found moment plan of reply h1 h2 h3 =
       effect = ap (λ q. plan_effect q z) plan;
       events = one_told empty p.events.items (destroy c.number z).events e (plain_event Action.Destroy c t) h1 h2 h3 (destroy_told c.number z c found);
       reply = reply;
-      brings = subst (λ q. Brings q t s) (sym plan) of;
+      brings = subst (λ q. Brings (need_of q) t s) (sym plan) of;
     }
 
 pub makes_given_up : (p : Prepared) (t : ℕ) (s : State) (c : Container) (kit : Kit) (empty : List Event) (e : Event) → container_numbered c.number s ≡ Some c
@@ -89,7 +90,7 @@ makes_given_up p t s c kit empty e found moment plan of reply h1 h2 h3 =
       effect = ap (λ q. plan_effect q z) plan;
       events = one_told empty p.events.items (give_up_effect c.number z).events e (plain_event Action.Destroy c t) h1 h2 h3 (remove_restarting_told c.number z c found);
       reply = reply;
-      brings = subst (λ q. Brings q t s) (sym plan) of;
+      brings = subst (λ q. Brings (need_of q) t s) (sym plan) of;
     }
 
 -- ---- of a dead container
@@ -155,7 +156,9 @@ makes_forced p connection t s c code kit empty k found is moment plan of reply n
       events = events ∙ (ap (λ l. l ++ told_kill 9 code (aimed Goal.Remove c) kit.script z) none
           ∙ (kill_next 9 code (aimed Goal.Remove c) kit.script z (script_aimed code Goal.Remove n c s kit of) ∙ sym told));
       reply = reply;
-      brings = subst (λ q. Brings q t s) (sym plan)
-          (serves_end code n Goal.Remove c (renewed to_remove c) s (change_life n to_remove y) kit (kill_to_remove n y).died (kill_to_remove_died n y c code found (is t)) of
-          (found_renewed n to_remove y c found) refl refl refl);
+      brings = subst (λ q. Brings (need_of q) t s) (sym plan) (
+        serves_end code n Goal.Remove c (renewed to_remove c) s (change_life n to_remove y) kit (kill_to_remove n y).died (kill_to_remove_died n y c code found (is t)) of
+            (found_renewed n to_remove y c found) refl refl refl,
+        tt,
+      );
     }

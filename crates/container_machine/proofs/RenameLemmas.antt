@@ -17,7 +17,8 @@ use Rattle.machine_effects.proofs.SettleLemmas.{found_updated, has_number, tell_
 use Rattle.machine_effects.proofs.ToldLemmas.{told_at}
 use Rattle.container_machine.specs.Calls.Rename.{rename_effect}
 use Rattle.container_machine.specs.Making.{Makes}
-use Rattle.container_machine.specs.Plans.{plan_effect, Brings}
+use Rattle.container_machine.specs.Needs.{Brings}
+use Rattle.container_machine.specs.Plans.{plan_effect, need_of}
 use Rattle.container_machine.specs.declared.plan.Plan.{Plan}
 use Rattle.container_machine.specs.declared.prepared.Prepared.{Prepared}
 
@@ -66,5 +67,5 @@ makes_rename p t s c name shown empty e found free told moment plan reply none e
       effect = ap (λ q. plan_effect q z) plan ∙ ap (λ o. with_found o (rename name) z) found;
       events = events ∙ (ap (λ l. l ++ e ∷ []) none ∙ (ap (λ x. x ∷ []) event ∙ sym (rename_told name z c found)));
       reply = reply;
-      brings = subst (λ q. Brings q t s) (sym plan) free;
+      brings = subst (λ q. Brings (need_of q) t s) (sym plan) free;
     }

@@ -22,14 +22,15 @@ use Rattle.machine_model.specs.State.{State, container_numbered, change_life, cl
 use Rattle.machine_model.specs.Step.{at_moment}
 use Rattle.machine_effects.specs.Fit.{CanLaunch}
 use Rattle.machine_effects.specs.ToldCalls.{told_again}
-use Rattle.machine_effects.specs.declared.marks.Mark.{Mark}
+use Rattle.container_table.specs.declared.life_change.LifeChange.{LifeChange}
 use Rattle.machine_effects.proofs.CallToldLemmas.{again_told, restarting_again_told}
 use Rattle.machine_effects.proofs.DiedLemmas.{none_launch}
 use Rattle.machine_effects.proofs.DiedToldLemmas.{none_told}
 use Rattle.machine_effects.proofs.SettleLemmas.{launch_alike, launch_renew}
 use Rattle.container_machine.specs.Calls.Restart.{restart_restarting_effect}
 use Rattle.container_machine.specs.Making.{IsAnswer, Makes}
-use Rattle.container_machine.specs.Plans.{plan_effect, Brings}
+use Rattle.container_machine.specs.Needs.{Brings}
+use Rattle.container_machine.specs.Plans.{plan_effect, need_of}
 use Rattle.container_machine.specs.declared.plan.Plan.{Plan}
 use Rattle.container_machine.specs.declared.prepared.Prepared.{Prepared}
 use Rattle.container_machine.proofs.StartLemmas.{made_answer, none_is, same_words, some_is}
@@ -51,7 +52,7 @@ none_restarting n s = none_again n (change_life n cancelled (clear_timer 3 n s))
 pub launch_cancelled : (n : ℕ) (script : Option Program) (s a : State) → a ≡ (cancel_restart n s).state → CanLaunch n script s → CanLaunch n script a
 launch_cancelled n script s a e h =
     subst (λ (z : State). CanLaunch n script z) (sym e)
-    (launch_renew n script Mark.Cancelled (clear_timer 3 n s) (launch_alike n script s (clear_timer 3 n s) refl refl h))
+    (launch_renew n script LifeChange.Cancelled (clear_timer 3 n s) (launch_alike n script s (clear_timer 3 n s) refl refl h))
 
 -- ---- words that name no program
 
@@ -82,7 +83,7 @@ makes_restart p t s c program empty found named moment plan reply none events =
       events = events ∙ (ap (λ l. l ++ told_again (Some program) c t) none
           ∙ (sym (ap (λ o. told_again o c t) named) ∙ (sym (again_told c.number z c found) ∙ sym (ap (λ (o : Outcome). o.effect.events) is))));
       reply = reply ∙ sym (ap (λ (o : Outcome). o.reply) is);
-      brings = subst (λ q. Brings q t s) (sym plan) (λ d at. sym named ∙ same_words c d (sym found ∙ at));
+      brings = subst (λ q. Brings (need_of q) t s) (sym plan) (λ d at. sym named ∙ same_words c d (sym found ∙ at));
     }
 
 pub makes_restarting : (p : Prepared) (t : ℕ) (s : State) (c : Container) (script : Option Program) (empty : List Event) → container_numbered c.number s ≡ Some c → script ≡ program_of c.life.words (c.life.starts + 1)
@@ -94,5 +95,5 @@ makes_restarting p t s c script empty found named moment plan reply none events 
       effect = ap (λ q. plan_effect q z) plan;
       events = events ∙ (ap (λ l. l ++ told_again script c t) none ∙ (ap (λ o. told_again o c t) named ∙ sym (restarting_again_told c.number z c found)));
       reply = reply;
-      brings = subst (λ q. Brings q t s) (sym plan) (λ d at. named ∙ same_words c d (sym found ∙ at));
+      brings = subst (λ q. Brings (need_of q) t s) (sym plan) (λ d at. named ∙ same_words c d (sym found ∙ at));
     }

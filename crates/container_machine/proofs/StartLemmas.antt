@@ -16,7 +16,8 @@ use Rattle.machine_effects.specs.Marks.{renewed}
 use Rattle.machine_effects.proofs.DiedLemmas.{none_launch}
 use Rattle.machine_effects.proofs.ToldLemmas.{found_renewed, launch_told, same_launch}
 use Rattle.container_machine.specs.Making.{IsAnswer, Makes}
-use Rattle.container_machine.specs.Plans.{plan_effect, Brings}
+use Rattle.container_machine.specs.Needs.{Brings}
+use Rattle.container_machine.specs.Plans.{plan_effect, need_of}
 use Rattle.container_machine.specs.declared.plan.Plan.{Plan}
 use Rattle.container_machine.specs.declared.prepared.Prepared.{Prepared}
 
@@ -29,7 +30,7 @@ made_answer p t s f status body a h =
       effect = ap (λ q. plan_effect q z) a.plan ∙ sym (ap (λ (o : Outcome). o.effect) (h z));
       events = a.events ∙ sym (ap (λ (o : Outcome). o.effect.events) (h z));
       reply = a.reply ∙ sym (ap (λ (o : Outcome). o.reply) (h z));
-      brings = subst (λ q. Brings q t s) (sym a.plan) tt;
+      brings = subst (λ q. Brings (need_of q) t s) (sym a.plan) tt;
     }
 
 pub none_is : (o : Option Program) → is_program o ≡ false → o ≡ None
@@ -67,5 +68,5 @@ makes_start p t s c program empty found named moment plan reply none events =
       events = events ∙ (ap (λ l. l ++ told_launch (Some program) c t) none
           ∙ (sym (ap (λ o. told_launch o c t) named) ∙ (sym (start_told c.number z c found) ∙ sym (ap (λ (o : Outcome). o.effect.events) is))));
       reply = reply ∙ sym (ap (λ (o : Outcome). o.reply) is);
-      brings = subst (λ q. Brings q t s) (sym plan) (λ d at. sym named ∙ same_words c d (sym found ∙ at));
+      brings = subst (λ q. Brings (need_of q) t s) (sym plan) (λ d at. sym named ∙ same_words c d (sym found ∙ at));
     }

@@ -25,7 +25,7 @@ use Rattle.machine_model.specs.State.{State, change_life, container_numbered}
 use Rattle.machine_model.specs.Step.{at_moment}
 use Rattle.machine_model.specs.Tickets.{begins, begun}
 use Rattle.machine_effects.specs.Fit.{died_of, next_script}
-use Rattle.machine_effects.specs.Halts.{CanHalt, asked_of, goal_of, halted, mark_of}
+use Rattle.machine_effects.specs.Halts.{CanHalt, asked_of, goal_of, halted, mark_of, noted_by}
 use Rattle.machine_effects.specs.Marks.{renewed}
 use Rattle.machine_effects.specs.Memory.{Memory}
 use Rattle.machine_effects.specs.Settled.{deaths}
@@ -34,12 +34,13 @@ use Rattle.machine_effects.specs.declared.death.Death.{Death}
 use Rattle.machine_effects.specs.declared.halting.Halting.{Halting}
 use Rattle.machine_effects.specs.declared.kit.Kit.{Kit}
 use Rattle.machine_effects.proofs.DiedToldLemmas.{halt_died}
-use Rattle.machine_effects.proofs.HaltLemmas.{halt_begun}
+use Rattle.machine_effects.proofs.HaltLemmas.{halt_begun, timely_begun}
 use Rattle.machine_effects.proofs.ToldLemmas.{found_renewed}
 use Rattle.machine_effects.proofs.KillToldLemmas.{Aims, halt_told, kill_begun, once_begun, restart_aims, stopping_aims}
 use Rattle.container_machine.specs.Calls.Stop.{halt_effect}
 use Rattle.container_machine.specs.Making.{Makes}
-use Rattle.container_machine.specs.Plans.{plan_effect, Brings}
+use Rattle.container_machine.specs.Needs.{Brings, CanEndFor}
+use Rattle.container_machine.specs.Plans.{plan_effect, need_of}
 use Rattle.container_machine.specs.declared.plan.Plan.{Plan}
 use Rattle.machine_model.proofs.ObeyLemmas.{found_all}
 use Rattle.container_machine.specs.declared.prepared.Prepared.{Prepared}
@@ -112,7 +113,7 @@ makes_halt p t s c connection halting wait asked sent seconds goal code kit tick
           ∙ (sym (kill_begun connection n (asked_of halting) number code (aimed (goal_of halting) c) (own_script c) z)
           ∙ sym (halt_told mark (goal_of halting) wait asked y c (own_script c) code (aims halting c.life) found refl (once_begun connection n (asked_of halting) z (once_at t s k)) ends))))));
       reply = reply ∙ ap (λ m. Begun m) next;
-      brings = subst (λ q. Brings q t s) (sym plan) (
+      brings = subst (λ q. Brings (need_of q) t s) (sym plan) (
         serves_end code n goal c (renewed mark c) s (change_life n mark y) kit (halted halting seconds sent.number n y).died died of (found_renewed n mark y c found)
             (ap (λ g. next_script g c) aim ∙ marked_script halting c) refl refl,
         low,
@@ -142,3 +143,15 @@ pub may_halt : (connection n number : ℕ) (h : Halting) (z : ℤ) (asked : Aske
 may_halt connection n number h z asked kit m a fits of begin room spare may =
     subst (λ k. CanHalt h k number n kit a) (sym (to_z-of_z w32 z fits))
     (halt_begun h z number n kit connection n (asked_of h) m a (begin ∙ ap (λ q. begun connection n q m.state) of) room spare may)
+
+-- the run may be ended behind the begin of its ticket, with what its plan needs
+pub can_halt : (connection n : ℕ) (h : Halting) (sent : ℕ) (z : ℤ) (kit : Kit) (m : Memory)
+    → CanEndFor connection n (asked_of h) (noted_by h) (Some sent) (halted h z sent n) kit m
+    → CanHalt h z sent n kit (record m { state = begun connection n (asked_of h) m.state })
+can_halt connection n h sent z kit m may = record {
+  timely = timely_begun connection n (asked_of h) m.state may.timely;
+  execs = may.room;
+  end = may.end;
+  deadline = may.timers;
+  spare = may.spare;
+}

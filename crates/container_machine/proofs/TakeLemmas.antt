@@ -14,7 +14,8 @@ use Rattle.machine_model.specs.Tickets.{ticket_numbered}
 use Rattle.container_machine.specs.Calls.Take.{IsEnding}
 use Rattle.container_machine.specs.Making.{Makes}
 use Rattle.container_machine.specs.Parts.{MachineParts}
-use Rattle.container_machine.specs.Plans.{plan_effect, Brings, HasRoomFor}
+use Rattle.container_machine.specs.Needs.{Brings, HasSpace, space_of}
+use Rattle.container_machine.specs.Plans.{plan_effect, need_of}
 use Rattle.container_machine.specs.Prepared.{IsFor, asked_by}
 use Rattle.container_machine.specs.declared.prepared.Prepared.{Prepared}
 use Rattle.container_machine.proofs.ReadyLemmas.{ready}
@@ -28,7 +29,7 @@ makes_take p t s ticket reply e is =
       effect = ap (λ q. plan_effect q z) e.plan;
       events = e.events;
       reply = e.reply ∙ is;
-      brings = subst (λ q. Brings q t s) (sym e.plan) tt;
+      brings = subst (λ q. Brings (need_of q) t s) (sym e.plan) tt;
     }
 
 pub makes_drop : (p : Prepared) (t : ℕ) (s : State) (ticket : ℕ) → IsEnding t Dropped ticket p → Makes p t s (drop_outcome ticket)
@@ -39,7 +40,7 @@ makes_drop p t s ticket e =
       effect = ap (λ q. plan_effect q z) e.plan;
       events = e.events;
       reply = e.reply;
-      brings = subst (λ q. Brings q t s) (sym e.plan) tt;
+      brings = subst (λ q. Brings (need_of q) t s) (sym e.plan) tt;
     }
 
 -- it may be committed on a machine that made no room for it
@@ -47,7 +48,7 @@ pub ready_drop : (p : Prepared) (w : MachineParts) (connection moment ticket : �
     → IsFor p w (asked_by connection moment (Call.Drop ticket))
 ready_drop p w connection moment ticket k lawful e =
     ready p w connection moment (Call.Drop ticket) k lawful (makes_drop p moment w.memory.state ticket e)
-    (subst (λ q. HasRoomFor q w.memory) (sym e.plan) tt)
+    (subst (λ q. HasSpace (space_of (need_of q)) w.memory) (sym e.plan) tt)
 
 -- what isn't one
 pub not_drop : (c : Call) → ((n : ℕ) → c ≡ Call.Drop n → ⊥) → IsFalse (is_drop c)

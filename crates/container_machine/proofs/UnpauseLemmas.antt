@@ -18,7 +18,8 @@ use Rattle.machine_effects.specs.declared.kit.Kit.{Kit}
 use Rattle.machine_effects.proofs.CallToldLemmas.{unpause_told}
 use Rattle.machine_effects.proofs.DiedToldLemmas.{unpause_died}
 use Rattle.container_machine.specs.Making.{Makes}
-use Rattle.container_machine.specs.Plans.{plan_effect, Brings}
+use Rattle.container_machine.specs.Needs.{Brings}
+use Rattle.container_machine.specs.Plans.{plan_effect, need_of}
 use Rattle.container_machine.specs.RunEnds.{IsEndKit}
 use Rattle.container_machine.specs.declared.plan.Plan.{Plan}
 use Rattle.container_machine.specs.declared.prepared.Prepared.{Prepared}
@@ -39,6 +40,6 @@ makes_unpause p t s c code kit empty k found paused is moment plan of reply none
           ∙ (unpause_next code c kit.script z (script_for code c.number c s kit of)
           ∙ sym (unpause_told c.number z c (own_script c) code found paused refl (once_at t s k) (is t))));
       reply = reply;
-      brings = subst (λ q. Brings q t s) (sym plan)
-          (serves_end code c.number c.life.goal c c s z kit (thaw_container c.number z).died (unpause_died c.number z code (is t)) of found refl refl refl);
+      brings = subst (λ q. Brings (need_of q) t s) (sym plan)
+          (serves_end code c.number c.life.goal c c s z kit (thaw_container c.number z).died (unpause_died c.number z code (is t)) of found refl refl refl, tt);
     }

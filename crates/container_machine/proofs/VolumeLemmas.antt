@@ -22,7 +22,8 @@ use Rattle.machine_model.specs.Step.{at_moment}
 use Rattle.machine_model.specs.Views.{listed_volume, volume_body}
 use Rattle.machine_model.proofs.ObeyLemmas.{found_all}
 use Rattle.container_machine.specs.Making.{Makes}
-use Rattle.container_machine.specs.Plans.{plan_effect, Brings}
+use Rattle.container_machine.specs.Needs.{Brings}
+use Rattle.container_machine.specs.Plans.{plan_effect, need_of}
 use Rattle.container_machine.specs.declared.plan.Plan.{Plan}
 use Rattle.container_machine.specs.declared.prepared.Prepared.{Prepared}
 
@@ -41,7 +42,7 @@ makes_volume p t s name n body labels l empty e same also free moment plan reply
       effect = ap (λ q. plan_effect q (at_moment t s)) is;
       events = one_event empty p.events.items e _ h1 h2 h3;
       reply = reply ∙ ap (Answer 201) text;
-      brings = subst (λ q. Brings q t s) (sym is) free;
+      brings = subst (λ q. Brings (need_of q) t s) (sym is) free;
     }
 
 pub makes_removal : (p : Prepared) (t : ℕ) (s : State) (name n : List ℕ) (empty : List Event) (e : Event) → n ≡ name → IsSome (volume_named name s) → is_in_use name s ≡ false
@@ -54,7 +55,7 @@ makes_removal p t s name n empty e same stands unused moment plan reply h1 h2 h3
       effect = ap (λ q. plan_effect q (at_moment t s)) is;
       events = one_event empty p.events.items e _ h1 h2 h3;
       reply = reply;
-      brings = subst (λ q. Brings q t s) (sym is) (record { stands = stands; unused = unused });
+      brings = subst (λ q. Brings (need_of q) t s) (sym is) (record { stands = stands; unused = unused });
     }
 
 -- ---- their moments are moments

@@ -8,10 +8,8 @@ pub mod List
 pub mod Remove
 pub mod Rename
 pub mod Restart
-pub mod Start
 pub mod Stop
 pub mod Take
-pub mod Unpause
 pub mod Update
 pub mod Volumes
 pub mod Wait

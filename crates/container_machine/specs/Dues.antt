@@ -1,11 +1,13 @@
--- own: when a prepared due step may be committed, and what the commit does.
-use Rattle.std.specs.Prelude.{◌≡◌, Option, Some, None}
+-- own: when a prepared due step may be committed.
+use Rattle.std.specs.Prelude.{◌≡◌, Some}
 use Rattle.engine_text.specs.declared.step.DueAction.{DueAction}
+use Rattle.engine_text.specs.declared.step.Step.{Step}
 use Rattle.machine_model.specs.State.{State}
 use Rattle.machine_model.specs.Chain.{Effect}
 use Rattle.machine_model.specs.Consistency.{IsConsistent}
 use Rattle.machine_model.specs.Due.{due_effect, least_due}
-use Rattle.machine_model.specs.Step.{at_moment, finished}
+use Rattle.machine_model.specs.History.{after_step}
+use Rattle.machine_model.specs.Step.{at_moment}
 use Rattle.machine_effects.specs.Memory.{standing}
 use Rattle.container_machine.specs.Parts.{MachineParts}
 use Rattle.container_machine.specs.DuePlans.{due_plan_effect, BringsDue, FitsDue}
@@ -22,17 +24,10 @@ pub record MakesDue (p : PreparedDue) (due : DueAction) (s : State) : Type 0 whe
   pub events : p.events.items ≡ (due_at due s).events
   pub brings : BringsDue p.plan due.moment s
 
--- It is the least due action, made ready on this machine.
+-- It is the least due action, made ready on this machine, whose tables stand as it needs them.
 pub record IsForDue (p : PreparedDue) (w : MachineParts) : Type 0 where
   pub due : DueAction
   pub least : least_due w.memory.state ≡ Some due
-  pub moment : p.moment ≡ due.moment
-  pub effect : due_plan_effect p.plan (at_moment due.moment w.memory.state) ≡ due_at due w.memory.state
-  pub events : p.events.items ≡ (due_at due w.memory.state).events
+  pub makes : MakesDue p due w.memory.state
   pub fits : FitsDue p.plan (standing due.moment w.memory)
-  pub kept : IsConsistent (finished 0 (due_at due w.memory.state)).state
-
--- The machine after a due step, if there is one: its room is as it was.
-abbrev pub IsStepped : Option Effect → MachineParts → MachineParts → Type 0
-IsStepped None before after = ⊥
-IsStepped (Some e) before after = (after.memory.state ≡ e.state) × (after.memory.room ≡ before.memory.room)
+  pub kept : IsConsistent (after_step w.memory.state Step.Due)

@@ -3,6 +3,7 @@ pub mod DuePlans
 pub mod Dues
 pub mod LogParts
 pub mod Making
+pub mod Needs
 pub mod Parts
 pub mod Plans
 pub mod Prepared

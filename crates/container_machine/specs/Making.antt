@@ -7,7 +7,8 @@ use Rattle.machine_model.specs.State.{State, container_numbered}
 use Rattle.machine_model.specs.Outcome.{Outcome, at_reference}
 use Rattle.machine_model.specs.Step.{at_moment}
 use Rattle.machine_effects.specs.Held.{container_in}
-use Rattle.container_machine.specs.Plans.{plan_effect, Brings}
+use Rattle.container_machine.specs.Needs.{Brings}
+use Rattle.container_machine.specs.Plans.{plan_effect, need_of}
 use Rattle.container_machine.specs.declared.lookup.Looked.{Looked}
 use Rattle.container_machine.specs.declared.plan.Plan.{Plan}
 use Rattle.container_machine.specs.declared.prepared.Prepared.{Prepared}
@@ -32,7 +33,7 @@ pub record Makes (p : Prepared) (t : ℕ) (s : State) (f : State → Outcome) : 
   pub effect : plan_effect p.plan (at_moment t s) ≡ (f (at_moment t s)).effect
   pub events : p.events.items ≡ (f (at_moment t s)).effect.events
   pub reply : p.reply ≡ (f (at_moment t s)).reply
-  pub brings : Brings p.plan t s
+  pub brings : Brings (need_of p.plan) t s
 
 -- A container that a reference names, or the answer that there is none.
 abbrev pub IsLooked : Looked → ℕ → List ℕ → State → Type 0

@@ -12,7 +12,7 @@ ghost use Rattle.container_machine.specs.RunEnds.{IsOwnerKit};
 
 use super::run_ends::{empty_kit, end_kit};
 use engine_text::{DueAction, Event, NoMemory, Owner, Script, Signal};
-use machine_effects::{Death, Held, Kit, Tables, number_of, tell_launch};
+use machine_effects::{Death, Held, Kit, Rank, Tables, number_of, tell_launch};
 use proc_kernel::program;
 use std::alloc::Global;
 
@@ -197,14 +197,10 @@ pub fn prepare(tables: &Tables, alloc: Global, due: DueAction) -> Result<Prepare
     requires least { least_due tables.now.state ≡ Some due }
     ensures { IfOk result (λ p. MakesDue p due tables.now.state) }
 {
-    if due.rank == 0 {
-        return prepare_op(tables, alloc, due);
+    match Rank::numbered(due.rank) {
+        Rank::Op => prepare_op(tables, alloc, due),
+        Rank::StopDeadline => prepare_stop_deadline(tables, alloc, due),
+        Rank::RemovalDeadline => Ok(removal_deadline(alloc, due)),
+        Rank::RestartTimer => prepare_restart_timer(tables, alloc, due),
     }
-    if due.rank == 1 {
-        return prepare_stop_deadline(tables, alloc, due);
-    }
-    if due.rank == 2 {
-        return Ok(removal_deadline(alloc, due));
-    }
-    prepare_restart_timer(tables, alloc, due)
 }

@@ -9,7 +9,7 @@ use engine_text::{Bytes, Owner};
 
 impl Machine {
     /// Whether a feed of these bytes can be answered: its run lives and they fit, or it is over.
-    pub fn is_feed_ready(&self, owner: Owner, run: u64, bytes: &Bytes) -> bool
+    pub(super) fn is_feed_ready(&self, owner: Owner, run: u64, bytes: &Bytes) -> bool
         ensures { result ≡ is_ready self.now.memory.state (calls.Call.Feed owner run bytes.now) }
     {
         match run_of(&self.tables, owner, run) {
@@ -20,7 +20,7 @@ impl Machine {
     }
 
     /// Whether an end of input can be answered: its run has begun, or its owner is gone.
-    pub fn is_feed_end_ready(&self, owner: Owner, run: u64) -> bool
+    pub(super) fn is_feed_end_ready(&self, owner: Owner, run: u64) -> bool
         ensures { result ≡ is_ready self.now.memory.state (calls.Call.FeedEnd owner run) }
     {
         match run_of(&self.tables, owner, run) {

@@ -4,11 +4,12 @@ ghost use Rattle.machine_model.specs.Consistency.{IsConsistent};
 ghost use Rattle.machine_model.specs.Effects.Halt as spec;
 ghost use Rattle.machine_model.specs.State.{container_numbered};
 ghost use Rattle.machine_model.specs.Tickets.{begins};
-ghost use Rattle.machine_effects.specs.Halts.{asked_of, mark_of};
+ghost use Rattle.machine_effects.specs.Halts.{asked_of, halted, mark_of, noted_by};
 ghost use Rattle.machine_effects.specs.Held.{container_in};
 ghost use Rattle.machine_effects.specs.Settled.{deaths};
-ghost use Rattle.container_machine.specs.Calls.Stop.{CanStop, halt_effect};
+ghost use Rattle.container_machine.specs.Calls.Stop.{halt_effect};
 ghost use Rattle.container_machine.specs.Making.{Makes};
+ghost use Rattle.container_machine.specs.Needs.{CanEndFor};
 
 use super::plan::Plan;
 use super::prepared::Prepared;
@@ -28,7 +29,8 @@ pub fn perform(
     seconds: i32,
     kit: Kit,
 ) -> Option<Death>
-    requires { CanStop conn number halting sent seconds kit tables.old }
+    requires { CanEndFor conn number (asked_of halting) (noted_by halting) (Some sent.number)
+        (halted halting seconds sent.number number) kit tables.old }
     ensures state { tables.new.state
         ≡ (halt_effect conn number halting seconds sent.number tables.old.state).state }
     ensures died { deaths result

@@ -19,6 +19,7 @@ mod refusals;
 mod run_ends;
 mod runs;
 mod selection;
+mod space;
 mod streams;
 mod texts;
 mod volume_filters;

@@ -1,36 +1,12 @@
 // Where a log's stream ends.
 ghost use Rattle.std.specs.Prelude.{◌≡◌};
-ghost use Rattle.api_json.specs.Status.{is_restarting};
-ghost use Rattle.machine_effects.specs.Held.{container_in};
-ghost use Rattle.machine_model.specs.Effects.Settle.{is_at_rest};
 ghost use Rattle.machine_model.specs.LogStream as logs;
 ghost use Rattle.machine_model.specs.Streams.{run_state};
 ghost use Rattle.container_machine.specs.LogParts.{is_over};
 
 use super::runs::{Run, run_of};
-use engine_text::{LogRecord, LogSpec, Owner, Status, StopRule};
-use machine_effects::{Held, Tables};
-
-fn is_restarting(status: Status) -> bool
-    ensures { result ≡ is_restarting status }
-{
-    match status {
-        Status::Restarting => true,
-        Status::Created => false,
-        Status::Running => false,
-        Status::Paused => false,
-        Status::Removing => false,
-        Status::Exited => false,
-        Status::Dead => false,
-    }
-}
-
-// Whether the container has no process and no pending restart.
-fn is_at_rest(tables: &Tables, h: &Held) -> bool
-    ensures { result ≡ is_at_rest (container_in h.now) tables.now.state }
-{
-    !tables.stands(Owner::Container(h.container.number)) && !is_restarting(h.container.life.status)
-}
+use engine_text::{LogRecord, LogSpec, Owner, StopRule};
+use machine_effects::Tables;
 
 // Whether no process of the owner lives and no restart is pending.
 fn at_rest(tables: &Tables, owner: Owner) -> bool
@@ -38,7 +14,7 @@ fn at_rest(tables: &Tables, owner: Owner) -> bool
 {
     match owner {
         Owner::Container(number) => match tables.numbered(number) {
-            Some(h) => is_at_rest(tables, h),
+            Some(h) => tables.is_at_rest(h),
             None => true,
         },
         Owner::Exec(number) => !tables.stands(Owner::Exec(number)),

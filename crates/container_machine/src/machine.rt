@@ -1,25 +1,27 @@
 // The machine over its tables.
 ghost use Rattle.std.specs.Prelude.{◌≡◌, ℕ, ◌≤◌, IfOk, OnErr, OnOk, IsFalse};
-ghost use Rattle.machine_model.specs.Step.{call_outcome, due_step};
 ghost use Rattle.engine_text.specs.declared.step.Step as steps;
 ghost use Rattle.machine_model.specs.Call.{outcome_of};
-ghost use Rattle.machine_model.specs.History.{IsLawful, greatest_moment, is_drop, is_due};
+ghost use Rattle.machine_model.specs.History.{IsLawful, is_drop, is_due, reply_of};
 ghost use Rattle.machine_model.specs.State.{initial_state};
 ghost use Rattle.engine_text.specs.Soundness.{IsSound};
 ghost use Rattle.container_machine.specs.DuePlans.{HasDueRoom};
-ghost use Rattle.container_machine.specs.Dues.{IsForDue, IsStepped};
+ghost use Rattle.container_machine.specs.Dues.{IsForDue};
 ghost use Rattle.container_machine.specs.Making.{Makes};
-ghost use Rattle.container_machine.specs.Plans.{HasRoomFor};
+ghost use Rattle.container_machine.specs.Needs.{HasSpace};
+ghost use Rattle.container_machine.specs.Parts.{IsStep};
 ghost use Rattle.machine_model.specs.Consistency.{IsConsistent};
-ghost use Rattle.container_machine.specs.Prepared.{Asked, asked_by, IsFor, IsForSome, IsCommitted};
+ghost use Rattle.container_machine.specs.Prepared.{Asked, asked_by, IsFor, IsForSome, step_of_call};
 
 use super::calls::execs::create::ExecAsk;
 use super::due::{DuePlan, PreparedDue};
-use super::plan::{Plan, perform};
+use super::plan::perform;
 use super::prepared::Prepared;
+use super::space::{Space, space_of};
 use super::{calls, due};
 use engine_text::{Call, NoMemory, Reply};
 use machine_effects::Tables;
+use machine_model::{GREATEST_MOMENT, KEPT_EVENTS};
 use std::alloc::Global;
 use std::marker::Model;
 
@@ -44,7 +46,7 @@ impl Model for Machine {
 impl Machine {
     /// No container. The moment is at most the greatest one.
     pub fn new(alloc: Global, seed: [u8; 32], moment: u64) -> Result<Machine, NoMemory>
-        requires { moment ≤ greatest_moment }
+        requires { moment ≤ GREATEST_MOMENT }
         ensures { IfOk result (λ m. m.memory.state ≡ initial_state seed moment) }
     {
         let tables = Tables::new(alloc, seed, moment)?;
@@ -61,7 +63,7 @@ impl Machine {
         call: &Call,
     ) -> Result<Prepared, NoMemory>
         requires sound { IsSound call.now }
-        requires until { moment ≤ greatest_moment }
+        requires until { moment ≤ GREATEST_MOMENT }
         requires heard { IsFalse (is_drop call.now) }
         ensures { IfOk result
             (λ p. Makes p moment self.now.memory.state (outcome_of call.now conn)) }
@@ -179,44 +181,26 @@ impl Machine {
     /// The state is one that a machine can have.
     pub fn kept(&self)
         ensures state { IsConsistent self.now.memory.state }
-        ensures moments { 65536 ≤ self.now.memory.room.moments }
+        ensures moments { KEPT_EVENTS ≤ self.now.memory.room.moments }
     {
         let _ = &self.tables;
     }
 
-    // Room for that.
-    fn make_room(&mut self, alloc: Global, plan: &Plan) -> Result<(), NoMemory>
+    // So much room.
+    fn make_space(&mut self, alloc: Global, space: Space) -> Result<(), NoMemory>
         ensures state { self.new.memory.state ≡ self.old.memory.state }
-        ensures room { OnOk result (HasRoomFor plan.now self.new.memory) }
+        ensures room { OnOk result (HasSpace space self.new.memory) }
     {
-        match plan {
-            Plan::Nothing => Ok(()),
-            Plan::Attach { .. } => Ok(()),
-            Plan::Create { held, .. } => self
-                .tables
-                .make_add_room(alloc, held.container.life.mounts.len()),
-            Plan::EndTicket { .. } => Ok(()),
-            Plan::ExecCreate { .. } => self.tables.make_exec_room(),
-            Plan::ExecStart { .. } => self.tables.make_process_room(alloc),
-            Plan::Feed { .. } => self.tables.make_process_room(alloc),
-            Plan::FeedEnd { .. } => Ok(()),
-            Plan::Halt { .. } => self.tables.make_halt_room(alloc),
-            Plan::KillRestarting { .. } => Ok(()),
-            Plan::Kill { .. } => self.tables.make_room(alloc),
-            Plan::Pause { .. } => self.tables.make_room(alloc),
-            Plan::Remove { .. } => self.tables.make_removal_room(),
-            Plan::RemoveForced { .. } => self.tables.make_force_room(alloc),
-            Plan::RemoveRestarting { .. } => self.tables.make_removal_room(),
-            Plan::Rename { .. } => Ok(()),
-            Plan::Restart { .. } => self.tables.make_room(alloc),
-            Plan::RestartRestarting { .. } => self.tables.make_room(alloc),
-            Plan::Start { .. } => self.tables.make_room(alloc),
-            Plan::StopRestarting { .. } => Ok(()),
-            Plan::Unpause { .. } => self.tables.make_room(alloc),
-            Plan::Update { .. } => Ok(()),
-            Plan::VolumeCreate { .. } => self.tables.make_volume_room(alloc),
-            Plan::VolumeRemove { .. } => Ok(()),
-            Plan::Wait { .. } => self.tables.make_ticket_room(),
+        match space {
+            Space::Nothing => Ok(()),
+            Space::End => self.tables.make_room(alloc),
+            Space::TicketEnd => self.tables.make_halt_room(alloc),
+            Space::Removal => self.tables.make_removal_room(),
+            Space::Ticket => self.tables.make_ticket_room(),
+            Space::Process => self.tables.make_process_room(alloc),
+            Space::Container { mounts } => self.tables.make_add_room(alloc, mounts),
+            Space::Exec => self.tables.make_exec_room(alloc),
+            Space::Volume => self.tables.make_volume_room(alloc),
         }
     }
 
@@ -239,16 +223,17 @@ impl Machine {
             return Ok(calls::take::prepare_drop(alloc, moment, *ticket));
         }
         let prepared = self.prepare_call(alloc, conn, moment, call)?;
-        self.make_room(alloc, &prepared.plan)?;
+        self.make_space(alloc, space_of(&prepared.plan))?;
         Ok(prepared)
     }
 
     /// Makes the call that was prepared on this machine, unchanged since. It takes no memory.
     pub fn commit(&mut self, prepared: Prepared) -> Reply
         requires { IsForSome prepared self.old }
-        ensures { (asked : Asked) → IsFor prepared self.old asked
-            → IsCommitted (call_outcome asked.connection asked.moment asked.call
-            self.old.memory.state) result self.old self.new }
+        ensures step { (asked : Asked) → IsFor prepared self.old asked
+            → IsStep (step_of_call asked) self.old self.new }
+        ensures reply { (asked : Asked) → IsFor prepared self.old asked → result
+            ≡ reply_of self.old.memory.state asked.connection asked.moment asked.call }
     {
         let Prepared {
             moment,
@@ -304,7 +289,7 @@ impl Machine {
     /// Makes the due step that was prepared on this machine, unchanged since. It takes no memory.
     pub fn commit_due(&mut self, prepared: PreparedDue)
         requires { IsForDue prepared self.old }
-        ensures { IsStepped (due_step self.old.memory.state) self.old self.new }
+        ensures { IsStep steps.Step.Due self.old self.new }
     {
         let PreparedDue {
             moment,

@@ -1,11 +1,12 @@
 // What a prepared call does, once its container is found and its status is known.
 ghost use Rattle.std.specs.Prelude.{◌≡◌};
-ghost use Rattle.container_machine.specs.Plans.{plan_effect, Fits};
+ghost use Rattle.container_machine.specs.Needs.{Fits};
+ghost use Rattle.container_machine.specs.Plans.{need_of, plan_effect};
 ghost use Rattle.machine_effects.specs.Settled.{deaths};
 
 use super::{calls, halts};
 use engine_text::{Bytes, Exec, Owner, Pairs, Policy, Script, Signal, Text, Until, Volume};
-use machine_effects::{Death, Halting, Held, HeldOutput, Kit, Tables};
+use machine_effects::{Death, Halting, Held, Kit, Tables};
 
 /// What a prepared call does.
 #[derive(Drop)]
@@ -23,7 +24,6 @@ pub enum Plan {
     },
     ExecCreate {
         exec: Exec,
-        output: HeldOutput,
     },
     ExecStart {
         number: u64,
@@ -115,7 +115,7 @@ pub enum Plan {
 /// Makes it. It takes no memory.
 #[tactic(auto, using(crate::proofs::AttachLemmas::attached_state, crate::proofs::AttachLemmas::none_attached))]
 pub fn perform(tables: &mut Tables, plan: Plan) -> Option<Death>
-    requires { Fits plan tables.old }
+    requires { Fits (need_of plan) tables.old }
     ensures state { tables.new.state ≡ (plan_effect plan tables.old.state).state }
     ensures died { deaths result ≡ (plan_effect plan tables.old.state).died }
     ensures room { tables.new.room ≡ tables.old.room }
@@ -131,8 +131,8 @@ pub fn perform(tables: &mut Tables, plan: Plan) -> Option<Death>
             calls::take::perform(tables, ticket);
             None
         }
-        Plan::ExecCreate { exec, output } => {
-            calls::execs::create::perform(tables, exec, output);
+        Plan::ExecCreate { exec } => {
+            calls::execs::create::perform(tables, exec);
             None
         }
         Plan::ExecStart {

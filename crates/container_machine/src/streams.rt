@@ -2,9 +2,6 @@
 ghost use Rattle.std.specs.Prelude.{◌≡◌};
 ghost use Rattle.machine_model.specs.LogStream.{some_if};
 
-/// The greatest moment that a call can name, in milliseconds: no record is later.
-pub const FAR: u64 = 9_999_999_999_999;
-
 /// The run that standard input goes to, where it is open.
 pub fn run_if(is_open: bool, run: u64) -> Option<u64>
     ensures { result ≡ some_if is_open run }

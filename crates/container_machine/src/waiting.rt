@@ -1,14 +1,27 @@
-// Whether a ticket can be taken.
+// Whether a call can be answered.
 ghost use Rattle.std.specs.Prelude.{◌≡◌};
 ghost use Rattle.engine_text.specs.declared.call.Call as calls;
 ghost use Rattle.machine_model.specs.History.{has_ticket};
 ghost use Rattle.machine_model.specs.Ready.{is_ready};
 
 use super::machine::Machine;
+use engine_text::Call;
 
 impl Machine {
-    /// Whether the ticket stands and its reply is there.
-    pub fn is_ready(&self, ticket: u64) -> bool
+    /// Whether the call can be answered now; all but takes and feeds always can.
+    pub fn is_ready(&self, call: &Call) -> bool
+        ensures { result ≡ is_ready self.now.memory.state call.now }
+    {
+        match call {
+            Call::Take { ticket } => self.is_ticket_ready(*ticket),
+            Call::Feed { owner, run, bytes } => self.is_feed_ready(*owner, *run, bytes),
+            Call::FeedEnd { owner, run } => self.is_feed_end_ready(*owner, *run),
+            _ => true,
+        }
+    }
+
+    // Whether the ticket stands and its reply is there.
+    fn is_ticket_ready(&self, ticket: u64) -> bool
         ensures { result ≡ is_ready self.now.memory.state (calls.Call.Take ticket) }
     {
         match self.tables.ticket(ticket) {

@@ -8,7 +8,7 @@ use Rattle.std.specs.declared.cmp.Ordering.TheVariants.{Less, Greater}
 use Rattle.std.specs.declared.boxed.Box.{Box}
 use Rattle.engine_text.specs.declared.container.Container.{Container}
 use Rattle.engine_text.proofs.PlaceLemmas.{position_is, no_position}
-use Rattle.container_table.specs.Lists.{remove_first, update_first}
+use Rattle.container_table.specs.Lists.{remove_first, update_first, at_place}
 use Rattle.container_table.specs.Order.{IsInOrder}
 use Rattle.container_table.specs.Search.{HoldsOf, Parts}
 use Rattle.container_table.specs.Tables.{without}
@@ -42,6 +42,12 @@ module _ {Z : Type 0} where
   contents_kept [] i d w e = refl
   contents_kept (b ∷ bs) zero d w e = ap (λ c. c ∷ contents bs) e
   contents_kept (b ∷ bs) (suc i) d w e = ap (λ l. container_in b.value ∷ l) (contents_kept bs i d w e)
+
+  pub contents_at : (f : Container → Container) (bs : List (Box Held Z)) (i : ℕ) (d w : Box Held Z) → container_in w.value ≡ f (container_in (get_or bs i d).value)
+      → contents (set bs i w) ≡ at_place f i (contents bs)
+  contents_at f [] i d w e = refl
+  contents_at f (b ∷ bs) zero d w e = ap (λ c. c ∷ contents bs) e
+  contents_at f (b ∷ bs) (suc i) d w e = ap (λ l. container_in b.value ∷ l) (contents_at f bs i d w e)
 
   pub rooms_removed : (n : ℕ) (bs : List (Box Held Z)) (i : ℕ) → AreAlone (λ c. c.number == n) (contents bs) → HoldsOf (λ c. (c.number == n) ≡ true) (contents bs) i
       → rooms_of (remove bs i) ≡ rooms_without n (contents bs) (rooms_of bs)

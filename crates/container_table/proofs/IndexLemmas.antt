@@ -26,7 +26,7 @@ use Rattle.container_table.proofs.HeldLemmas.{text_order, numbers_alone}
 turned : (a b : List ℕ) → order a b ≡ Greater → order b a ≡ Less
 turned a b e = nat_list_cmp_total.antisymm b a ∙ ap ordering_reverse e
 
-apart_texts : (a b : List ℕ) → same_bytes a b ≡ false → (is_lt (order a b) || is_lt (order b a)) ≡ true
+pub apart_texts : (a b : List ℕ) → same_bytes a b ≡ false → (is_lt (order a b) || is_lt (order b a)) ≡ true
 apart_texts a b e = go (order a b) refl
   where
     go : (o : Ordering) → order a b ≡ o → (is_lt o || is_lt (order b a)) ≡ true

@@ -16,7 +16,7 @@ not_before_less : (a b c : DueAction) → is_before a b ≡ true → is_before c
 not_before_less a b c e f = grind (arith, nat_tests, e, f)
 
 -- of two that differ one comes before the other
-same : (a b : DueAction) → is_before a b ≡ false → is_before b a ≡ false → a ≡ b
+pub same : (a b : DueAction) → is_before a b ≡ false → is_before b a ≡ false → a ≡ b
 same a b e f = grind (arith, nat_tests, e, f)
 
 not_before_moment : (a b : DueAction) → is_before a b ≡ false → b.moment ≤ a.moment

@@ -12,3 +12,4 @@ pub mod PrefixLemmas
 pub mod KeptLemmas
 pub mod TimerLemmas
 pub mod LifeLemmas
+pub mod DueLemmas

@@ -52,7 +52,7 @@ is_eq-Equal Less e = absurd (cc)
 is_eq-Equal Equal e = refl
 is_eq-Equal Greater e = absurd (cc)
 
-other_text : (a b r : List ℕ) → (is_lt (order a b) || is_lt (order b a)) ≡ true → same_bytes a r ≡ true → same_bytes b r ≡ false
+pub other_text : (a b r : List ℕ) → (is_lt (order a b) || is_lt (order b a)) ≡ true → same_bytes a r ≡ true → same_bytes b r ≡ false
 other_text a b r e f =
     sym (is_eq-slice_cmp b r)
     ∙ ap is_eq (nat_list_cmp_total.antisymm b r ∙ ap ordering_reverse (sym (nat_list_cmp_total.congr a r b (is_eq-Equal (order a r) (is_eq-slice_cmp a r ∙ f)))))

@@ -230,7 +230,7 @@ in_back x y (z ∷ zs) i = go (is_before z y) i (in_back x y zs)
     go true i more = elim i [ inl e ↦ inr (inl e) | inr j ↦ elim (more j) [ inl e ↦ inl e | inr k ↦ inr (inr k) ] ]
     go false i more = i
 
-in_order_in : (x : DueAction) (ds : List DueAction) → IsIn x (in_order is_before ds) → IsIn x ds
+pub in_order_in : (x : DueAction) (ds : List DueAction) → IsIn x (in_order is_before ds) → IsIn x ds
 in_order_in x [] i = i
 in_order_in x (d ∷ ds) i = elim (in_back x d (in_order is_before ds) i) [ inl e ↦ inl e | inr j ↦ inr (in_order_in x ds j) ]
 

@@ -3,6 +3,9 @@ pub mod Reference
 pub mod Timers
 pub mod Logs
 pub mod Blank
+pub mod LifeChanges
+pub mod Ranks
+pub mod Dues
 pub mod Tables
 pub mod Order
 pub mod Search
@@ -11,6 +14,6 @@ pub mod Rows
 pub mod RowsInside
 pub mod Held
 pub mod DueOrders
-pub mod ContainersInside
 pub mod TimersInside
+pub mod DuesInside
 pub mod TableInside

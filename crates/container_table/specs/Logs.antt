@@ -1,7 +1,6 @@
 -- A container that is held beside its log (own: so that a record's room is known before it comes).
-use Rattle.std.specs.Prelude.{◌≡◌, ℕ, ◌-◌, ◌<◌, ◌≤◌, ◌==◌, List, [], ◌∷◌, ◌++◌, Option, Some, None, ⊤, map, position, slice_index, if◌then◌else◌}
+use Rattle.std.specs.Prelude.{◌≡◌, ℕ, ◌-◌, ◌<◌, ◌≤◌, ◌==◌, List, [], ◌∷◌, ◌++◌, Some, ⊤, map, position, slice_index, if◌then◌else◌}
 use Rattle.engine_text.specs.declared.container.Container.{Container}
-use Rattle.engine_text.specs.declared.container.Life.{Life}
 use Rattle.engine_text.specs.declared.log.LogRecord.{LogRecord}
 use Rattle.container_table.specs.Lists.{update_first}
 use Rattle.container_table.specs.declared.held.Held.{Held}
@@ -44,8 +43,3 @@ AreNoLess [] [] = ⊤
 AreNoLess [] (new ∷ news) = ⊥
 AreNoLess (old ∷ olds) [] = ⊥
 AreNoLess (old ∷ olds) (new ∷ news) = (old ≤ new) × AreNoLess olds news
-
--- The life of what was found, but for its log.
-abbrev pub IsLifeOf : Life → Option Container → Type 0
-IsLifeOf life None = ⊤
-IsLifeOf life (Some c) = c.life ≡ record life { log = c.life.log }

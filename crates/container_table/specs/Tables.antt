@@ -4,7 +4,6 @@ use Rattle.std.specs.List.{list_all}
 use Rattle.std.specs.Option.{is_none}
 use Rattle.engine_text.specs.Texts.{same_bytes}
 use Rattle.engine_text.specs.declared.container.Container.{Container}
-use Rattle.engine_text.specs.declared.container.Life.{Life}
 use Rattle.container_table.specs.Lists.{update_first, remove_first}
 use Rattle.engine_text.specs.declared.step.DueAction.{DueAction}
 
@@ -49,16 +48,7 @@ without n cs = remove_first (λ c. c.number == n) cs
 abbrev pub renamed : ℕ → List ℕ → List Container → List Container
 renamed n name cs = update_first (λ c. c.number == n) (λ c. record c { name = name }) cs
 
--- The container of that number has another life, and its own log.
-abbrev pub relived : ℕ → Life → List Container → List Container
-relived n life cs = update_first (λ c. c.number == n) (λ c. record c { life = record life { log = c.life.log } }) cs
-
--- What a table holds of containers alone, and of timers alone.
-pub record Kept : Type 0 where
-  pub containers : List Container
-  pub logs : List ℕ
-  pub places : ℕ
-
+-- Timers alone, and for how many there is memory.
 pub record Timed : Type 0 where
   pub timers : List DueAction
   pub places : ℕ

@@ -1,13 +1,18 @@
 // Boxes of containers: those that are held, in order of number, and spare ones.
-ghost use Rattle.std.specs.Prelude.{◌≡◌, ◌+◌, ◌<◌, ◌≤◌, [], ◌∷◌, ◌++◌, length, Some, Ok, OnOk, OnErr, vec_len, vec_capacity};
-ghost use Rattle.container_table.specs.Tables.{numbered, without, renamed, relived};
-ghost use Rattle.container_table.specs.Logs.{container_in, room_in, recorded, rooms_used, rooms_without, AreNoLess, FitsLog, IsLifeOf};
+ghost use Rattle.std.specs.Prelude.{◌≡◌, ◌+◌, ◌<◌, ◌≤◌, ◌^◌, [], ◌∷◌, ◌++◌, length, Some, slice_get, Ok, OnOk, OnErr, vec_len, vec_capacity};
+ghost use Rattle.container_table.specs.Tables.{numbered, without, renamed};
+ghost use Rattle.container_table.specs.Logs.{container_in, room_in, recorded, rooms_used, rooms_without, AreNoLess, FitsLog};
+ghost use Rattle.container_table.specs.LifeChanges.{with_change, with_launch};
+ghost use Rattle.engine_text.specs.declared.container.Container as container;
+ghost use Rattle.container_table.specs.Lists.{at_place};
 ghost use Rattle.container_table.specs.Held.{contents, numbers_of, rooms_of, IsBoxed, IsPlaced};
 
 use super::blank::blank;
 use super::held::Held;
+use super::life_change;
+use super::life_change::LifeChange;
 use super::rows::Rows;
-use engine_text::{Life, LogRecord, NoMemory, Text};
+use engine_text::{LogRecord, NoMemory, Text};
 use std::alloc::Global;
 use std::mem;
 
@@ -122,21 +127,34 @@ pub fn rename(boxes: &mut Boxes, i: usize, number: u64, name: Text)
     held.container.name = name;
 }
 
-/// Swaps the life of the container of that number, which stands at i, for another; its log stays.
-pub fn swap_life(boxes: &mut Boxes, i: usize, number: u64, life: &mut Life)
-    requires boxed { IsBoxed boxes.old }
-    requires bound { i < vec_len boxes.old.list }
-    requires place { IsPlaced (contents boxes.old.list.items) number (Ok i) }
-    ensures life { IsLifeOf life.new (numbered number (contents boxes.old.list.items)) }
+/// Changes the life of the container that stands at i; its log stays.
+pub fn change(boxes: &mut Boxes, i: usize, change: LifeChange)
+    requires { i < vec_len boxes.old.list }
     ensures contents { contents boxes.new.list.items
-        ≡ relived number life.old (contents boxes.old.list.items) }
+        ≡ at_place (with_change change) i (contents boxes.old.list.items) }
     ensures rooms { rooms_of boxes.new.list.items ≡ rooms_of boxes.old.list.items }
     ensures numbers { boxes.new.numbers ≡ boxes.old.numbers }
     ensures len { vec_len boxes.new.list ≡ vec_len boxes.old.list }
     ensures capacity { vec_capacity boxes.new.list ≡ vec_capacity boxes.old.list }
 {
     let held = &mut boxes.list[i];
-    mem::swap(&mut held.container.life, life);
+    life_change::change(&mut held.container.life, change);
+}
+
+/// The life of the container that stands at i begins anew; its log stays.
+pub fn launch(boxes: &mut Boxes, i: usize, pid: u64, moment: u64)
+    requires bound { i < vec_len boxes.old.list }
+    requires few { (c : container.Container) → slice_get (contents boxes.old.list.items) i ≡ Some c
+        → c.life.starts < 2 ^ 63 }
+    ensures contents { contents boxes.new.list.items
+        ≡ at_place (with_launch pid moment) i (contents boxes.old.list.items) }
+    ensures rooms { rooms_of boxes.new.list.items ≡ rooms_of boxes.old.list.items }
+    ensures numbers { boxes.new.numbers ≡ boxes.old.numbers }
+    ensures len { vec_len boxes.new.list ≡ vec_len boxes.old.list }
+    ensures capacity { vec_capacity boxes.new.list ≡ vec_capacity boxes.old.list }
+{
+    let held = &mut boxes.list[i];
+    life_change::launch(&mut held.container.life, pid, moment);
 }
 
 /// Makes room for one record more in the log of the container of that number, which stands at i.

@@ -1,15 +1,22 @@
-//! Containers by number, id, name and prefix, and their timers.
+//! Containers by number, id, name and prefix, their timers, and the next due moments of processes.
 #![tactic(auto)]
 
 mod blank;
 mod boxes;
-mod containers;
+mod changes;
+mod dues;
 mod entries;
 mod held;
+mod life_change;
 mod lookups;
+mod rank;
 mod rows;
 mod table;
 mod timers;
 
+pub use blank::blank_life;
+pub use dues::Dues;
 pub use held::Held;
+pub use life_change::LifeChange;
+pub use rank::Rank;
 pub use table::Table;

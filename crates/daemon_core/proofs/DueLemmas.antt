@@ -1,21 +1,18 @@
 -- Due steps, one after the other, and that each is lawful.
 use Rattle.std.proofs.Common.{◌≡◌, ◌<◌, ◌≤◌, ◌^◌, ℕ, List, [], ◌∷◌, ◌++◌, refl, subst, sym, ◌∙◌, ap, append-nil, append_assoc, Bool, true, false, ◌&&◌, Option, Some, None, arith}
-use Rattle.std.specs.Prelude.{IsTrue, nat_le, unwrap_or}
-use Rattle.std.specs.Option.{option_map_or, unwrap_or}
+use Rattle.std.specs.Prelude.{IsTrue, nat_le}
+use Rattle.std.specs.Option.{option_map_or}
 use Rattle.std.specs.List.{filter}
 use Rattle.std.proofs.lemmas.Bool.{false≢true}
 use Rattle.std.proofs.lemmas.Bool.Decides.{nat_tests}
 use Rattle.engine_text.specs.declared.step.DueAction.{DueAction}
 use Rattle.engine_text.specs.declared.step.Step.{Step}
 use Rattle.machine_model.specs.State.{State}
-use Rattle.machine_model.specs.Chain.{Effect, still}
 use Rattle.machine_model.specs.Due.{least_due}
 use Rattle.machine_model.specs.History.{after_step, state_from, is_due, acts_by, has_steps, latest, SomeDues, DuesUntil, IsLawful, calls_of}
 use Rattle.machine_model.proofs.Histories.{state_append, lawful_append}
 use Rattle.machine_model.proofs.MomentLemmas.{moves}
 use Rattle.machine_model.specs.Consistency.{IsConsistent}
-use Rattle.container_machine.specs.Parts.{MachineParts}
-use Rattle.container_machine.specs.Dues.{IsStepped}
 use Rattle.session_model.proofs.DueLemmas.{some_clock}
 use Rattle.daemon_core.specs.Storing.{is_call, AddsDue, AddsDues, IsClear}
 
@@ -37,11 +34,6 @@ due_lawful s u le acts =
 
 pub steps_left : (s : State) (u : ℕ) → acts_by s u ≡ true → s.step_count < 2 ^ 56
 steps_left s u acts = let both = and_both (is_due s u) (has_steps s) acts in grind (arith, nat_tests, both.1)
-
--- what was committed is the due step
-pub stepped : (o : Option Effect) (before after : MachineParts) → IsStepped o before after → after.memory.state ≡ (unwrap_or o (still before.memory.state)).state
-stepped None before after h = absurd h
-stepped (Some e) before after h = h.0
 
 -- it lies at the clock or later
 pub due_later : (s s' : State) → IsConsistent s → IsLawful s Step.Due → s' ≡ after_step s Step.Due → s.clock ≤ s'.clock

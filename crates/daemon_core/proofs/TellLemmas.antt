@@ -51,7 +51,7 @@ timed_step s x kept lawful =
 pub due_events : (p : PreparedDue) (w : MachineParts) → IsForDue p w → p.events.items ≡ (step_effect Step.Due w.memory.state).events
 due_events p w ready =
     let s : State = w.memory.state in
-    ready.events ∙ sym (ap (λ (o : Option DueAction). (unwrap_or (step_of o s) (still s)).events) ready.least)
+    ready.makes.events ∙ sym (ap (λ (o : Option DueAction). (unwrap_or (step_of o s) (still s)).events) ready.least)
 
 -- a drop has none
 pub some_told : (c : Call) (k : ℕ) (s : State) → 0 < length (outcome_of c k s).effect.events → IsFalse (is_drop c)

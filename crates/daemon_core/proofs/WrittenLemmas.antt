@@ -1,5 +1,5 @@
 -- The frames of records, told one after the other, and of payloads, told in pieces.
-use Rattle.std.proofs.Common.{◌≡◌, ◌≤◌, ◌<◌, ◌+◌, ◌-◌, ◌/◌, ℕ, zero, suc, List, [], ◌∷◌, ◌++◌, refl, sym, ◌∙◌, ap, append_assoc, append-nil, arith, Result, Ok, Err, OnErr, length, map, get_or, take, drop, min, length-append, length-drop}
+use Rattle.std.proofs.Common.{◌≡◌, ◌≤◌, ◌<◌, ◌+◌, ◌-◌, ℕ, zero, suc, List, [], ◌∷◌, ◌++◌, refl, sym, ◌∙◌, ap, append_assoc, append-nil, arith, Result, Ok, Err, OnErr, length, map, get_or, take, drop, min, length-append, length-drop}
 use Rattle.std.specs.Prelude.{filter}
 use Rattle.std.specs.List.{flat_map}
 use Rattle.std.proofs.lemmas.Grind.{flat_map-append}
@@ -9,7 +9,8 @@ use Rattle.engine_text.specs.declared.log.LogRecord.{LogRecord}
 use Rattle.engine_text.specs.declared.reply.LogSpec.{LogSpec}
 use Rattle.engine_text.specs.declared.script.Stream.{Stream}
 use Rattle.stream_frame.specs.Frames.{Part, frame_of, frames_of}
-use Rattle.machine_model.specs.Frames.{cut, cut_into, framed}
+use Rattle.machine_model.specs.Frames.{cut, framed, pieces}
+use Rattle.machine_model.proofs.FrameLemmas.{cut_into, cut_is}
 use Rattle.machine_model.specs.LogStream.{is_asked_by, part_of}
 use Rattle.daemon_core.specs.Framing.{Longer, asked_bytes}
 
@@ -30,17 +31,16 @@ asked_append spec rs us =
 
 -- ---- a payload
 
-abbrev pieces : ℕ → ℕ
-pieces n = (n + 32767) / 32768
-
 one_more : (n : ℕ) → 0 < n → pieces n ≡ suc (pieces (n - 32768))
 one_more n some = omega (arith, some)
 
 -- its first piece, and what is left
 cut_next : (kind : Stream) (bytes : List ℕ) → 0 < length bytes → cut (kind, bytes) ≡ (kind, take 32768 bytes) ∷ cut (kind, drop 32768 bytes)
 cut_next kind bytes some =
-    ap (λ n. cut_into n (kind, bytes)) (one_more (length bytes) some)
+    cut_is kind bytes
+    ∙ ap (λ n. cut_into n (kind, bytes)) (one_more (length bytes) some)
     ∙ ap (λ n. (kind, take 32768 bytes) ∷ cut_into (pieces n) (kind, drop 32768 bytes)) (sym (length-drop 32768 bytes))
+    ∙ ap (λ l. (kind, take 32768 bytes) ∷ l) (sym (cut_is kind (drop 32768 bytes)))
 
 pub frames_next : (kind : Stream) (bytes : List ℕ) → 0 < length bytes
     → frames_of (cut (kind, bytes)) ≡ frame_of (kind, take 32768 bytes) ++ frames_of (cut (kind, drop 32768 bytes))

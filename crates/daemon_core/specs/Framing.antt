@@ -1,6 +1,7 @@
 -- Frames of records that are appended, and records whose moments have a text (own).
 use Rattle.std.specs.Prelude.{◌≡◌, ℕ, ◌<◌, ◌≤◌, List, ◌++◌, filter, length, map, take}
 use Rattle.std.specs.List.{AllByRecursion}
+use Rattle.machine_model.specs.declared.limits.TheConstants.{GREATEST_MOMENT}
 use Rattle.machine_model.specs.Frames.{framed}
 use Rattle.machine_model.specs.LogStream.{is_asked_by, part_of}
 use Rattle.engine_text.specs.declared.log.LogRecord.{LogRecord}
@@ -12,7 +13,7 @@ Longer old new = (more : List ℕ) × (new ≡ old ++ more)
 
 -- no moment of these lies past the greatest
 abbrev pub IsTimed : List LogRecord → Type 0
-IsTimed records = AllByRecursion (λ r. r.moment ≤ 9000000000000) records
+IsTimed records = AllByRecursion (λ r. r.moment ≤ GREATEST_MOMENT) records
 
 -- the frames of the asked records among these
 abbrev pub asked_bytes : LogSpec → List LogRecord → List ℕ

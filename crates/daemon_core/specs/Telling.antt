@@ -9,6 +9,7 @@ use Rattle.engine_text.specs.declared.call.Call.TheVariants.{Take, Drop}
 use Rattle.event_ring.specs.Ring.{Kept, ring_of}
 use Rattle.journal_lines.specs.KeptJournal.{ends_of}
 use Rattle.journal_lines.specs.KeptJournal as journal
+use Rattle.machine_model.specs.declared.limits.TheConstants.{GREATEST_MOMENT}
 use Rattle.machine_model.specs.EventLines.{lines_of}
 use Rattle.machine_model.specs.History.{Charter, after_step, events_of, state_after}
 use Rattle.machine_model.specs.Step.{step_effect}
@@ -60,7 +61,7 @@ HasPlaces d c =
 
 -- no moment of these lies past the greatest
 abbrev pub AreTimed : List Event → Type 0
-AreTimed events = AllByRecursion (λ e. e.moment ≤ 9000000000000) events
+AreTimed events = AllByRecursion (λ e. e.moment ≤ GREATEST_MOMENT) events
 
 -- the lines of the told ones among the first n were appended, n being at least 1
 abbrev pub PassesEvents : List FilterRow → Option ℕ → List Event → ℕ → List ℕ → List ℕ → Type 0

@@ -9,10 +9,8 @@ ghost use Rattle.daemon_core.specs.Framing.{Longer, IsTimed, Passes, asked_bytes
 use crate::append::append;
 use container_machine::is_selected;
 use engine_text::{LogRecord, LogSpec, NoMemory, Stream, moment_text};
+use machine_model::{FRAME_BYTES, GREATEST_MOMENT};
 use stream_frame::header;
-
-/// The greatest payload of a frame, in bytes.
-const FRAME: usize = 32_768;
 
 /// The bytes that a part has at least before it ends with its record.
 const PART: usize = 65_536;
@@ -22,7 +20,7 @@ const RECORDS: usize = 4096;
 
 // The frame of a payload that is told in two pieces.
 fn put_frame(out: &mut Vec<u8>, kind: Stream, front: &[u8], payload: &[u8]) -> Result<(), NoMemory>
-    requires { length front.now + length payload.now ≤ 32768 }
+    requires { length front.now + length payload.now ≤ FRAME_BYTES }
     ensures ok { OnOk result
         (out.new.items ≡ out.old.items ++ frame_of (kind, front.now ++ payload.now)) }
     ensures err { OnErr result (Longer out.old.items out.new.items) }
@@ -41,7 +39,7 @@ fn put_rest(out: &mut Vec<u8>, kind: Stream, payload: &[u8]) -> Result<(), NoMem
 {
     let mut left = payload;
     while !left.is_empty() {
-        let (piece, more) = left.split_at(left.len().min(FRAME));
+        let (piece, more) = left.split_at(left.len().min(FRAME_BYTES));
         put_frame(out, kind, &[], piece)?;
         left = more;
     }
@@ -56,19 +54,19 @@ fn put_payload(
     payload: &[u8],
 ) -> Result<(), NoMemory>
     requires some { 0 < length front.now }
-    requires fits { length front.now ≤ 32768 }
+    requires fits { length front.now ≤ FRAME_BYTES }
     ensures ok { OnOk result
         (out.new.items ≡ out.old.items ++ frames_of (cut (kind, front.now ++ payload.now))) }
     ensures err { OnErr result (Longer out.old.items out.new.items) }
 {
-    let (first, rest) = payload.split_at(payload.len().min(FRAME - front.len()));
+    let (first, rest) = payload.split_at(payload.len().min(FRAME_BYTES - front.len()));
     put_frame(out, kind, front, first)?;
     put_rest(out, kind, rest)
 }
 
 // The moment's text and a blank.
 fn stamp(moment: u64) -> [u8; 31]
-    requires { moment ≤ 9000000000000 }
+    requires { moment ≤ GREATEST_MOMENT }
     ensures { result ≡ moment_text (Some moment) ++ codes " " }
 {
     let (text, _) = moment_text(Some(moment));
@@ -79,7 +77,7 @@ fn stamp(moment: u64) -> [u8; 31]
 
 // The frames of a record.
 fn put_record(out: &mut Vec<u8>, item: &LogRecord, stamps: bool) -> Result<(), NoMemory>
-    requires { item.now.moment ≤ 9000000000000 }
+    requires { item.now.moment ≤ GREATEST_MOMENT }
     ensures ok { OnOk result (out.new.items
         ≡ out.old.items ++ frames_of (cut (item.now.stream, stamped stamps item.now))) }
     ensures err { OnErr result (Longer out.old.items out.new.items) }
@@ -100,7 +98,7 @@ fn is_asked_by(spec: &LogSpec, item: &LogRecord) -> bool
 
 // The frames of the record, if it is asked for.
 fn put_asked(out: &mut Vec<u8>, spec: &LogSpec, item: &LogRecord) -> Result<(), NoMemory>
-    requires { item.now.moment ≤ 9000000000000 }
+    requires { item.now.moment ≤ GREATEST_MOMENT }
     ensures ok { OnOk result
         (out.new.items ≡ out.old.items ++ asked_bytes spec.now (item.now ∷ [])) }
     ensures err { OnErr result (Longer out.old.items out.new.items) }

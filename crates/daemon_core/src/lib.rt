@@ -22,6 +22,5 @@ mod turning;
 
 pub use alone::Alone;
 pub use daemon::Daemon;
-pub use moment::GREATEST_MOMENT;
 pub use pairing::{Pairs, input_of};
 pub use turning::Turns;

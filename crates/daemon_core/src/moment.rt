@@ -2,11 +2,7 @@
 ghost use Rattle.std.specs.Prelude.{◌≡◌};
 ghost use Rattle.daemon_core.specs.Storing.{moment_of};
 
-/// The greatest moment, in milliseconds since 1970.
-pub const GREATEST_MOMENT: u64 = 9_000_000_000_000;
-
-/// How far the clock may jump in one step, in milliseconds: a week.
-const GREATEST_JUMP: u64 = 604_800_000;
+use machine_model::{GREATEST_JUMP, GREATEST_MOMENT};
 
 /// The moment that counts of a handed one, by the moment of the last step.
 pub fn moment_used(clock: u64, handed: u64) -> u64

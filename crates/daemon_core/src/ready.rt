@@ -22,9 +22,7 @@ pub fn is_open(machine: &Machine, moment: u64, call: &Call) -> bool
     ensures { result ≡ is_open machine.now.memory.state moment call.now }
 {
     match call {
-        Call::Take { ticket } => machine.is_ready(*ticket) && !machine.is_due(moment),
-        Call::Feed { owner, run, bytes } => machine.is_feed_ready(*owner, *run, bytes),
-        Call::FeedEnd { owner, run } => machine.is_feed_end_ready(*owner, *run),
-        _ => true,
+        Call::Take { .. } => machine.is_ready(call) && !machine.is_due(moment),
+        _ => machine.is_ready(call),
     }
 }

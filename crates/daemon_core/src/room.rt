@@ -6,9 +6,7 @@ ghost use Rattle.daemon_core.specs.Storing.{charter_for};
 
 use container_machine::Machine;
 use engine_text::Call;
-
-/// The number of steps at which no more are made but takes and drops.
-const MOST_STEPS: u64 = 1 << 56;
+use machine_model::MOST_STEPS;
 
 /// Whether a step may still be made.
 pub fn has_steps(machine: &Machine) -> bool

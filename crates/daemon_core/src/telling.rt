@@ -6,11 +6,12 @@ ghost use Rattle.daemon_core.specs.Telling.{AreTimed};
 
 use engine_text::{Event, NoMemory};
 use event_ring::{PreparedEvent, Ring};
+use machine_model::GREATEST_MOMENT;
 use std::alloc::Global;
 
 // The event with its line.
 fn with_line(alloc: Global, event: &Event) -> Result<PreparedEvent, NoMemory>
-    requires { event.now.moment ≤ 9_000_000_000_000 }
+    requires { event.now.moment ≤ GREATEST_MOMENT }
     ensures { IfOk result (λ p. p ≡ event.now) }
 {
     let event = event.copy(alloc)?;

@@ -4,9 +4,9 @@ ghost use Rattle.std.specs.Option.{ForSome};
 ghost use Rattle.machine_model.specs.History.{greatest_moment};
 ghost use Rattle.engine_program.specs.Opening.{steps_of, OpensAt};
 
-use daemon_core::GREATEST_MOMENT;
 use engine_line::Stepping;
 use engine_ports::Clock;
+use machine_model::GREATEST_MOMENT;
 
 /// The start and the step of a line's clock, in milliseconds.
 pub fn steps_of(clock: Option<Stepping>) -> Option<(u64, u64)>

@@ -1,1 +1,5 @@
 pub mod OrderLemmas
+pub mod RowLemmas
+pub mod SiftLemmas
+pub mod IdLemmas
+pub mod OwnLemmas

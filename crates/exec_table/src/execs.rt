@@ -1,19 +1,23 @@
 // The table of execs (Docker Engine API v1.43, ContainerExec, ExecStart, ExecInspect).
-ghost use Rattle.std.specs.Prelude.{◌≡◌, ◌==◌, ◌+◌, ◌<◌, ◌≤◌, [], ◌∷◌, ◌++◌, All, None, OnOk, position, length};
+ghost use Rattle.std.specs.Prelude.{◌≡◌, ◌==◌, ◌+◌, ◌<◌, ◌≤◌, [], ◌∷◌, ◌++◌, not, None, OnOk, OnErr, length, filter, slice_get, Some, vec_len, vec_capacity};
+ghost use Rattle.std.specs.List.{AllByRecursion};
 ghost use Rattle.std.specs.Option.{option_copied};
-ghost use Rattle.std.specs.List.Sorted.{IsStrictlySortedBy};
 ghost use Rattle.engine_text.specs.Lists.{update_first};
-ghost use Rattle.exec_table.specs.Execs.{by_number, exec_numbered, exec_with_id, started, ended, execs_of, without_execs_of};
+ghost use Rattle.container_table.specs.Logs.{AreNoLess};
+ghost use Rattle.exec_table.specs.Execs.{empty_output, exec_numbered, exec_with_id, started, ended, execs_of, is_output_numbered, is_output_of, output_log, rooms_used, rooms_without, with_record, without_execs_of, FitsOutput};
 
 use super::listing::ExecList;
-use engine_text::{Exec, NoMemory};
+use super::row::Row;
+use super::{ids, rows};
+use engine_text::{Exec, LogRecord, NoMemory, OpenLog, OwnedLog};
 use std::alloc::Global;
 use std::marker::Model;
 
-/// Execs in order of number, seen beside the room that was made for them.
+/// Execs in order of number with their outputs, seen beside the room that was made for them.
 #[derive(Drop)]
 pub struct Execs {
-    items: Vec<Exec>,
+    rows: Vec<Row>,
+    ids: Vec<u64>,
 }
 
 impl Model for Execs {
@@ -21,68 +25,101 @@ impl Model for Execs {
 
     ghost Value = { ExecTable };
 
-    ghost use Rattle.exec_table.specs.ExecsInside.{table_inside, IsInOrder};
+    ghost use Rattle.exec_table.specs.ExecsInside.{table_inside, IsSound};
 
     ghost view = { table_inside };
 
-    ghost invariant = { IsInOrder };
-}
-
-/// Where the exec with that number stands, found by halving.
-fn place_of(execs: &[Exec], number: u64) -> Option<usize>
-    requires { IsStrictlySortedBy by_number execs.now }
-    ensures { result ≡ position (λ x. x.number == number) execs.now }
-{
-    execs.binary_search_by_key(&number, |x| x.number).ok()
+    ghost invariant = { IsSound };
 }
 
 impl Execs {
     /// No execs; it takes no memory.
     pub fn new(alloc: Global) -> Execs
-        ensures { result.execs ≡ [] }
+        ensures execs { result.execs ≡ [] }
+        ensures outputs { result.outputs ≡ [] }
+        ensures rooms { result.rooms ≡ [] }
+        ensures places { result.places ≡ 0 }
     {
         Execs {
-            items: Vec::new(alloc),
+            rows: Vec::new(alloc),
+            ids: Vec::new(alloc),
         }
+    }
+
+    /// How many they are.
+    pub fn len(&self) -> usize
+        ensures { result ≡ length self.now.execs }
+    {
+        self.rows.len()
+    }
+
+    /// The exec at that place, in order of number.
+    pub fn at(&self, place: usize) -> &Exec
+        requires { place < length self.now.execs }
+        ensures { slice_get self.now.execs place ≡ Some result.now }
+    {
+        &self.rows[place].exec
     }
 
     /// Makes room for so many more.
     pub fn reserve(&mut self, _alloc: Global, n: usize) -> Result<(), NoMemory>
         ensures execs { self.new.execs ≡ self.old.execs }
-        ensures room { OnOk result (length self.new.execs + n ≤ self.new.room) }
-        ensures keeps { self.old.room ≤ self.new.room }
+        ensures outputs { self.new.outputs ≡ self.old.outputs }
+        ensures rooms { self.new.rooms ≡ self.old.rooms }
+        ensures ok { OnOk result (length self.new.execs + n ≤ self.new.places) }
+        ensures places { self.old.places ≤ self.new.places }
     {
-        match self.items.reserve(n) {
+        if self.rows.reserve(n).is_err() {
+            return Err(NoMemory);
+        }
+        match self.ids.reserve(n) {
             Ok(()) => Ok(()),
             Err(_) => Err(NoMemory),
         }
     }
 
-    /// Adds an exec; there was room for it.
+    /// Adds an exec that has written nothing; there was room for it.
     pub fn create(&mut self, exec: Exec)
-        requires above { All (λ x. x.number < exec.number) self.old.execs }
+        requires above { AllByRecursion (λ x. x.number < exec.number) self.old.execs }
         requires fresh { exec_with_id exec.id self.old.execs ≡ None }
-        requires room { length self.old.execs < self.old.room }
+        requires room { length self.old.execs < self.old.places }
         ensures execs { self.new.execs ≡ self.old.execs ++ exec ∷ [] }
-        ensures room { self.new.room ≡ self.old.room }
+        ensures outputs { self.new.outputs ≡ self.old.outputs ++ empty_output exec.number ∷ [] }
+        ensures rooms { self.new.rooms ≡ self.old.rooms ++ 0 ∷ [] }
+        ensures places { self.new.places ≡ self.old.places }
     {
-        self.items.push_reserved(exec);
+        ids::file(&mut self.ids, self.rows.as_slice(), &exec);
+        let log = OpenLog::new(*self.rows.allocator());
+        self.rows.push_reserved(Row { exec, log });
     }
 
-    /// The exec with that full id.
+    /// The exec with that full id, found by halving.
     pub fn find(&self, id: &str) -> Option<&Exec>
         ensures { option_copied result ≡ exec_with_id id.now self.now.execs }
     {
-        self.items.as_slice().iter().find(|x| x.id.is(id))
+        match ids::locate(self.ids.as_slice(), self.rows.as_slice(), id) {
+            Ok(i) => self.find_number(self.ids[i]),
+            Err(_) => None,
+        }
     }
 
     /// The exec with that number, found by halving.
     pub fn find_number(&self, number: u64) -> Option<&Exec>
         ensures { option_copied result ≡ exec_numbered number self.now.execs }
     {
-        match place_of(self.items.as_slice(), number) {
+        match rows::place_of(self.rows.as_slice(), number) {
             None => None,
-            Some(i) => Some(&self.items[i]),
+            Some(i) => Some(&self.rows[i].exec),
+        }
+    }
+
+    /// What the exec with that number has written.
+    pub fn output(&self, number: u64) -> Option<&[LogRecord]>
+        ensures { option_copied result ≡ output_log number self.now.outputs }
+    {
+        match rows::place_of(self.rows.as_slice(), number) {
+            None => None,
+            Some(i) => Some(self.rows[i].log.as_slice()),
         }
     }
 
@@ -90,12 +127,14 @@ impl Execs {
     pub fn start(&mut self, number: u64, pid: u64)
         ensures execs { self.new.execs
             ≡ update_first (λ x. x.number == number) (started pid) self.old.execs }
-        ensures room { self.new.room ≡ self.old.room }
+        ensures outputs { self.new.outputs ≡ self.old.outputs }
+        ensures rooms { self.new.rooms ≡ self.old.rooms }
+        ensures places { self.new.places ≡ self.old.places }
     {
-        if let Some(i) = place_of(self.items.as_slice(), number) {
-            let exec = &mut self.items[i];
-            exec.started = true;
-            exec.pid = pid;
+        if let Some(i) = rows::place_of(self.rows.as_slice(), number) {
+            let row = &mut self.rows[i];
+            row.exec.started = true;
+            row.exec.pid = pid;
         }
     }
 
@@ -103,27 +142,69 @@ impl Execs {
     pub fn ended(&mut self, number: u64, code: u8)
         ensures execs { self.new.execs
             ≡ update_first (λ x. x.number == number) (ended code) self.old.execs }
-        ensures room { self.new.room ≡ self.old.room }
+        ensures outputs { self.new.outputs ≡ self.old.outputs }
+        ensures rooms { self.new.rooms ≡ self.old.rooms }
+        ensures places { self.new.places ≡ self.old.places }
     {
-        if let Some(i) = place_of(self.items.as_slice(), number) {
-            let exec = &mut self.items[i];
-            exec.pid = 0;
-            exec.code = Some(code);
+        if let Some(i) = rows::place_of(self.rows.as_slice(), number) {
+            let row = &mut self.rows[i];
+            row.exec.pid = 0;
+            row.exec.code = Some(code);
         }
+    }
+
+    /// Makes room for one more record of that exec's output; room that is there stays.
+    pub fn reserve_record(&mut self, alloc: Global, number: u64) -> Result<(), NoMemory>
+        ensures execs { self.new.execs ≡ self.old.execs }
+        ensures outputs { self.new.outputs ≡ self.old.outputs }
+        ensures room { OnOk result (FitsOutput number self.new.outputs self.new.rooms) }
+        ensures rooms { AreNoLess self.old.rooms self.new.rooms }
+        ensures err { OnErr result (self.new.rooms ≡ self.old.rooms) }
+        ensures places { self.new.places ≡ self.old.places }
+    {
+        rows::reserve_record(&mut self.rows, alloc, number)
+    }
+
+    /// The output of that exec has one more record; it takes no memory. An absent one is passed over.
+    pub fn push_record(&mut self, number: u64, written: LogRecord)
+        requires { FitsOutput number self.old.outputs self.old.rooms }
+        ensures execs { self.new.execs ≡ self.old.execs }
+        ensures outputs { self.new.outputs
+            ≡ update_first (is_output_numbered number) (with_record written) self.old.outputs }
+        ensures rooms { self.new.rooms ≡ rooms_used number self.old.execs self.old.rooms }
+        ensures places { self.new.places ≡ self.old.places }
+    {
+        rows::write(&mut self.rows, number, written);
     }
 
     /// The execs of a container, in order of number.
     pub fn of_container(&self, container: u64) -> ExecList<'_>
         ensures { result ≡ execs_of container self.now.execs }
     {
-        ExecList::of(self.items.as_slice(), container)
+        ExecList::of(self.rows.as_slice(), container)
     }
 
-    /// Takes a container's execs away.
-    pub fn remove_container(&mut self, container: u64)
-        ensures execs { self.new.execs ≡ without_execs_of container self.old.execs }
-        ensures room { self.new.room ≡ self.old.room }
+    /// How many outputs are of the container's execs.
+    pub fn count_of(&self, container: u64) -> usize
+        ensures { result
+            ≡ length (filter (is_output_of container self.now.execs) self.now.outputs) }
     {
-        self.items.retain(|x| x.container != container);
+        rows::count_of(self.rows.as_slice(), container)
+    }
+
+    /// Takes a container's execs away; their outputs go over into the list.
+    pub fn remove_container(&mut self, container: u64, into: &mut Vec<OwnedLog>)
+        requires { length (filter (is_output_of container self.old.execs) self.old.outputs)
+            + vec_len into.old ≤ vec_capacity into.old }
+        ensures execs { self.new.execs ≡ without_execs_of container self.old.execs }
+        ensures outputs { self.new.outputs
+            ≡ filter (λ o. not (is_output_of container self.old.execs o)) self.old.outputs }
+        ensures rooms { self.new.rooms ≡ rooms_without container self.old.execs self.old.rooms }
+        ensures into { into.new.items ≡ into.old.items
+            ++ filter (is_output_of container self.old.execs) self.old.outputs }
+        ensures places { self.new.places ≡ self.old.places }
+    {
+        ids::unfile(&mut self.ids, self.rows.as_slice(), container);
+        rows::sift(&mut self.rows, container, into);
     }
 }

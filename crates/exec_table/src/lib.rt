@@ -1,8 +1,11 @@
-//! Execs of containers, in order of number.
+//! Execs of containers with their outputs, in order of number.
 #![tactic(auto)]
 
 mod execs;
+mod ids;
 mod listing;
+mod row;
+mod rows;
 
 pub use execs::Execs;
 pub use listing::ExecList;

@@ -8,7 +8,7 @@ use Rattle.engine_text.specs.declared.entry.Entry.{Entry}
 use Rattle.engine_text.specs.declared.step.DueAction.{DueAction}
 use Rattle.engine_text.specs.declared.step.Step.{Step}
 use Rattle.machine_model.specs.State.{State}
-use Rattle.machine_model.specs.Chain.{Effect, still}
+use Rattle.machine_model.specs.Chain.{still}
 use Rattle.machine_model.specs.Consistency.{IsConsistent}
 use Rattle.machine_model.specs.Due.{least_due, due_effect}
 use Rattle.machine_model.specs.History.{after_step, latest, IsLawful, AreLawful}
@@ -18,18 +18,11 @@ use Rattle.machine_model.proofs.Kept.CountLemmas.{Counted, counted_priced}
 use Rattle.machine_model.proofs.Laws.{kept_due}
 use Rattle.machine_model.proofs.MomentLemmas.{moves}
 use Rattle.machine_model.proofs.StandingLemmas.{Held, held_due}
-use Rattle.container_machine.specs.Parts.{MachineParts}
-use Rattle.container_machine.specs.Dues.{IsStepped}
 use Rattle.journal_lines.specs.Stored.{due_steps}
 use Rattle.journal_lines.specs.Due.{IsMomentFor, IsDueCount, behind_dues}
 use Rattle.history_replay.specs.Counting.{IsPast}
 
 -- ---- one step
-
--- what was committed is the due step
-pub stepped : (o : Option Effect) (before after : MachineParts) → IsStepped o before after → after.memory.state ≡ (unwrap_or o (still before.memory.state)).state
-stepped None before after h = absurd h
-stepped (Some e) before after h = h.0
 
 counted : (s : State) (o : Option DueAction) → IsTrue (option_map_or (λ (d : DueAction). nat_le d.moment (latest s)) o false)
     → (unwrap_or (step_of o s) (still s)).state.step_count ≡ s.step_count + 1

@@ -39,12 +39,7 @@ fn lacks_ticket(machine: &Machine, conn: u32, call: &Call) -> bool
 fn can_answer(machine: &Machine, call: &Call) -> bool
     ensures { result ≡ is_ready machine.now.memory.state call.now }
 {
-    match call {
-        Call::Take { ticket } => machine.is_ready(*ticket),
-        Call::Feed { owner, run, bytes } => machine.is_feed_ready(*owner, *run, bytes),
-        Call::FeedEnd { owner, run } => machine.is_feed_end_ready(*owner, *run),
-        _ => true,
-    }
+    machine.is_ready(call)
 }
 
 // The reply that an entry keeps.

@@ -6,15 +6,7 @@ ghost use Rattle.machine_model.specs.History as spec;
 
 use container_machine::Machine;
 use engine_text::Call;
-
-/// The greatest moment, in milliseconds since 1970.
-const GREATEST_MOMENT: u64 = 9_000_000_000_000;
-
-/// How far the clock may jump in one step, in milliseconds: a week.
-const GREATEST_JUMP: u64 = 604_800_000;
-
-/// The number of steps at which no more are made but takes and drops.
-const MOST_STEPS: u64 = 1 << 56;
+use machine_model::{GREATEST_JUMP, GREATEST_MOMENT, MOST_STEPS};
 
 // The last moment to which the clock may go in one step.
 fn latest(machine: &Machine) -> u64

@@ -1,5 +1,5 @@
 -- The value of a call that a request can make is carried by a line, with what its types give.
-use Rattle.std.proofs.Common.{◌≡◌, ◌<◌, ◌^◌, ℕ, List, [], ◌∷◌, codes, Bool, true, false, ◌&&◌, Option, Some, None, refl, arith}
+use Rattle.std.proofs.Common.{◌≡◌, ◌<◌, ◌^◌, ℕ, List, [], ◌∷◌, codes, Bool, true, false, Some, None, refl, arith}
 use Rattle.std.specs.List.{AllByRecursion}
 use Rattle.std.specs.Str.{IsAscii}
 use Rattle.std.proofs.lemmas.Bool.{and_parts}
@@ -24,7 +24,7 @@ use Rattle.journal_lines.proofs.MemberLemmas.{members}
 use Rattle.journal_lines.proofs.FieldLemmas.{is_plain_word, are_words_plain}
 use Rattle.journal_lines.proofs.CallLemmas.{told, sound_fields}
 use Rattle.journal_lines.proofs.WordLemmas.{words_sound, mounts_sound, check_sound}
-use Rattle.journal_lines.proofs.PartLemmas.{seconds_sound, given_sound, labels_sound, filter_sound}
+use Rattle.journal_lines.proofs.PartLemmas.{seconds_sound, labels_sound, filter_sound}
 
 -- ---- fields
 

@@ -1,6 +1,5 @@
 -- The header that a header's line says is that header.
-use Rattle.std.proofs.Common.{◌≡◌, ◌<◌, ◌≤◌, ◌^◌, ℕ, List, ◌++◌, length, get_or, Option, Some, None, Bool, false, true, codes, refl, sym, ap, ◌∙◌, subst, arith}
-use Rattle.hex.specs.Hex.{encode_lower, IsBytes}
+use Rattle.std.proofs.Common.{◌≡◌, ℕ, List, ◌++◌, get_or, Some, false, refl, sym, ap, ◌∙◌, arith}
 use Rattle.hex.proofs.HexLemmas.{decode_sized-encode_lower}
 use Rattle.serde_json.specs.Data.{Data}
 use Rattle.serde_json.specs.Written.{has_float}

@@ -4,8 +4,9 @@ use Rattle.std.specs.List.{flat_map}
 use Rattle.std.proofs.lemmas.Grind.{flat_map-append}
 use Rattle.std.proofs.lemmas.List.{length-replicate}
 use Rattle.journal_lines.specs.Stored.{due_steps, entry_steps, stored_history}
-use Rattle.journal_lines.specs.KeptJournal.{ends_behind, ends_from, ends_of}
+use Rattle.journal_lines.specs.KeptJournal.{ends_behind, ends_from, ends_of, tickets_begun}
 use Rattle.engine_text.specs.declared.entry.Entry.{Entry}
+use Rattle.engine_text.specs.declared.reply.Reply.{Reply}
 use Rattle.engine_text.specs.declared.step.Step.{Step}
 
 -- one more entry
@@ -15,6 +16,18 @@ ends_more n (x ∷ es) e = ends_more (ends_behind n x) es e
 
 pub ends_grow : (es : List Entry) (e : Entry) → ends_of (es ++ e ∷ []) ≡ ends_behind (ends_of es) e
 ends_grow es e = ends_more 0 es e
+
+-- an entry begins at most one ticket
+begun_one : (r : Reply) → tickets_begun r ≤ 1
+begun_one (Reply.Begun ticket) = omega arith
+begun_one r = omega arith
+
+few_from : (n : ℕ) (es : List Entry) → ends_from n es ≤ n + length es
+few_from n [] = omega arith
+few_from n (e ∷ es) = omega (arith, few_from (ends_behind n e) es, begun_one e.reply)
+
+pub few_ends : (es : List Entry) → ends_of es ≤ length es
+few_ends es = let from = few_from 0 es in omega (arith, from)
 
 stored : (es : List Entry) (n : ℕ) → length (stored_history es n) ≡ length (flat_map entry_steps es) + n
 stored es n =

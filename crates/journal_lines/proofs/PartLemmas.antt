@@ -13,7 +13,7 @@ use Rattle.json_laws.specs.Pairs as laws
 use Rattle.json_laws.specs.Sound as fit
 use Rattle.json_laws.specs.Utf8.{MembersHaveUtf8}
 use Rattle.json_laws.proofs.Pairs.{texts_of-put_pairs}
-use Rattle.json_laws.proofs.Sound.{null-sound, unsigned-sound, integer-sound, pairs-sound}
+use Rattle.json_laws.proofs.Sound.{null-sound, integer-sound, pairs-sound}
 use Rattle.api_json.specs.Values.{text, natural, integer, list_of, pairs_of, pairs_object}
 use Rattle.api_json.specs.Lists.{pairs_from, pairs_in}
 use Rattle.engine_text.specs.Filter.{filter_word}

@@ -1,5 +1,5 @@
 -- The tests of a call in the order of its keys.
-use Rattle.std.proofs.Common.{◌≡◌, ℕ, Bool, true, false, ◌&&◌, ◌||◌, nat_le, Option, Some, None, option_map, refl}
+use Rattle.std.proofs.Common.{◌≡◌, Bool, true, false, ◌&&◌, nat_le, Option, Some, None, option_map, refl}
 use Rattle.engine_text.specs.Soundness.{if_given, is_signal, is_policy}
 use Rattle.api_json.specs.Container.{most_retries}
 use Rattle.engine_text.specs.declared.policy.Policy.{Policy}

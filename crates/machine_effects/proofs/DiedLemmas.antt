@@ -27,7 +27,7 @@ use Rattle.machine_model.specs.Calls.Kill.{by_hand, deliver}
 use Rattle.machine_model.specs.Calls.Pause.{pause, paused, freeze_process, freeze_execs}
 use Rattle.machine_effects.specs.Fit.{died_of, CanEndBy, CanSettle, HasEnded}
 use Rattle.machine_effects.specs.Memory.{Room}
-use Rattle.machine_effects.specs.declared.marks.Mark.{Mark}
+use Rattle.container_table.specs.declared.life_change.LifeChange.{LifeChange}
 use Rattle.machine_model.proofs.ChainLemmas.{Keeps, keeps_each}
 use Rattle.machine_effects.specs.Outputs.{is_output_of}
 use Rattle.machine_effects.specs.declared.kit.Kit.{Kit}
@@ -207,7 +207,7 @@ settle_thaw_execs n kit room s h =
 settle_wake : (n : ℕ) (kit : Kit) (room : Room) → Keeps (CanSettle n kit room) (in_order (wake_parts n))
 settle_wake n kit room s h =
     settle_thaw_execs n kit room _
-    (subst (λ (z : State). CanSettle n kit room (change_life n running z)) (sym (tell_still (plain_event Action.Unpause) n s)) (settle_renew n kit room Mark.Running (λ l. refl) s h))
+    (subst (λ (z : State). CanSettle n kit room (change_life n running z)) (sym (tell_still (plain_event Action.Unpause) n s)) (settle_renew n kit room LifeChange.Running (λ l. refl) s h))
 
 pub settle_woken : (n : ℕ) (kit : Kit) (room : Room) (u : Status) → Keeps (CanSettle n kit room) (woken u n)
 settle_woken n kit room Status.Paused s h = settle_wake n kit room s h
@@ -257,7 +257,7 @@ pub end_last : (b : Bool) (number n : ℕ) (kit : Kit) (room other : Room) (s a 
 end_last b number n kit room other s a is at same h ended =
     subst (λ (r : Room). CanSettle n kit r a) (sym same)
     (subst (λ (y : State). CanSettle n kit room y) (sym at)
-    (settle_renew n kit room Mark.ByHand (λ l. refl) s (h
+    (settle_renew n kit room LifeChange.ByHand (λ l. refl) s (h
     (subst (λ (x : Bool). HasEnded (deliver x number n s).died) (sym is) (subst (λ (y : State). HasEnded (meet_signal number n y).died) at ended)))))
 
 -- by another one

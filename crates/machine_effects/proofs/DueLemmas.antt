@@ -27,7 +27,7 @@ use Rattle.machine_effects.specs.Memory.{Room}
 use Rattle.machine_effects.specs.declared.held.Fate.{Fate}
 use Rattle.machine_effects.specs.declared.held.HeldTicket.{HeldTicket}
 use Rattle.machine_effects.specs.declared.kit.Kit.{Kit}
-use Rattle.machine_effects.specs.declared.marks.Mark.{Mark}
+use Rattle.container_table.specs.declared.life_change.LifeChange.{LifeChange}
 use Rattle.machine_effects.specs.declared.held.Ready.{Ready}
 use Rattle.machine_effects.proofs.DiedToldLemmas.{behind_event}
 use Rattle.machine_effects.proofs.SettleLemmas.{found_updated, has_number, launch_alike, launch_changed, settle_clear}
@@ -96,7 +96,7 @@ pub update_same : {A : Type 0} (f g : A → A) (p : A → Bool) (xs : List A) (y
 update_same f g p [] y e h = absurd (cc)
 update_same f g p (x ∷ xs) y e h = same_either f g p (p x) x y xs (update_first p f xs) (update_first p g xs) e h (λ r. update_same f g p xs y r h)
 
-pub restarts_counted : (n : ℕ) (s : State) (c : Container) → container_numbered n s ≡ Some c → change_life n (marked (Mark.Restarted (c.life.restarts + 1))) s ≡ change_life n restarted s
+pub restarts_counted : (n : ℕ) (s : State) (c : Container) → container_numbered n s ≡ Some c → change_life n (marked (LifeChange.Restarted (c.life.restarts + 1))) s ≡ change_life n restarted s
 restarts_counted n s c e = ap (λ l. record s { containers = l }) (update_same (renewed (counted (c.life.restarts + 1))) (renewed restarted) (λ (d : Container). d.number == n) s.containers c e refl)
 
 unfound_either : {A : Type 0} (p : A → Bool) (f : A → A) (b : Bool) (x : A) (xs ys : List A) → (if b then Some x else find p xs) ≡ None → (find p xs ≡ None → xs ≡ ys) → x ∷ xs ≡ (if b then f x ∷ xs else x ∷ ys)

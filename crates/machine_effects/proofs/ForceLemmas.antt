@@ -1,5 +1,5 @@
 -- A signal that ends a container with the goal Remove sets no timer.
-use Rattle.std.proofs.Common.{◌≡◌, ℕ, ◌==◌, ◌<◌, ◌≤◌, Bool, true, false, List, [], ◌++◌, Option, Some, None, refl, ap, sym, ◌∙◌, subst, arith, find, length}
+use Rattle.std.proofs.Common.{◌≡◌, ℕ, ◌==◌, ◌<◌, ◌≤◌, Bool, true, false, List, [], ◌++◌, Option, Some, None, refl, ap, sym, ◌∙◌, subst, arith, find, length, append-nil}
 use Rattle.std.specs.Prelude.{option_map}
 use Rattle.container_table.specs.Timers.{is_timer}
 use Rattle.engine_text.specs.declared.container.Container.{Container}
@@ -30,7 +30,6 @@ use Rattle.machine_effects.specs.Memory.{Room}
 use Rattle.machine_effects.specs.declared.kit.Kit.{Kit}
 use Rattle.machine_effects.proofs.DiedLemmas.{none_found}
 use Rattle.machine_effects.proofs.SettleLemmas.{fewer, found_updated, tell_still}
-use Rattle.machine_effects.proofs.SiftLemmas.{nil_end}
 
 -- there are at most so many timers, and the container, if it stands, has the goal Remove
 pub record GoesAway (n k : ℕ) (s : State) : Type 0 where
@@ -198,7 +197,7 @@ forced_died n s a died h1 h2 =
     let last : List Died = (if_it_lives (is_live (Owner.Container n) z) n z).died in
     let none : (tell_of (kill_event 9) n s).died ≡ [] = none_found (container_numbered n s) _ (λ c y. refl) s in
     h2 ∙ (ap (λ y. (meet_signal 9 n y).died) (h1 ∙ ap (change_life n to_remove) (sym (tell_still (kill_event 9) n s)))
-    ∙ (sym (nil_end m) ∙ (ap (λ l. m ++ l) (sym (quiet_end (is_live (Owner.Container n) z) n z)) ∙ ap (λ l. l ++ (m ++ last)) (sym none))))
+    ∙ (sym (append-nil m) ∙ (ap (λ l. m ++ l) (sym (quiet_end (is_live (Owner.Container n) z) n z)) ∙ ap (λ l. l ++ (m ++ last)) (sym none))))
 
 -- what follows is ready where SIGKILL ends the process
 pub end_forced : (n : ℕ) (kit : Kit) (room other : Room) (s a : State) → a ≡ change_life n to_remove s → other ≡ room → CanEndAs to_remove (kill_to_remove n) n kit room s → CanEndBy (meet_signal 9 n) n kit other a

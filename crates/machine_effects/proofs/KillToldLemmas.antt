@@ -1,6 +1,6 @@
 -- What is told before a stop, a restart, a forced removal or a stop deadline is what it tells.
 use Rattle.std.specs.Option.{unwrap_or}
-use Rattle.std.proofs.Common.{◌≡◌, ℕ, ◌+◌, ◌*◌, ℤ, pos, negsuc, Bool, true, false, List, [], ◌∷◌, ◌++◌, Option, Some, None, refl, ap, sym, ◌∙◌}
+use Rattle.std.proofs.Common.{◌≡◌, ℕ, ◌+◌, ◌*◌, ℤ, pos, negsuc, Bool, true, false, List, [], ◌∷◌, ◌++◌, Option, Some, None, refl, ap, sym, ◌∙◌, append-nil}
 use Rattle.std.specs.List.{flat_map}
 use Rattle.container_table.specs.Timers.{with_timer}
 use Rattle.engine_text.specs.declared.exec.Exec.{Exec}
@@ -30,13 +30,12 @@ use Rattle.machine_model.specs.Effects.Meet.{meet_signal}
 use Rattle.machine_model.specs.Tickets.{begun}
 use Rattle.std.proofs.lemmas.Bool.{false≢true}
 use Rattle.machine_model.specs.Effects.EndMain.{ended}
-use Rattle.machine_effects.specs.Foretold.{running_numbers, told_code, told_exec, told_goal, told_mounts, told_number, told_status}
+use Rattle.machine_effects.specs.Foretold.{running_numbers, told_code, told_exec, told_mounts, told_number, told_status}
 use Rattle.engine_text.specs.declared.event.Action.{Action}
 use Rattle.machine_effects.specs.Marks.{renewed}
 use Rattle.machine_effects.specs.ToldKill.{aimed, told_kill}
 use Rattle.machine_effects.specs.ToldMeet.{told_meet, told_wake, told_thaw, thawed_code, running_after}
 use Rattle.machine_effects.proofs.SettleLemmas.{has_number, tell_still}
-use Rattle.machine_effects.proofs.SiftLemmas.{nil_end}
 use Rattle.machine_effects.proofs.ToldLemmas.{found_renewed, told_at}
 use Rattle.machine_effects.proofs.MeetToldLemmas.{StandOnce, IsLike, code_kept, meet_told, status_like, thaws_marked}
 
@@ -214,7 +213,7 @@ kill_to_remove_told n s c o code found named single is =
     let z : State = (meet_signal 9 n s1).state in
     ap (λ y. (tell_of (kill_event 9) n s).events ++ ((meet_signal 9 n (change_life n to_remove y)).events ++ (if_it_lives (is_live (Owner.Container n) (meet_signal 9 n (change_life n to_remove y)).state) n (meet_signal 9 n (change_life n to_remove y)).state).events)) (tell_still (kill_event 9) n s)
     ∙ (ap (λ l. (tell_of (kill_event 9) n s).events ++ ((meet_signal 9 n s1).events ++ l)) (if_quiet (is_live (Owner.Container n) z) n z)
-    ∙ (ap (λ l. (tell_of (kill_event 9) n s).events ++ l) (nil_end (meet_signal 9 n s1).events ∙ aimed_told to_remove Goal.Remove 9 n s c o code (remove_aims c.life) found named single is)
+    ∙ (ap (λ l. (tell_of (kill_event 9) n s).events ++ l) (append-nil (meet_signal 9 n s1).events ∙ aimed_told to_remove Goal.Remove 9 n s c o code (remove_aims c.life) found named single is)
     ∙ by_number 9 n s c (aimed Goal.Remove c) o code found))
 
 -- ---- behind the begin of a ticket

@@ -1,10 +1,8 @@
 pub mod ListLemmas
 pub mod UpdateLemmas
-pub mod MarkLemmas
 pub mod LifeLemmas
 pub mod RemoveLemmas
 pub mod RisingLemmas
-pub mod SiftLemmas
 pub mod LastLemmas
 pub mod MomentPlaceLemmas
 pub mod TimeLemmas
@@ -37,3 +35,5 @@ pub mod NewExecLemmas
 pub mod ExecStartLemmas
 pub mod VolumeLemmas
 pub mod ForceLemmas
+pub mod ProcessLemmas
+pub mod ExecListLemmas

@@ -1,34 +1,56 @@
--- A container's life is swapped out, changed and swapped in again; a record comes into its log.
-use Rattle.std.proofs.Common.{◌≡◌, ℕ, ◌+◌, ◌==◌, Bool, true, false, List, [], ◌∷◌, ◌++◌, Option, Some, None, refl, ap, sym, ◌∙◌, subst, find, if◌then◌else◌}
+-- A container's life is changed at its place; a record comes into its log.
+use Rattle.std.proofs.Common.{◌≡◌, ℕ, zero, suc, ◌<◌, ◌==◌, Bool, true, false, List, [], ◌∷◌, ◌++◌, Option, Some, None, refl, ap, sym, ◌∙◌, subst, find, length, get_or, position, if◌then◌else◌, inl, inr, arith}
+use Rattle.std.specs.Prelude.{slice_get}
+use Rattle.std.specs.List.{AllByRecursion}
+use Rattle.std.proofs.Math.ListN.{set}
+use Rattle.std.proofs.lemmas.List.Quantifiers.{position-Some}
+use Rattle.std.proofs.lemmas.Option.{slice_get_cases}
 use Rattle.engine_text.specs.declared.container.Container.{Container}
 use Rattle.engine_text.specs.declared.container.Life.{Life}
 use Rattle.engine_text.specs.declared.log.LogRecord.{LogRecord}
 use Rattle.engine_text.specs.declared.script.Stream.{Stream}
-use Rattle.container_table.specs.Logs.{IsLifeOf, recorded}
-use Rattle.container_table.specs.Tables.{Holdings, numbered, relived}
-use Rattle.container_table.proofs.LifeLemmas.{changed_twice}
+use Rattle.engine_text.proofs.PlaceLemmas.{update_at, update_nowhere}
+use Rattle.container_table.specs.Blank.{nothing_held}
+use Rattle.container_table.specs.LifeChanges.{with_change, with_launch}
+use Rattle.container_table.specs.Lists.{at_place, update_first}
+use Rattle.container_table.specs.Logs.{container_in, recorded}
+use Rattle.container_table.specs.declared.life_change.LifeChange.{LifeChange}
+use Rattle.container_table.proofs.SearchLemmas.{all_at}
 use Rattle.machine_model.specs.Effects.Meet.{logged, record_of}
-use Rattle.machine_effects.specs.Marks.{launched_as, launched_at, renewed, with_life}
+use Rattle.machine_effects.specs.Marks.{launched_at, marked, renewed, with_life}
 
--- the table between and after two swaps
-pub swapped : (n : ℕ) (f : Life → Life) → ((l : Life) (log : List LogRecord) → f (record l { log = log }) ≡ record (f l) { log = log }) → (given out last : Life) (h k m : Holdings)
-    → k ≡ record h { containers = relived n given h.containers } → IsLifeOf out (numbered n h.containers) → last ≡ f out → m ≡ record k { containers = relived n last k.containers }
-    → m ≡ record h { containers = with_life n f h.containers }
-swapped n f keeps given out last h k m first is changed second =
-    second
-    ∙ (ap (λ (x : Holdings). record x { containers = relived n last x.containers }) first
-    ∙ (ap (λ (l : Life). record h { containers = relived n l (relived n given h.containers) }) changed
-    ∙ ap (λ (cs : List Container). record h { containers = cs }) (changed_twice n f keeps given out h.containers is)))
+-- ---- at its place
 
-pub launched_log : (moment pid : ℕ) (l : Life) (log : List LogRecord) → launched_at pid moment (record l { log = log }) ≡ record (launched_at pid moment l) { log = log }
-launched_log moment pid l log = refl
+set_place : {A : Type 0} (f : A → A) (xs : List A) (i : ℕ) (d : A) → i < length xs → at_place f i xs ≡ set xs i (f (get_or xs i d))
+set_place f [] i d less = absurd (omega arith)
+set_place f (x ∷ xs) zero d less = refl
+set_place f (x ∷ xs) (suc i) d less = ap (λ l. x ∷ l) (set_place f xs i d (omega arith))
 
--- the start that is counted is one more than those of the life that was swapped out
-pub next_start : (n moment pid : ℕ) (out last : Life) (c : Container) (cs : List Container) → numbered n cs ≡ Some c → IsLifeOf out (numbered n cs)
-    → last ≡ launched_as (c.life.starts + 1) pid moment out → last ≡ launched_at pid moment out
-next_start n moment pid out last c cs found is e =
-    let same : c.life ≡ record out { log = c.life.log } = subst (λ (o : Option Container). IsLifeOf out o) found is in
-    e ∙ ap (λ (k : ℕ). launched_as (k + 1) pid moment out) (ap (λ (l : Life). l.starts) same)
+no_container : Container
+no_container = container_in nothing_held
+
+pub place_bound : (n : ℕ) (cs : List Container) (i : ℕ) → position (λ c. c.number == n) cs ≡ Some i → i < length cs
+place_bound n cs i e = (position-Some (λ (c : Container). c.number == n) cs i no_container e).0
+
+-- what is changed at its place is what its number names
+by_place : (n : ℕ) (f : Container → Container) (cs : List Container) (i : ℕ) → position (λ c. c.number == n) cs ≡ Some i → at_place f i cs ≡ update_first (λ c. c.number == n) f cs
+by_place n f cs i e = set_place f cs i no_container (place_bound n cs i e) ∙ update_at (λ (c : Container). c.number == n) f cs i no_container e
+
+pub changed_here : (n : ℕ) (change : LifeChange) (cs : List Container) (i : ℕ) → position (λ c. c.number == n) cs ≡ Some i → at_place (with_change change) i cs ≡ with_life n (marked change) cs
+changed_here n change cs i e = by_place n (with_change change) cs i e
+
+pub launched_here : (n pid moment : ℕ) (cs : List Container) (i : ℕ) → position (λ c. c.number == n) cs ≡ Some i → at_place (with_launch pid moment) i cs ≡ with_life n (launched_at pid moment) cs
+launched_here n pid moment cs i e = by_place n (with_launch pid moment) cs i e
+
+pub changed_nowhere : (n : ℕ) (f : Life → Life) (cs : List Container) → position (λ c. c.number == n) cs ≡ None → cs ≡ with_life n f cs
+changed_nowhere n f cs e = sym (update_nowhere (λ (c : Container). c.number == n) (renewed f) cs e)
+
+-- what holds of each holds of the one at a place
+pub all_got : (P : Container → Type 0) (cs : List Container) (i : ℕ) (c : Container) → AllByRecursion P cs → slice_get cs i ≡ Some c → P c
+all_got P cs i c all e = elim (slice_get_cases cs i).1 [
+  | inl q ↦ let same : Some q.0 ≡ Some c = sym q.2 ∙ e in let is : q.0 ≡ c = cc in subst P (q.3 ∙ is) (all_at P cs i q.0 all q.1)
+  | inr q ↦ let none : None ≡ Some c = sym q.1 ∙ e in absurd (cc)
+]
 
 none_cons : {A : Type 0} (b : Bool) (x : A) (r : Option A) → (if b then Some x else r) ≡ None → (b ≡ false) × (r ≡ None)
 none_cons true x r e = absurd (cc)

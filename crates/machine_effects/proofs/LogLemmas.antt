@@ -1,6 +1,6 @@
 -- The log of an owner among the outputs, and among the logs that are kept.
 use Rattle.std.specs.Prelude.{option_map}
-use Rattle.std.proofs.Common.{◌≡◌, ℕ, ◌+◌, ◌<◌, ◌≤◌, List, [], ◌∷◌, ◌++◌, Bool, true, false, Option, Some, None, cond, drop, find, get_or, length, refl, ap, sym, ◌∙◌}
+use Rattle.std.proofs.Common.{◌≡◌, ℕ, ◌+◌, ◌<◌, ◌≤◌, List, ◌∷◌, ◌++◌, Option, Some, None, drop, find, get_or, length, refl, ap, sym, ◌∙◌}
 use Rattle.std.specs.List.{flat_map}
 use Rattle.std.specs.Option.{option_or}
 use Rattle.std.proofs.lemmas.List.{at_drop_more, at_drop_all}
@@ -11,23 +11,6 @@ use Rattle.engine_text.specs.declared.log.KeptLogs.{KeptLogs}
 use Rattle.engine_text.specs.declared.log.OwnedLog.{OwnedLog}
 use Rattle.engine_text.specs.declared.owner.Owner.{Owner}
 use Rattle.machine_model.specs.LogStream.{log_among}
-use Rattle.machine_effects.specs.Held.{output_in, outputs_in}
-use Rattle.machine_effects.specs.declared.held.HeldOutput.{HeldOutput}
-
--- the records of an output that was found
-abbrev pub held_log : Option HeldOutput → Option (List LogRecord)
-held_log None = None
-held_log (Some h) = Some h.log.records
-
-first_by : (b : Bool) (h : HeldOutput) (o : Option OwnedLog) (q : Option HeldOutput) → option_map (λ (l : OwnedLog). l.log) o ≡ held_log q
-    → option_map (λ (l : OwnedLog). l.log) (cond b (Some (output_in h)) o) ≡ held_log (cond b (Some h) q)
-first_by true h o q e = refl
-first_by false h o q e = e
-
-pub among_outputs : (owner : Owner) (held : List HeldOutput) → log_among owner (outputs_in held) ≡ held_log (find (λ h. same_owner h.owner owner) held)
-among_outputs owner [] = refl
-among_outputs owner (h ∷ hs) =
-    first_by (same_owner h.owner owner) h (find (λ l. same_owner l.owner owner) (outputs_in hs)) (find (λ x. same_owner x.owner owner) hs) (among_outputs owner hs)
 
 in_either : (a b : Option OwnedLog) → option_map (λ (l : OwnedLog). l.log) (option_or a b) ≡ option_or (option_map (λ (l : OwnedLog). l.log) a) (option_map (λ (l : OwnedLog). l.log) b)
 in_either None b = refl

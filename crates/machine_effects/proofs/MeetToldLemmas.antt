@@ -1,5 +1,5 @@
 -- What is told before a signal is met is what its meeting tells, whatever the container's status.
-use Rattle.std.proofs.Common.{◌≡◌, ℕ, ◌+◌, ◌==◌, Bool, true, false, List, [], ◌∷◌, ◌++◌, Option, Some, None, refl, ap, sym, ◌∙◌, find, map, if◌then◌else◌}
+use Rattle.std.proofs.Common.{◌≡◌, ℕ, ◌+◌, ◌==◌, Bool, true, false, List, [], ◌∷◌, ◌++◌, Option, Some, None, refl, ap, sym, ◌∙◌, find, map, if◌then◌else◌, append-nil}
 use Rattle.std.specs.List.{flat_map}
 use Rattle.engine_text.specs.Scripts.{Program}
 use Rattle.engine_text.specs.Owner.{same_owner}
@@ -28,8 +28,7 @@ use Rattle.machine_effects.specs.Foretold.{told_number, told_mounts, told_launch
 use Rattle.machine_effects.specs.Marks.{renewed}
 use Rattle.machine_effects.specs.ToldMeet.{thawed_code, running_after, told_thaw, told_wake, told_meet, told_deliver}
 use Rattle.machine_effects.proofs.SettleLemmas.{tell_still}
-use Rattle.machine_effects.proofs.SiftLemmas.{nil_end}
-use Rattle.machine_effects.proofs.ToldLemmas.{AreAlike, end_told_of, found_renewed, running_changed, same_launch, told_at}
+use Rattle.machine_effects.proofs.ToldLemmas.{AreAlike, end_told_of, found_renewed, running_changed, told_at}
 use Rattle.machine_effects.proofs.MeetLemmas.{exec_marked, send_told}
 use Rattle.machine_effects.proofs.WakeLemmas.{thaws_told, thaws_alike}
 use Rattle.machine_effects.proofs.WokenLemmas.{differ_running, same_running, runs_after}
@@ -176,7 +175,7 @@ wake_told n s c found single =
     thaws_told (running_execs n s1) s1 s1 (record { containers = refl; clock = refl; execs = λ k. refl }) (differ_running n s1 single.execs) (same_running n s1) in
     ap (λ z. (tell_of (plain_event Action.Unpause) n s).events ++ ((thaw_execs n (change_life n running z)).events ++ [])) (tell_still (plain_event Action.Unpause) n s)
     ∙ (ap (λ l. l ++ ((thaw_execs n s1).events ++ [])) (told_at (plain_event Action.Unpause) n s c found)
-    ∙ ap (λ l. plain_event Action.Unpause c s.clock ∷ l) (nil_end (thaw_execs n s1).events ∙ (thaws ∙ thaws_marked (running_numbers n s) n running s)))
+    ∙ ap (λ l. plain_event Action.Unpause c s.clock ∷ l) (append-nil (thaw_execs n s1).events ∙ (thaws ∙ thaws_marked (running_numbers n s) n running s)))
 
 pub paused_status : (u : Status) (o : Option Program) (code t : ℕ) (c : Container) → c.life.status ≡ u → u ≡ Status.Paused
     → told_status Status.Running o (renewed (ended code t) (renewed running c)) t ≡ told_status c.life.status o (renewed (ended code t) c) t

@@ -1,25 +1,26 @@
--- The first of the names that is free is found one after the other.
+-- The first number whose name is free is found one after the other.
 use Rattle.std.specs.Option.{is_some}
-use Rattle.std.proofs.Common.{◌≡◌, ℕ, zero, suc, ◌+◌, ◌-◌, ◌<◌, true, false, List, Option, Some, None, refl, ap, sym, ◌∙◌, arith, if◌then◌else◌}
+use Rattle.std.proofs.Common.{◌≡◌, ℕ, zero, suc, ◌+◌, ◌-◌, ◌<◌, true, false, List, Option, Some, None, refl, ap, sym, ◌∙◌, arith, not}
 use Rattle.engine_text.specs.declared.container.Container.{Container}
 use Rattle.machine_model.specs.Consistency.{is_there}
 use Rattle.machine_model.specs.Names.{holder, anonymous, first_free}
+use Rattle.machine_model.proofs.NameLemmas.{first_here, first_next}
 
-free_by : (o : Option Container) (k n : ℕ) (cs : List Container) → holder (anonymous n) cs ≡ o → is_there o ≡ false → first_free (suc k) n cs ≡ anonymous n
-free_by None k n cs e free = ap (λ q. (if is_some q then (first_free k (n + 1) cs) else (anonymous n))) e
-free_by (Some c) k n cs e free = absurd (cc)
+free_by : (o : Option Container) → is_there o ≡ false → not (is_some o) ≡ true
+free_by None free = refl
+free_by (Some c) free = absurd (cc)
 
-pub free_here : (k n : ℕ) (cs : List Container) → is_there (holder (anonymous n) cs) ≡ false → first_free k n cs ≡ anonymous n
-free_here zero n cs free = refl
-free_here (suc k) n cs free = free_by (holder (anonymous n) cs) k n cs refl free
+taken_by : (o : Option Container) → is_there o ≡ true → not (is_some o) ≡ false
+taken_by None taken = absurd (cc)
+taken_by (Some c) taken = refl
 
-taken_by : (o : Option Container) (k n : ℕ) (cs : List Container) → holder (anonymous n) cs ≡ o → is_there o ≡ true → first_free (suc k) n cs ≡ first_free k (n + 1) cs
-taken_by None k n cs e taken = absurd (cc)
-taken_by (Some c) k n cs e taken = ap (λ q. (if is_some q then (first_free k (n + 1) cs) else (anonymous n))) e
+pub free_here : (k n : ℕ) (cs : List Container) → is_there (holder (anonymous n) cs) ≡ false → first_free k n cs ≡ n
+free_here zero n cs free = omega arith
+free_here (suc k) n cs free = first_here k n cs (free_by (holder (anonymous n) cs) free)
 
-pub taken_here : (k n : ℕ) (cs : List Container) → 0 < k → is_there (holder (anonymous n) cs) ≡ true → first_free k n cs ≡ first_free (k - 1) (n + 1) cs
+taken_here : (k n : ℕ) (cs : List Container) → 0 < k → is_there (holder (anonymous n) cs) ≡ true → first_free k n cs ≡ first_free (k - 1) (n + 1) cs
 taken_here zero n cs low taken = absurd (omega (arith, low))
-taken_here (suc k) n cs low taken = taken_by (holder (anonymous n) cs) k n cs refl taken ∙ ap (λ m. first_free m (n + 1) cs) (omega arith)
+taken_here (suc k) n cs low taken = first_next k n cs (taken_by (holder (anonymous n) cs) taken) ∙ ap (λ m. first_free m (n + 1) cs) (omega arith)
 
 -- of the names that are left, one less
 pub following : (most i n : ℕ) (cs : List Container) → i < most → is_there (holder (anonymous (n + i)) cs) ≡ true → first_free (most - (i + 1)) (n + (i + 1)) cs ≡ first_free (most - i) (n + i) cs

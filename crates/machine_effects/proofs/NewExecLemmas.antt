@@ -4,7 +4,7 @@ use Rattle.engine_text.specs.declared.exec.Exec.{Exec}
 use Rattle.engine_text.specs.declared.log.OwnedLog.{OwnedLog}
 use Rattle.machine_model.specs.Calls.ExecCreate.{with_exec}
 use Rattle.machine_model.specs.State.{State}
-use Rattle.machine_effects.specs.NewExecs.{empty_output}
+use Rattle.exec_table.specs.Execs.{empty_output}
 
 -- a state with these parts is the state after it
 pub added_exec : (x : Exec) (s : State) (es : List Exec) (os : List OwnedLog) (o : OwnedLog) → es ≡ s.execs ++ x ∷ [] → os ≡ s.outputs ++ o ∷ [] → o ≡ empty_output x.number

@@ -9,7 +9,7 @@ use Rattle.proc_kernel.specs.Tables.{effect_of, process_of}
 use Rattle.machine_model.specs.State.{State}
 use Rattle.machine_model.specs.Effects.Meet.{by_effect, step_process, stepped}
 use Rattle.machine_effects.specs.Fit.{CanSettle}
-use Rattle.machine_effects.specs.Memory.{Memory, Room}
+use Rattle.machine_effects.specs.Memory.{Memory}
 use Rattle.machine_effects.specs.Ops.{HasRecordRoom, CanEnd}
 use Rattle.machine_effects.specs.Rooms.{FitsLog, FitsOutput}
 use Rattle.machine_effects.specs.declared.kit.Kit.{Kit}

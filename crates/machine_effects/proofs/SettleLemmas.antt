@@ -34,7 +34,7 @@ use Rattle.machine_effects.specs.Outputs.{is_output_of}
 use Rattle.machine_effects.specs.declared.kit.Kit.{Kit}
 use Rattle.machine_effects.specs.Effects.EndMain.{begun, followed, goal_effect, concluded}
 use Rattle.machine_effects.proofs.UpdateLemmas.{All_updated, length_updated}
-use Rattle.machine_effects.specs.declared.marks.Mark.{Mark}
+use Rattle.container_table.specs.declared.life_change.LifeChange.{LifeChange}
 
 -- ---- tellings change nothing
 
@@ -54,41 +54,41 @@ found_updated p f (x ∷ xs) keeps = found_either p f (p x) x xs (update_first p
 
 -- ---- marks
 
-pub mark_words : (m : Mark) (l : Life) → (marked m l).words ≡ l.words
-mark_words Mark.ByHand l = refl
-mark_words Mark.Running l = refl
-mark_words Mark.Paused l = refl
-mark_words Mark.Exited l = refl
-mark_words Mark.Cancelled l = refl
-mark_words Mark.Died l = refl
-mark_words Mark.Removing l = refl
-mark_words Mark.Stopping l = refl
-mark_words Mark.ToRestart l = refl
-mark_words Mark.Afresh l = refl
-mark_words Mark.NoGoal l = refl
-mark_words Mark.ToRemove l = refl
-mark_words (Mark.Restarted count) l = refl
-mark_words (Mark.Waiting delay) l = refl
-mark_words (Mark.Ended code moment) l = refl
-mark_words (Mark.Governed policy) l = refl
+pub mark_words : (m : LifeChange) (l : Life) → (marked m l).words ≡ l.words
+mark_words LifeChange.ByHand l = refl
+mark_words LifeChange.Running l = refl
+mark_words LifeChange.Paused l = refl
+mark_words LifeChange.Exited l = refl
+mark_words LifeChange.Cancelled l = refl
+mark_words LifeChange.Died l = refl
+mark_words LifeChange.Removing l = refl
+mark_words LifeChange.Stopping l = refl
+mark_words LifeChange.ToRestart l = refl
+mark_words LifeChange.Afresh l = refl
+mark_words LifeChange.NoGoal l = refl
+mark_words LifeChange.ToRemove l = refl
+mark_words (LifeChange.Restarted count) l = refl
+mark_words (LifeChange.Waiting delay) l = refl
+mark_words (LifeChange.Ended code moment) l = refl
+mark_words (LifeChange.Governed policy) l = refl
 
-pub mark_starts : (m : Mark) (l : Life) → (marked m l).starts ≡ l.starts
-mark_starts Mark.ByHand l = refl
-mark_starts Mark.Running l = refl
-mark_starts Mark.Paused l = refl
-mark_starts Mark.Exited l = refl
-mark_starts Mark.Cancelled l = refl
-mark_starts Mark.Died l = refl
-mark_starts Mark.Removing l = refl
-mark_starts Mark.Stopping l = refl
-mark_starts Mark.ToRestart l = refl
-mark_starts Mark.Afresh l = refl
-mark_starts Mark.NoGoal l = refl
-mark_starts Mark.ToRemove l = refl
-mark_starts (Mark.Restarted count) l = refl
-mark_starts (Mark.Waiting delay) l = refl
-mark_starts (Mark.Ended code moment) l = refl
-mark_starts (Mark.Governed policy) l = refl
+pub mark_starts : (m : LifeChange) (l : Life) → (marked m l).starts ≡ l.starts
+mark_starts LifeChange.ByHand l = refl
+mark_starts LifeChange.Running l = refl
+mark_starts LifeChange.Paused l = refl
+mark_starts LifeChange.Exited l = refl
+mark_starts LifeChange.Cancelled l = refl
+mark_starts LifeChange.Died l = refl
+mark_starts LifeChange.Removing l = refl
+mark_starts LifeChange.Stopping l = refl
+mark_starts LifeChange.ToRestart l = refl
+mark_starts LifeChange.Afresh l = refl
+mark_starts LifeChange.NoGoal l = refl
+mark_starts LifeChange.ToRemove l = refl
+mark_starts (LifeChange.Restarted count) l = refl
+mark_starts (LifeChange.Waiting delay) l = refl
+mark_starts (LifeChange.Ended code moment) l = refl
+mark_starts (LifeChange.Governed policy) l = refl
 
 named_by : (f : Life → Life) → ((l : Life) → (f l).words ≡ l.words) → ((l : Life) → (f l).starts ≡ l.starts) → (script : Option Program) (o : Option Container) → ((c : Container) → o ≡ Some c → script ≡ program_of c.life.words (c.life.starts + 1))
     → (c : Container) → option_map (renewed f) o ≡ Some c → script ≡ program_of c.life.words (c.life.starts + 1)
@@ -197,7 +197,7 @@ few_changed n f st s few =
     All_updated (λ (c : Container). c.life.starts < 2 ^ 63) (λ (c : Container). c.life.starts < 2 ^ 63) (λ (c : Container). c.number == n) (renewed f)
     (λ c p. subst (λ k. k < 2 ^ 63) (sym (st c.life)) p) (λ c p. p) s.containers few
 
-pub few_renew : (n : ℕ) (m : Mark) (s : State) → AreFew s.containers → AreFew (change_life n (marked m) s).containers
+pub few_renew : (n : ℕ) (m : LifeChange) (s : State) → AreFew s.containers → AreFew (change_life n (marked m) s).containers
 few_renew n m s few = few_changed n (marked m) (mark_starts m) s few
 
 -- a change of the life that leaves its words and its starts
@@ -208,11 +208,11 @@ launch_changed n script f ws st s h = record {
   named = λ c e. named_by f ws st script (container_numbered n s) h.named c (sym (found_updated (λ (d : Container). d.number == n) (renewed f) s.containers (λ d. refl)) ∙ e);
 }
 
-pub launch_renew : (n : ℕ) (script : Option Program) (m : Mark) (s : State) → CanLaunch n script s → CanLaunch n script (change_life n (marked m) s)
+pub launch_renew : (n : ℕ) (script : Option Program) (m : LifeChange) (s : State) → CanLaunch n script s → CanLaunch n script (change_life n (marked m) s)
 launch_renew n script m s h = launch_changed n script (marked m) (mark_words m) (mark_starts m) s h
 
 -- so does one that leaves its goal too
-next_renew : (n : ℕ) (script : Option Program) (m : Mark) → ((l : Life) → (marked m l).goal ≡ l.goal) → (s : State) → CanLaunchNext n script s → CanLaunchNext n script (change_life n (marked m) s)
+next_renew : (n : ℕ) (script : Option Program) (m : LifeChange) → ((l : Life) → (marked m l).goal ≡ l.goal) → (s : State) → CanLaunchNext n script s → CanLaunchNext n script (change_life n (marked m) s)
 next_renew n script m gl s h = record {
   few = few_renew n m s h.few;
   pid = h.pid;
@@ -220,7 +220,7 @@ next_renew n script m gl s h = record {
 }
 
 -- a mark of the container that leaves its goal
-pub settle_renew : (n : ℕ) (kit : Kit) (room : Room) (m : Mark) → ((l : Life) → (marked m l).goal ≡ l.goal) → (s : State) → CanSettle n kit room s → CanSettle n kit room (change_life n (marked m) s)
+pub settle_renew : (n : ℕ) (kit : Kit) (room : Room) (m : LifeChange) → ((l : Life) → (marked m l).goal ≡ l.goal) → (s : State) → CanSettle n kit room s → CanSettle n kit room (change_life n (marked m) s)
 settle_renew n kit room m gl s h = record {
   clock = h.clock;
   launch = next_renew n kit.script m gl s h.launch;
@@ -265,7 +265,7 @@ settle_processes n kit room es s h = record {
 
 pub settle_die : (n : ℕ) (kit : Kit) (room : Room) (code : ℕ) → Keeps (CanSettle n kit room) (die code n)
 settle_die n kit room code s h =
-    settle_renew n kit room (Mark.Ended code s.clock) (λ l. refl) (drop_process (Owner.Container n) s)
+    settle_renew n kit room (LifeChange.Ended code s.clock) (λ l. refl) (drop_process (Owner.Container n) s)
     (settle_processes n kit room (drop_process (Owner.Container n) s).processes s h)
 
 fewer_either : (b : Bool) (x : DueAction) (xs ys : List DueAction) → length ys ≤ length xs → length (if b then xs else x ∷ ys) ≤ suc (length xs)

@@ -1,17 +1,12 @@
 -- What the start of an exec does to its process (Docker Engine API v1.43, ExecStart; own: what it needs).
-use Rattle.std.specs.Prelude.{ℕ, ◌<◌, ◌^◌, Bool, true, Some}
+use Rattle.std.specs.Prelude.{ℕ, ◌<◌, ◌^◌, Bool, Some}
 use Rattle.engine_text.specs.Scripts.{Program}
-use Rattle.engine_text.specs.declared.exec.Exec.{Exec}
 use Rattle.engine_text.specs.declared.owner.Owner.TheVariants.{Exec as OfExec}
 use Rattle.machine_model.specs.Calls.ExecStart.{exec_room, spawn_exec, started}
 use Rattle.machine_model.specs.Chain.{Effect, with_exec}
 use Rattle.machine_model.specs.Effects.Launch.{spawn}
 use Rattle.machine_model.specs.State.{State, change_exec}
 use Rattle.machine_effects.specs.Memory.{Memory}
-
--- It has started, with that process id.
-abbrev pub started_as : ℕ → Exec → Exec
-started_as pid x = record x { started = true; pid = pid }
 
 -- The exec has started, and its process is spawned.
 abbrev pub exec_begun : ℕ → Program → Bool → State → State

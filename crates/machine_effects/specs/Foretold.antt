@@ -11,7 +11,7 @@ use Rattle.engine_text.specs.declared.status.Status.{Status}
 use Rattle.machine_model.specs.State.{State, container_numbered, exec_numbered, running_execs}
 use Rattle.restart_policy.specs.declared.decision.Decision.{Decision}
 use Rattle.restart_policy.specs.declared.decision.Decision.TheVariants.{Stay, Again}
-use Rattle.machine_model.specs.Effects.EndMain.{ended, decision_at}
+use Rattle.machine_model.specs.Effects.EndMain.{ended, decision_at, is_dead}
 use Rattle.machine_effects.specs.Marks.{renewed}
 use Rattle.machine_effects.specs.declared.foretell_end.Ending.{Ending}
 use Rattle.machine_model.specs.EventTexts.{plain_event, die_event, exec_die_event, mount_event}
@@ -65,14 +65,13 @@ told_goal Goal.Restart script c t = plain_event Action.Stop c t ∷ (told_launch
 told_goal Goal.None script c t = told_follow (decision_at t c.life) c.life.auto_remove (plain_event Action.Destroy c t)
 
 -- What follows an end, told so: in a dead container nothing.
+abbrev pub told_unless_dead : Bool → Option Program → Container → ℕ → List Event
+told_unless_dead true script c t = []
+told_unless_dead false script c t = told_goal c.life.goal script c t
+
+-- By the status in which it ended.
 abbrev pub told_status : Status → Option Program → Container → ℕ → List Event
-told_status Status.Dead script c t = []
-told_status Status.Created script c t = told_goal c.life.goal script c t
-told_status Status.Running script c t = told_goal c.life.goal script c t
-told_status Status.Paused script c t = told_goal c.life.goal script c t
-told_status Status.Restarting script c t = told_goal c.life.goal script c t
-told_status Status.Removing script c t = told_goal c.life.goal script c t
-told_status Status.Exited script c t = told_goal c.life.goal script c t
+told_status status = told_unless_dead (is_dead status)
 
 -- The end of the container's main process with that code, these execs of it running then.
 abbrev pub told_end : List ℕ → ℕ → Container → Option Program → State → List Event

@@ -5,20 +5,24 @@ use Rattle.engine_text.specs.declared.container.Life.{Life}
 use Rattle.engine_text.specs.declared.ticket.Asked.{Asked}
 use Rattle.machine_model.specs.State.{State}
 use Rattle.machine_model.specs.Chain.{Effect, and_then, change, renew, tell_of}
-use Rattle.machine_model.specs.Calls.Restart.{to_restart}
-use Rattle.machine_model.specs.Calls.Stop.{stopping}
 use Rattle.machine_model.specs.EventTexts.{kill_event}
 use Rattle.machine_model.specs.Effects.Halt.{set_deadline}
 use Rattle.machine_model.specs.Effects.Meet.{meet_signal}
 use Rattle.machine_effects.specs.Fit.{AreTimely, CanEndAs}
+use Rattle.machine_effects.specs.Marks.{marked}
 use Rattle.machine_effects.specs.Memory.{Memory, HasRoom}
 use Rattle.machine_effects.specs.declared.kit.Kit.{Kit}
 use Rattle.machine_effects.specs.declared.halting.Halting.{Halting}
+use Rattle.container_table.specs.declared.life_change.LifeChange.{LifeChange}
+
+-- What the call notes in the container's life.
+abbrev pub noted_by : Halting → LifeChange
+noted_by Halting.Stop = LifeChange.Stopping
+noted_by Halting.Restart = LifeChange.ToRestart
 
 -- The marks of the call.
 abbrev pub mark_of : Halting → Life → Life
-mark_of Halting.Stop = stopping
-mark_of Halting.Restart = to_restart
+mark_of halting = marked (noted_by halting)
 
 -- The goal that the container has then.
 abbrev pub goal_of : Halting → Goal

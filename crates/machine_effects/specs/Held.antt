@@ -1,7 +1,6 @@
 -- own: what stands in memory, as what it means.
 use Rattle.std.specs.Prelude.{ℕ, ◌==◌, List, Option, Some, None, map, if◌then◌else◌}
 use Rattle.engine_text.specs.Id.{id_of}
-use Rattle.engine_text.specs.declared.log.OwnedLog.{OwnedLog}
 use Rattle.engine_text.specs.declared.reply.Reply.{Reply}
 use Rattle.engine_text.specs.declared.reply.Reply.TheVariants.{Answer}
 use Rattle.engine_text.specs.declared.ticket.Asked.{Asked}
@@ -12,17 +11,8 @@ use Rattle.machine_model.specs.Outcome.{message_text}
 use Rattle.machine_model.specs.Refusals.{removal_timed_out}
 pub use Rattle.container_table.specs.Logs.{container_in}
 use Rattle.machine_effects.specs.declared.held.Fate.{Fate}
-use Rattle.machine_effects.specs.declared.held.HeldOutput.{HeldOutput}
 use Rattle.machine_effects.specs.declared.held.HeldTicket.{HeldTicket}
 use Rattle.machine_effects.specs.declared.held.Ready.{Ready}
-
--- The output of an exec.
-abbrev pub output_in : HeldOutput → OwnedLog
-output_in o = record { owner = o.owner; log = o.log.records }
-
--- The outputs of execs.
-abbrev pub outputs_in : List HeldOutput → List OwnedLog
-outputs_in = map output_in
 
 -- The reply that is ready for a ticket of the container with that number, ids being those of the seed.
 abbrev pub reply_in : List ℕ → ℕ → Ready → Reply
@@ -76,7 +66,3 @@ ready_or (Some old) r = Some old
 -- The ticket is answered, if it is of the container.
 abbrev pub answered_by : Fate → ℕ → HeldTicket → HeldTicket
 answered_by fate n t = if t.container == n then record t { ready = ready_or t.ready (ready_by fate t.asked) } else t
-
--- How many more records the output has room for.
-abbrev pub output_room : HeldOutput → ℕ
-output_room o = o.log.room

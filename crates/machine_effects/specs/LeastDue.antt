@@ -1,6 +1,7 @@
 -- own: the least of what is due, found one after the other.
 use Rattle.std.specs.Prelude.{ℕ, if◌then◌else◌, List, Option, Some, None}
 use Rattle.std.specs.List.{filter_map}
+use Rattle.container_table.specs.Dues.{with_due}
 use Rattle.container_table.specs.Timers.{is_before}
 use Rattle.engine_text.specs.declared.owner.Owner.{Owner}
 use Rattle.engine_text.specs.declared.step.DueAction.{DueAction}
@@ -17,6 +18,11 @@ action_of e = action_at (owner_number e.owner) (next_due e.process)
 abbrev pub actions_of : List Entry → List DueAction
 actions_of = filter_map action_of
 
+-- Those in order with the next op of the owner's process, if it is due.
+abbrev pub with_due_at : Owner → Option ℕ → List DueAction → List DueAction
+with_due_at owner None ds = ds
+with_due_at owner (Some moment) ds = with_due (record { moment = moment; rank = 0; number = owner_number owner }) ds
+
 -- The lesser of the best so far and another.
 abbrev pub nearer : Option DueAction → DueAction → Option DueAction
 nearer None d = Some d
@@ -26,9 +32,3 @@ nearer (Some best) d = Some (if is_before d best then d else best)
 abbrev pub lesser : Option DueAction → Option DueAction → Option DueAction
 lesser best None = best
 lesser best (Some d) = nearer best d
-
--- The best so far, after one more process.
-abbrev pub further_at : Option DueAction → Option Owner → Option ℕ → Option DueAction
-further_at best None due = best
-further_at best (Some owner) None = best
-further_at best (Some owner) (Some moment) = nearer best (record { moment = moment; rank = 0; number = owner_number owner })

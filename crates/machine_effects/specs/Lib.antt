@@ -25,3 +25,4 @@ pub mod Views
 pub mod ToldMeet
 pub mod ToldKill
 pub mod ToldCalls
+pub mod ProcessesInside

@@ -12,20 +12,22 @@ pub record Room : Type 0 where
   pub moments : ℕ
   pub scratch : ℕ
 
--- The state; how many containers, volumes, references to these, execs and outputs of execs may stand; the kernel's spare room, records and the bytes of each; how many more records each log and
--- output has room for; the numbers that a step has noted.
+-- The tables: their state, and what stands in memory beside it.
 pub record Memory : Type 0 where
   pub state : State
   pub room : Room
+  -- how many of these may stand; uses are references to volumes
   pub containers : ℕ
   pub volumes : ℕ
   pub uses : ℕ
   pub execs : ℕ
-  pub exec_outputs : ℕ
+  -- the kernel's spare places, for processes and what they are sent and write, and the bytes of each
   pub spare : ℕ
   pub bytes : ℕ
+  -- how many more records each log and each output has room for
   pub logs : List ℕ
   pub outputs : List ℕ
+  -- the numbers that a step has noted
   pub scratch : List ℕ
 
 -- There is room for the end of a main process, and for what may follow it.

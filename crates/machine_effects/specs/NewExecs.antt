@@ -1,23 +1,17 @@
 -- What a new exec needs (Docker Engine API v1.43, ContainerExec; own: the room for it and its output).
-use Rattle.std.specs.Prelude.{◌≡◌, ℕ, ◌<◌, ◌^◌, length, []}
+use Rattle.std.specs.Prelude.{◌≡◌, ◌<◌, ◌^◌, length, None}
+use Rattle.std.specs.List.{AllByRecursion}
 use Rattle.engine_text.specs.declared.exec.Exec.{Exec}
-use Rattle.engine_text.specs.declared.log.OwnedLog.{OwnedLog}
-use Rattle.engine_text.specs.declared.owner.Owner.TheVariants.{Exec as OfExec}
-use Rattle.machine_effects.specs.Held.{output_in}
+use Rattle.exec_table.specs.Execs.{exec_with_id}
 use Rattle.machine_effects.specs.Memory.{Memory}
-use Rattle.machine_effects.specs.declared.held.HeldOutput.{HeldOutput}
-
--- The output of an exec that has written nothing.
-abbrev pub empty_output : ℕ → OwnedLog
-empty_output number = record { owner = OfExec number; log = [] }
 
 -- There is room for an exec more and its output.
-pub record HasExecRoom (m : Memory) : Type 0 where
-  pub place : length m.state.execs < m.execs
-  pub output : length m.state.outputs < m.exec_outputs
+abbrev pub HasExecRoom : Memory → Type 0
+HasExecRoom m = length m.state.execs < m.execs
 
--- The exec may be added with this output.
-pub record CanAddExec (x : Exec) (o : HeldOutput) (m : Memory) : Type 0 where
+-- The exec may be added: its number is above those of all, and its id is new.
+pub record CanAddExec (x : Exec) (m : Memory) : Type 0 where
   pub room : HasExecRoom m
-  pub output : output_in o ≡ empty_output x.number
+  pub above : AllByRecursion (λ y. y.number < x.number) m.state.execs
+  pub id : exec_with_id x.id m.state.execs ≡ None
   pub number : m.state.next_number < 2 ^ 63

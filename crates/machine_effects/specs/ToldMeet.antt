@@ -1,6 +1,7 @@
 -- own: the events of a signal that is met, told before it from the state in which it is sent.
 use Rattle.std.specs.Prelude.{ℕ, Bool, true, false, List, [], ◌∷◌, ◌++◌, Option, Some, None, filter}
 use Rattle.std.specs.List.{flat_map}
+use Rattle.api_json.specs.Status.{is_paused}
 use Rattle.engine_text.specs.Scripts.{Program}
 use Rattle.engine_text.specs.declared.container.Container.{Container}
 use Rattle.engine_text.specs.declared.event.Action.{Action}
@@ -43,15 +44,14 @@ abbrev pub told_wake : ℕ → Container → State → List Event
 told_wake n c s =
     plain_event Action.Unpause c s.clock ∷ flat_map (λ j. told_thaw (thawed_code j s) j s) (running_numbers n s)
 
--- A signal with a thaw, which ends the main process with that code, if it does.
+-- What ends the main process with that code, if it does: a paused container is woken first.
+abbrev pub told_waking : Bool → Option ℕ → ℕ → Container → Option Program → State → List Event
+told_waking true code n c script s = told_wake n c s ++ told_code (running_after n s) code c script s
+told_waking false code n c script s = told_code (running_numbers n s) code c script s
+
+-- So does a signal with a thaw.
 abbrev pub told_meet : Status → Option ℕ → ℕ → Container → Option Program → State → List Event
-told_meet Status.Paused code n c script s = told_wake n c s ++ told_code (running_after n s) code c script s
-told_meet Status.Created code n c script s = told_code (running_numbers n s) code c script s
-told_meet Status.Running code n c script s = told_code (running_numbers n s) code c script s
-told_meet Status.Restarting code n c script s = told_code (running_numbers n s) code c script s
-told_meet Status.Removing code n c script s = told_code (running_numbers n s) code c script s
-told_meet Status.Exited code n c script s = told_code (running_numbers n s) code c script s
-told_meet Status.Dead code n c script s = told_code (running_numbers n s) code c script s
+told_meet status = told_waking (is_paused status)
 
 -- The signal of a kill: a final one is met, another is sent.
 abbrev pub told_deliver : Bool → Option ℕ → ℕ → Container → Option Program → State → List Event

@@ -1,6 +1,3 @@
-pub mod Containers
-pub mod Execs
-pub mod Outputs
 pub mod Tickets
 pub mod Removals
 pub mod Moments

@@ -5,7 +5,8 @@ ghost use Rattle.proc_kernel.specs.Catalogue.{program_of};
 ghost use Rattle.machine_model.specs.Step.{at_moment};
 ghost use Rattle.engine_text.specs.declared.container.Goal as goals;
 ghost use Rattle.machine_effects.specs.Held.{container_in};
-ghost use Rattle.machine_effects.specs.Foretold.{told_number, told_mounts, told_launch, told_goal};
+ghost use Rattle.machine_effects.specs.Foretold.{told_exec, told_number, told_mounts, told_launch, told_goal};
+ghost use Rattle.machine_model.specs.State.{exec_numbered};
 
 use super::events::{exec_die_event, mount_event, plain_event};
 use super::tables::Tables;
@@ -80,16 +81,18 @@ pub fn tell_restart(
 }
 
 impl Tables {
-    // The end of that exec, if it and its container stand.
-    fn tell_number(
+    // The end of that exec with that code, if it and its container stand.
+    pub(super) fn tell_exec(
         &self,
         alloc: Global,
+        code: u8,
         number: u64,
         moment: u64,
         out: &mut Vec<Event>,
     ) -> Result<(), NoMemory>
-        ensures { OnOk result (out.new.items
-            ≡ out.old.items ++ told_number (at_moment moment self.now.state) number) }
+        ensures { OnOk result (out.new.items ≡ out.old.items
+            ++ told_exec code (exec_numbered number (at_moment moment self.now.state))
+            (at_moment moment self.now.state)) }
     {
         let Some(x) = self.exec(number) else {
             return Ok(());
@@ -97,7 +100,7 @@ impl Tables {
         let Some(h) = self.numbered(x.container) else {
             return Ok(());
         };
-        let event = exec_die_event(alloc, &x.id, 137, &h.container, moment)?;
+        let event = exec_die_event(alloc, &x.id, code, &h.container, moment)?;
         add(out, event)
     }
 
@@ -113,7 +116,7 @@ impl Tables {
             ++ flat_map (told_number (at_moment moment self.now.state)) numbers.now) }
     {
         for n in numbers {
-            self.tell_number(alloc, *n, moment, out)?;
+            self.tell_exec(alloc, 137, *n, moment, out)?;
         }
         Ok(())
     }

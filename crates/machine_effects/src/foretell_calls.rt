@@ -8,9 +8,8 @@ ghost use Rattle.machine_model.specs.State.{container_numbered};
 ghost use Rattle.machine_model.specs.Step.{at_moment};
 ghost use Rattle.machine_effects.specs.Held.{container_in};
 ghost use Rattle.machine_effects.specs.ToldCalls.{told_again, told_main, told_op, told_unpause};
-ghost use Rattle.machine_effects.specs.ToldMeet.{told_thaw};
 
-use super::events::{exec_die_event, plain_event};
+use super::events::plain_event;
 use super::foretell::{add, tell_launch};
 use super::foretell_end::Ending;
 use super::tables::Tables;
@@ -40,7 +39,7 @@ impl Tables {
         ensures { (t : ℕ) → result ≡ code_at (thaw t)
             (process_of (owners.Owner.Container number) self.now.state.processes) }
     {
-        self.kernel.thaw_code(Owner::Container(number))
+        self.processes.kernel().thaw_code(Owner::Container(number))
     }
 
     /// The code with which the next op of the owner's process ends it, if it does.
@@ -48,7 +47,7 @@ impl Tables {
         ensures { (t : ℕ) → result ≡ code_at (run_due t)
             (process_of owner self.now.state.processes) }
     {
-        self.kernel.due_code(owner)
+        self.processes.kernel().due_code(owner)
     }
 
     /// An unpause, which ends the main process with that code, if it does.
@@ -65,36 +64,7 @@ impl Tables {
             ++ told_unpause code (container_in h.now) script.now
             (at_moment moment self.now.state)) }
     {
-        let ending = Ending {
-            goal: h.container.life.goal,
-            manual: h.container.life.manual,
-        };
-        self.tell_woken(alloc, code, ending, h, script, moment, out)
-    }
-
-    // The end of the exec with that code, if it ends.
-    fn tell_exec_code(
-        &self,
-        alloc: Global,
-        code: Option<u8>,
-        number: u64,
-        moment: u64,
-        out: &mut Vec<Event>,
-    ) -> Result<(), NoMemory>
-        ensures { OnOk result (out.new.items ≡ out.old.items
-            ++ told_thaw code number (at_moment moment self.now.state)) }
-    {
-        let Some(code) = code else {
-            return Ok(());
-        };
-        let Some(x) = self.exec(number) else {
-            return Ok(());
-        };
-        let Some(h) = self.numbered(x.container) else {
-            return Ok(());
-        };
-        let event = exec_die_event(alloc, &x.id, code, &h.container, moment)?;
-        add(out, event)
+        self.tell_woken(alloc, code, Ending::of(h), h, script, moment, out)
     }
 
     // The end of the container's main process with that code, if it ends.
@@ -114,11 +84,7 @@ impl Tables {
         let Some(h) = self.numbered(number) else {
             return Ok(());
         };
-        let ending = Ending {
-            goal: h.container.life.goal,
-            manual: h.container.life.manual,
-        };
-        self.tell_code(alloc, code, ending, h, script, moment, out)
+        self.tell_code(alloc, code, Ending::of(h), h, script, moment, out)
     }
 
     /// The next op of the owner's process, which ends it with that code, if it does.
@@ -136,7 +102,7 @@ impl Tables {
     {
         match owner {
             Owner::Container(number) => self.tell_main(alloc, code, number, script, moment, out),
-            Owner::Exec(number) => self.tell_exec_code(alloc, code, number, moment, out),
+            Owner::Exec(number) => self.tell_thaw(alloc, code, number, moment, out),
         }
     }
 }

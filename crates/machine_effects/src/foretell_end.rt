@@ -8,13 +8,16 @@ ghost use Rattle.machine_model.specs.Step.{at_moment};
 ghost use Rattle.machine_effects.specs.Foretold.{ending_as, running_numbers, told_code, told_end, told_follow, told_goal, told_gone, told_number, told_status};
 ghost use Rattle.machine_effects.specs.Held.{container_in};
 ghost use Rattle.machine_effects.specs.Marks.{renewed};
+ghost use Rattle.machine_effects.specs.ToldKill.{aimed};
+ghost use Rattle.machine_model.specs.Calls.Kill.{by_hand};
 
 use super::events::{die_event, plain_event};
 use super::foretell::{add, tell_mounts, tell_restart};
 use super::lives;
+use super::ready::is_dead;
 use super::tables::Tables;
 use container_table::Held;
-use engine_text::{Action, Event, Goal, NoMemory, Script, Status};
+use engine_text::{Action, Event, Goal, NoMemory, Script};
 use restart_policy::Decision;
 use std::alloc::Global;
 
@@ -22,8 +25,40 @@ use std::alloc::Global;
 /// ends it what the call says, and else what the container's life says.
 #[derive(Clone, Copy, Drop)]
 pub struct Ending {
-    pub goal: Goal,
-    pub manual: bool,
+    goal: Goal,
+    manual: bool,
+}
+
+impl Ending {
+    /// As the container's life says.
+    pub fn of(h: &Held) -> Ending
+        ensures { ending_as result (container_in h.now) ≡ container_in h.now }
+    {
+        Ending {
+            goal: h.container.life.goal,
+            manual: h.container.life.manual,
+        }
+    }
+
+    /// By a call with that goal.
+    pub fn aimed(goal: Goal, h: &Held) -> Ending
+        ensures { ending_as result (container_in h.now) ≡ aimed goal (container_in h.now) }
+    {
+        Ending {
+            goal,
+            manual: h.container.life.manual,
+        }
+    }
+
+    /// By hand.
+    pub fn by_hand(h: &Held) -> Ending
+        ensures { ending_as result (container_in h.now) ≡ renewed by_hand (container_in h.now) }
+    {
+        Ending {
+            goal: h.container.life.goal,
+            manual: true,
+        }
+    }
 }
 
 // The destroy of one that is removed by itself.
@@ -105,15 +140,10 @@ fn tell_status(
         ++ told_status h.now.container.life.status script.now
         (renewed (ended code moment) (ending_as ending (container_in h.now))) moment) }
 {
-    match h.container.life.status {
-        Status::Dead => Ok(()),
-        Status::Created => tell_goal(alloc, ending, code, script, h, moment, out),
-        Status::Running => tell_goal(alloc, ending, code, script, h, moment, out),
-        Status::Paused => tell_goal(alloc, ending, code, script, h, moment, out),
-        Status::Restarting => tell_goal(alloc, ending, code, script, h, moment, out),
-        Status::Removing => tell_goal(alloc, ending, code, script, h, moment, out),
-        Status::Exited => tell_goal(alloc, ending, code, script, h, moment, out),
+    if is_dead(h.container.life.status) {
+        return Ok(());
     }
+    tell_goal(alloc, ending, code, script, h, moment, out)
 }
 
 impl Tables {

@@ -33,11 +33,7 @@ impl Tables {
     {
         let event = kill_event(alloc, signal, &h.container, moment)?;
         add(out, event)?;
-        let ending = Ending {
-            goal,
-            manual: h.container.life.manual,
-        };
-        self.tell_met(alloc, code, ending, h, script, moment, out)
+        self.tell_met(alloc, code, Ending::aimed(goal, h), h, script, moment, out)
     }
 
     /// A stop deadline: event kill and SIGKILL, with the goal that the container has.

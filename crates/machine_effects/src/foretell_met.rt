@@ -8,12 +8,13 @@ ghost use Rattle.machine_effects.specs.Held.{container_in};
 ghost use Rattle.machine_effects.specs.Marks.{renewed};
 ghost use Rattle.machine_effects.specs.ToldMeet.{lives_on, running_after, thawed_code, told_thaw, told_wake, told_meet, told_deliver};
 
-use super::events::{exec_die_event, plain_event};
+use super::events::plain_event;
 use super::foretell::add;
 use super::foretell_end::Ending;
+use super::ready::is_paused;
 use super::tables::Tables;
 use container_table::Held;
-use engine_text::{Action, Event, NoMemory, Owner, Script, Status};
+use engine_text::{Action, Event, NoMemory, Owner, Script};
 use std::alloc::Global;
 
 fn add_number(numbers: &mut Vec<u64>, number: u64) -> Result<(), NoMemory>
@@ -31,7 +32,7 @@ impl Tables {
         ensures { result ≡ thawed_code number (at_moment moment self.now.state) }
     {
         let _ = moment;
-        self.kernel.thaw_code(Owner::Exec(number))
+        self.processes.kernel().thaw_code(Owner::Exec(number))
     }
 
     // Whether it lives on.
@@ -44,29 +45,22 @@ impl Tables {
         }
     }
 
-    // The end of the exec, if it ends as it goes on.
-    fn tell_thaw(
+    // The end of the exec with that code, if it ends.
+    pub(super) fn tell_thaw(
         &self,
         alloc: Global,
+        code: Option<u8>,
         number: u64,
         moment: u64,
         out: &mut Vec<Event>,
     ) -> Result<(), NoMemory>
         ensures { OnOk result (out.new.items ≡ out.old.items
-            ++ told_thaw (thawed_code number (at_moment moment self.now.state)) number
-            (at_moment moment self.now.state)) }
+            ++ told_thaw code number (at_moment moment self.now.state)) }
     {
-        let Some(code) = self.thaw_code(number, moment) else {
-            return Ok(());
-        };
-        let Some(x) = self.exec(number) else {
-            return Ok(());
-        };
-        let Some(h) = self.numbered(x.container) else {
-            return Ok(());
-        };
-        let event = exec_die_event(alloc, &x.id, code, &h.container, moment)?;
-        add(out, event)
+        match code {
+            None => Ok(()),
+            Some(code) => self.tell_exec(alloc, code, number, moment, out),
+        }
     }
 
     // Event unpause, and the ends of those execs that end as they go on.
@@ -101,7 +95,8 @@ impl Tables {
         let running = self.running(alloc, number)?;
         let numbers = running.as_slice();
         for n in numbers {
-            self.tell_thaw(alloc, *n, moment, out)?;
+            let code = self.thaw_code(*n, moment);
+            self.tell_thaw(alloc, code, *n, moment, out)?;
         }
         Ok(())
     }
@@ -199,15 +194,10 @@ impl Tables {
             (ending_as ending (container_in h.now)) script.now
             (at_moment moment self.now.state)) }
     {
-        match h.container.life.status {
-            Status::Paused => self.tell_woken(alloc, code, ending, h, script, moment, out),
-            Status::Created => self.tell_code(alloc, code, ending, h, script, moment, out),
-            Status::Running => self.tell_code(alloc, code, ending, h, script, moment, out),
-            Status::Restarting => self.tell_code(alloc, code, ending, h, script, moment, out),
-            Status::Removing => self.tell_code(alloc, code, ending, h, script, moment, out),
-            Status::Exited => self.tell_code(alloc, code, ending, h, script, moment, out),
-            Status::Dead => self.tell_code(alloc, code, ending, h, script, moment, out),
+        if is_paused(h.container.life.status) {
+            return self.tell_woken(alloc, code, ending, h, script, moment, out);
         }
+        self.tell_code(alloc, code, ending, h, script, moment, out)
     }
 
     // A signal that stops it by hand: a final one of a kill.
@@ -224,11 +214,7 @@ impl Tables {
             ++ told_meet h.now.container.life.status code h.now.container.number
             (renewed by_hand (container_in h.now)) script.now (at_moment moment self.now.state)) }
     {
-        let ending = Ending {
-            goal: h.container.life.goal,
-            manual: true,
-        };
-        self.tell_met(alloc, code, ending, h, script, moment, out)
+        self.tell_met(alloc, code, Ending::by_hand(h), h, script, moment, out)
     }
 
     // A signal that leaves open how it ends.
@@ -246,11 +232,7 @@ impl Tables {
             (running_numbers h.now.container.number (at_moment moment self.now.state))
             code (container_in h.now) script.now (at_moment moment self.now.state)) }
     {
-        let ending = Ending {
-            goal: h.container.life.goal,
-            manual: h.container.life.manual,
-        };
-        self.tell_code(alloc, code, ending, h, script, moment, out)
+        self.tell_code(alloc, code, Ending::of(h), h, script, moment, out)
     }
 
     /// The signal of a kill: a final one is met, another is sent.

@@ -3,7 +3,7 @@ ghost use Rattle.std.specs.Prelude.{◌≡◌};
 ghost use Rattle.machine_effects.specs.Halts as spec;
 ghost use Rattle.machine_effects.specs.Marks.{marked};
 
-use super::marks::Mark;
+use container_table::LifeChange;
 use engine_text::{Asked, Goal};
 
 /// The call that ends a run.
@@ -15,12 +15,12 @@ pub enum Halting {
 
 impl Halting {
     // What it notes in the container's life.
-    pub(super) fn mark(self) -> Mark
+    pub(super) fn mark(self) -> LifeChange
         ensures { marked result ≡ spec.mark_of self }
     {
         match self {
-            Halting::Stop => Mark::Stopping,
-            Halting::Restart => Mark::ToRestart,
+            Halting::Stop => LifeChange::Stopping,
+            Halting::Restart => LifeChange::ToRestart,
         }
     }
 

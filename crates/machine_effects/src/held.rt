@@ -1,13 +1,6 @@
-// What stands in memory otherwise than the model says it: logs apart, so that their room is known, and
-// replies of tickets without their texts, so that a ticket becomes ready without memory.
-use engine_text::{Asked, OpenLog, Owner};
-
-/// The output of an exec.
-#[derive(Drop)]
-pub struct HeldOutput {
-    pub owner: Owner,
-    pub log: OpenLog,
-}
+// What stands in memory otherwise than the model says it: replies of tickets without their texts, so that
+// a ticket becomes ready without memory.
+use engine_text::Asked;
 
 /// A reply of a ticket, whose text is made when it is taken.
 #[derive(Clone, Copy, PartialEq, Eq, Debug, Drop)]

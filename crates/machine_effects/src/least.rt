@@ -1,14 +1,13 @@
 // The least of what is due.
-ghost use Rattle.std.specs.Prelude.{◌≡◌, ℕ, ◌+◌, ◌<◌, ◌==◌, List, take, Option, Some, None, length};
-ghost use Rattle.container_table.specs.Timers.{is_before, least};
+ghost use Rattle.std.specs.Prelude.{◌≡◌};
+ghost use Rattle.container_table.specs.Timers.{is_before};
 ghost use Rattle.machine_model.specs.Due.{least_due};
 ghost use Rattle.machine_model.specs.State.{owner_number};
-ghost use Rattle.machine_effects.specs.LeastDue.{actions_of, further_at, lesser, nearer};
+ghost use Rattle.machine_effects.specs.LeastDue.{lesser, nearer};
 ghost use Rattle.machine_effects.specs.Ops.{owner_at};
 
 use crate::tables::Tables;
 use engine_text::{DueAction, Owner};
-use proc_kernel::Kernel;
 
 fn is_before(a: DueAction, b: DueAction) -> bool
     ensures { result ≡ is_before a b }
@@ -46,37 +45,12 @@ pub fn number_of(owner: Owner) -> u64
     }
 }
 
-fn further(best: Option<DueAction>, owner: Option<Owner>, due: Option<u64>) -> Option<DueAction>
-    ensures { result ≡ further_at best owner due }
-{
-    let (Some(owner), Some(moment)) = (owner, due) else {
-        return best;
-    };
-    let action = DueAction {
-        moment,
-        rank: 0,
-        number: number_of(owner),
-    };
-    nearer(best, action)
-}
-
-// The least of what is due of the processes.
-fn least_op(kernel: &Kernel) -> Option<DueAction>
-    ensures { result ≡ least (actions_of kernel.now.processes) }
-{
-    let mut best = None;
-    for i in 0..kernel.len() {
-        best = further(best, kernel.owner_at(i), kernel.due_of(i));
-    }
-    best
-}
-
 impl Tables {
     /// The least of what is due, if something is: of the processes' ops, the deadlines and the timers.
     pub fn least_due(&self) -> Option<DueAction>
         ensures { result ≡ least_due self.now.state }
     {
-        lesser(least_op(&self.kernel), self.containers.least_timer())
+        lesser(self.processes.least(), self.table.least())
     }
 
     /// Of the container and the exec with that number the one whose process lives.

@@ -1,15 +1,11 @@
 //! The tables of every part of the machine's state, and one method for each effect of a step.
 #![tactic(auto)]
 
-mod containers;
 mod counts;
 mod death;
 mod effects;
 mod events;
-mod exec_places;
-mod exec_rows;
-mod exec_starts;
-mod execs;
+mod exec_lists;
 mod foretell;
 mod foretell_calls;
 mod foretell_create;
@@ -23,12 +19,11 @@ mod least;
 mod listing;
 mod lives;
 mod logs;
-mod marks;
 mod moment_places;
 mod moments;
 mod names;
 mod new_volumes;
-mod outputs;
+mod processes;
 mod ready;
 mod removals;
 mod rooms;
@@ -36,21 +31,18 @@ mod tables;
 mod ticket_rows;
 mod tickets;
 
-pub use container_table::Held;
-pub use containers::Containers;
+pub use container_table::{Held, LifeChange, Rank};
 pub use death::Death;
 pub use events::{exec_event, kill_event, plain_event, rename_event, volume_event};
-pub use execs::Execs;
 pub use foretell::{add, tell_launch};
 pub use foretell_calls::tell_again;
 pub use foretell_create::tell_volumes;
 pub use halting::Halting;
-pub use held::{Fate, HeldOutput, HeldTicket, Ready};
+pub use held::{Fate, HeldTicket, Ready};
 pub use kit::Kit;
 pub use least::number_of;
-pub use marks::Mark;
 pub use moments::Moments;
-pub use outputs::Outputs;
+pub use processes::Processes;
 pub use removals::Removals;
 pub use tables::Tables;
 pub use tickets::Tickets;

@@ -10,7 +10,7 @@ impl Tables {
     pub fn containers(&self) -> usize
         ensures { result ≡ length self.now.state.containers }
     {
-        self.containers.len()
+        self.table.len()
     }
 
     /// The container at that place, in order of creation.
@@ -18,6 +18,6 @@ impl Tables {
         requires { place < length self.now.state.containers }
         ensures { slice_get self.now.state.containers place ≡ Some (container_in result.now) }
     {
-        self.containers.at(place)
+        self.table.at(place)
     }
 }

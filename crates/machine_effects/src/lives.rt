@@ -1,23 +1,64 @@
 // What a step makes of a container's life.
-ghost use Rattle.std.specs.Prelude.{◌≡◌};
-ghost use Rattle.machine_effects.specs.Fit.{IsSoon};
-ghost use Rattle.machine_effects.specs.Held.{container_in};
-ghost use Rattle.machine_effects.specs.Marks.{launched_as};
+ghost use Rattle.std.specs.Prelude.{◌≡◌, ◌+◌};
 ghost use Rattle.machine_model.specs.Effects.EndMain.{decision_at};
+ghost use Rattle.machine_model.specs.Effects.Meet.{logged};
+ghost use Rattle.machine_effects.specs.Fit.{AreFew, IsSoon};
+ghost use Rattle.machine_effects.specs.Held.{container_in};
+ghost use Rattle.machine_effects.specs.Marks.{launched_at, marked, with_life};
+ghost use Rattle.machine_effects.specs.Rooms.{FitsLog};
 
-use container_table::Held;
-use engine_text::{Life, Status};
+use container_table::{Held, LifeChange, Table};
+use engine_text::{Bytes, Life, LogRecord, Stream};
 use restart_policy::{Decision, decide};
 
-/// It begins anew, at the moment and with that process id; so many starts it has with this one.
-pub fn begin(life: &mut Life, starts: u64, moment: u64, pid: u64)
-    ensures { life.new ≡ launched_as starts pid moment life.old }
+/// That is changed in the container's life.
+pub fn renew(table: &mut Table, number: u64, noted: LifeChange)
+    ensures containers { table.new.containers
+        ≡ with_life number (marked noted) table.old.containers }
+    ensures logs { table.new.logs ≡ table.old.logs }
+    ensures timers { table.new.timers ≡ table.old.timers }
+    ensures places { table.new.places ≡ table.old.places }
+    ensures timer_places { table.new.timer_places ≡ table.old.timer_places }
 {
-    life.starts = starts;
-    life.status = Status::Running;
-    life.code = 0;
-    life.started = Some(moment);
-    life.pid = pid;
+    if let Some(place) = table.place_of(number) {
+        table.change(place, noted);
+    }
+}
+
+/// The container's life begins anew, at the moment and with that process id.
+pub fn launch(table: &mut Table, number: u64, moment: u64, pid: u64)
+    requires { AreFew table.old.containers }
+    ensures containers { table.new.containers
+        ≡ with_life number (launched_at pid moment) table.old.containers }
+    ensures logs { table.new.logs ≡ table.old.logs }
+    ensures timers { table.new.timers ≡ table.old.timers }
+    ensures places { table.new.places ≡ table.old.places }
+    ensures timer_places { table.new.timer_places ≡ table.old.timer_places }
+{
+    if let Some(place) = table.place_of(number) {
+        table.launch(place, pid, moment);
+    }
+}
+
+/// The container's log has one more record, of its current run.
+pub fn record(table: &mut Table, number: u64, stream: Stream, payload: Bytes, moment: u64)
+    requires { FitsLog number table.old.containers table.old.logs }
+    ensures containers { table.new.containers
+        ≡ with_life number (logged stream payload moment) table.old.containers }
+    ensures timers { table.new.timers ≡ table.old.timers }
+    ensures places { table.new.places ≡ table.old.places }
+    ensures timer_places { table.new.timer_places ≡ table.old.timer_places }
+{
+    let Some(h) = table.find_number(number) else {
+        return;
+    };
+    let item = LogRecord {
+        run: h.container.life.starts,
+        stream,
+        payload,
+        moment,
+    };
+    table.push_record(number, item);
 }
 
 /// What becomes of a container whose main process ended with that code at the moment, stopped by hand

@@ -4,28 +4,10 @@ ghost use Rattle.std.specs.List.{flat_map, list_any};
 ghost use Rattle.engine_text.specs.Owner.{same_owner};
 ghost use Rattle.engine_text.specs.declared.owner.Owner as owners;
 ghost use Rattle.machine_model.specs.LogStream.{first_kept_removal, kept_log, log_among, removal_of, took};
-ghost use Rattle.machine_effects.specs.Held.{outputs_in};
 
-use super::held::HeldOutput;
-use super::outputs::Outputs;
 use super::removals::Removals;
 use super::tables::Tables;
 use engine_text::{KeptLogs, LogRecord, OwnedLog, Owner, Removed, same_owner};
-
-fn held_of(held: &[HeldOutput], owner: Owner) -> Option<&HeldOutput>
-    ensures { option_copied result ≡ find (λ h. same_owner h.owner owner) held.now }
-{
-    held.iter().find(|h| same_owner(h.owner, owner))
-}
-
-fn output_of(held: &[HeldOutput], number: u64) -> Option<&[LogRecord]>
-    ensures { option_copied result ≡ log_among (owners.Owner.Exec number) (outputs_in held.now) }
-{
-    match held_of(held, Owner::Exec(number)) {
-        Some(h) => Some(h.log.as_slice()),
-        None => None,
-    }
-}
 
 fn owned_by(logs: &[OwnedLog], owner: Owner) -> Option<&OwnedLog>
     ensures { option_copied result ≡ find (λ l. same_owner l.owner owner) logs.now }
@@ -75,15 +57,6 @@ fn removal_of(removed: &[Removed], owner: Owner) -> Option<usize>
     removed.iter().position(|r| took(r, owner))
 }
 
-impl Outputs {
-    /// The output of the exec with that number, lent.
-    pub fn output_of(&self, number: u64) -> Option<&[LogRecord]>
-        ensures { option_copied result ≡ log_among (owners.Owner.Exec number) self.now.outputs }
-    {
-        output_of(self.held.as_slice(), number)
-    }
-}
-
 impl Removals {
     /// The log of a removed owner, lent, while it is kept.
     pub fn kept_log(&self, owner: Owner) -> Option<&[LogRecord]>
@@ -113,7 +86,7 @@ impl Tables {
         ensures { option_copied result ≡ log_among (owners.Owner.Exec number)
             self.now.state.outputs }
     {
-        self.outputs.output_of(number)
+        self.execs.output(number)
     }
 
     /// The log of a removed owner, lent, while it is kept.

@@ -6,18 +6,17 @@ ghost use Rattle.container_table.specs.Lists.{last_of};
 
 use super::moment_places::{halved, scanned, stays_in_order};
 use engine_text::{Event, NoMemory};
+use machine_model::KEPT_EVENTS;
 use std::alloc::Global;
 use std::collections::VecDeque;
 use std::marker::Model;
 
-/// The moments of the last 65,536 events, as they came.
+/// The moments of the last events, as they came.
 #[derive(Drop)]
 pub struct Moments {
     items: VecDeque<u64>,
     in_order: bool,
 }
-
-const MOST: usize = 65_536;
 
 impl Model for Moments {
     ghost use Rattle.machine_effects.specs.Values.Moments.{MomentRows};
@@ -33,12 +32,12 @@ impl Model for Moments {
 
 // A moment more, in the place of the oldest where all places are taken.
 fn push_last(items: &mut VecDeque<u64>, moment: u64)
-    requires few { length items.old.items ≤ 65536 }
-    requires room { min 65536 (length items.old.items + 1) ≤ deque_capacity items.old }
-    ensures items { items.new.items ≡ last_of 65536 (items.old.items ++ moment ∷ []) }
+    requires few { length items.old.items ≤ KEPT_EVENTS }
+    requires room { min KEPT_EVENTS (length items.old.items + 1) ≤ deque_capacity items.old }
+    ensures items { items.new.items ≡ last_of KEPT_EVENTS (items.old.items ++ moment ∷ []) }
     ensures room { deque_capacity items.new ≡ deque_capacity items.old }
 {
-    if items.len() >= MOST {
+    if items.len() >= KEPT_EVENTS {
         let _oldest = items.pop_front();
     }
     items.push_back_reserved(moment);
@@ -57,7 +56,7 @@ impl Moments {
 
     // No more stand than are kept.
     fn few(&self)
-        ensures { length self.now.moments ≤ 65536 }
+        ensures { length self.now.moments ≤ KEPT_EVENTS }
     {
         let _ = &self.items;
     }
@@ -65,9 +64,10 @@ impl Moments {
     /// Makes room for so many moments more.
     pub fn reserve(&mut self, more: usize) -> Result<(), NoMemory>
         ensures moments { self.new.moments ≡ self.old.moments }
-        ensures room { OnOk result (min 65536 (length self.new.moments + more) ≤ self.new.room) }
+        ensures room { OnOk result
+            (min KEPT_EVENTS (length self.new.moments + more) ≤ self.new.room) }
     {
-        let free = MOST - self.items.len();
+        let free = KEPT_EVENTS - self.items.len();
         let wanted = if more < free { more } else { free };
         match self.items.reserve(wanted) {
             Ok(()) => Ok(()),
@@ -77,8 +77,9 @@ impl Moments {
 
     /// A moment more, in the place of the oldest where all places are taken.
     pub fn push(&mut self, moment: u64)
-        requires { min 65536 (length self.old.moments + 1) ≤ self.old.room }
-        ensures moments { self.new.moments ≡ last_of 65536 (self.old.moments ++ moment ∷ []) }
+        requires { min KEPT_EVENTS (length self.old.moments + 1) ≤ self.old.room }
+        ensures moments { self.new.moments
+            ≡ last_of KEPT_EVENTS (self.old.moments ++ moment ∷ []) }
         ensures room { self.new.room ≡ self.old.room }
     {
         self.in_order = stays_in_order(self.in_order, &self.items, moment);
@@ -107,9 +108,9 @@ impl Moments {
 
     /// Those of these events.
     pub fn add(&mut self, events: &[Event])
-        requires { min 65536 (length self.old.moments + length events.now) ≤ self.old.room }
+        requires { min KEPT_EVENTS (length self.old.moments + length events.now) ≤ self.old.room }
         ensures moments { self.new.moments
-            ≡ last_of 65536 (self.old.moments ++ map (λ e. e.moment) events.now) }
+            ≡ last_of KEPT_EVENTS (self.old.moments ++ map (λ e. e.moment) events.now) }
         ensures room { self.new.room ≡ self.old.room }
     {
         self.few();

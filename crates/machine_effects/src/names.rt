@@ -26,7 +26,8 @@ fn is_taken(table: &Table, name: &str) -> bool
 // Of so many numbers from n on and one more, the name of the first that is free.
 fn first_free(alloc: Global, table: &Table, n: u64, most: usize) -> Result<Text, NoMemory>
     requires { n + most < 2 ^ 64 }
-    ensures { IfOk result (λ t. t ≡ spec.first_free most n table.now.containers) }
+    ensures { IfOk result
+        (λ t. t ≡ spec.anonymous (spec.first_free most n table.now.containers)) }
 {
     let mut name = anonymous(alloc, n)?;
     for i in 0..most {

@@ -1,6 +1,7 @@
 // When a ticket is ready, and with what.
 ghost use Rattle.std.specs.Prelude.{◌≡◌, ℕ, ◌==◌, List, find, option_map};
-ghost use Rattle.api_json.specs.Status.{is_restarting};
+ghost use Rattle.api_json.specs.Status.{is_paused, is_restarting};
+ghost use Rattle.machine_model.specs.Effects.EndMain.{is_dead};
 ghost use Rattle.machine_model.specs.Effects.Settle.{has_died, reply_if};
 ghost use Rattle.machine_effects.specs.Held.{reply_in, replies_in};
 ghost use Rattle.machine_effects.specs.Settled.{deaths, died_in, code_else};
@@ -13,15 +14,21 @@ use engine_text::Status;
 pub fn is_restarting(status: Status) -> bool
     ensures { result ≡ is_restarting status }
 {
-    match status {
-        Status::Restarting => true,
-        Status::Created => false,
-        Status::Running => false,
-        Status::Paused => false,
-        Status::Removing => false,
-        Status::Exited => false,
-        Status::Dead => false,
-    }
+    matches!(status, Status::Restarting)
+}
+
+/// Whether its status is paused.
+pub fn is_paused(status: Status) -> bool
+    ensures { result ≡ is_paused status }
+{
+    matches!(status, Status::Paused)
+}
+
+/// Whether its status is dead.
+pub fn is_dead(status: Status) -> bool
+    ensures { result ≡ is_dead status }
+{
+    matches!(status, Status::Dead)
 }
 
 /// The death, if it is that container's.

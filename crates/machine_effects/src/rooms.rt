@@ -16,7 +16,7 @@ impl Tables {
         if self.scratch.reserve(self.execs.len()).is_err() {
             return Err(NoMemory);
         }
-        self.containers.reserve_timer()?;
+        self.table.reserve_timers(1)?;
         self.removals.reserve()
     }
 
@@ -39,8 +39,8 @@ impl Tables {
         ensures room { self.new.room ≡ self.old.room }
     {
         match owner {
-            Owner::Container(number) => self.containers.reserve_record(number),
-            Owner::Exec(number) => self.outputs.reserve_record(alloc, number),
+            Owner::Container(number) => self.table.reserve_record(number),
+            Owner::Exec(number) => self.execs.reserve_record(alloc, number),
         }
     }
 
@@ -52,7 +52,7 @@ impl Tables {
     {
         self.reserve_end_of(owner)?;
         self.reserve_record(alloc, owner)?;
-        let length = self.kernel.record_length(owner);
-        self.kernel.reserve(alloc, 2, length)
+        let length = self.processes.kernel().record_length(owner);
+        self.processes.reserve(alloc, 2, length)
     }
 }

@@ -1,14 +1,13 @@
 // The tables of the machine: every part of its state.
-ghost use Rattle.std.specs.Prelude.{◌≡◌, ℕ, ◌+◌, ◌<◌, ◌≤◌, ◌^◌, length, map, min, [], option_map, option_copied, slice_index, vec_capacity, Some, IfOk, OnOk};
+ghost use Rattle.std.specs.Prelude.{◌≡◌, ℕ, ◌+◌, ◌<◌, ◌≤◌, ◌^◌, length, map, min, [], option_map, option_copied, vec_capacity, Some, IfOk, OnOk};
 ghost use Rattle.engine_text.specs.declared.owner.Owner as owners;
 ghost use Rattle.proc_kernel.specs.Processes.{run_due, thaw, signal};
 ghost use Rattle.proc_kernel.specs.Tables.{due_at, effect_of, length_at, process_of};
 ghost use Rattle.proc_kernel.specs.Foretelling.{code_at};
+ghost use Rattle.container_table.specs.Ranks.{number_of};
 ghost use Rattle.container_table.specs.Reference.{container_by};
-ghost use Rattle.machine_model.specs.Consistency.{is_there};
-ghost use Rattle.machine_model.specs.State.{initial_state, container_numbered, exec_numbered, running_execs, is_live, change_life, clear_timer, set_timer, drop_process, change_exec};
+ghost use Rattle.machine_model.specs.State.{initial_state, container_numbered, exec_numbered, running_execs, is_live, change_life, clear_timer, set_timer, drop_process};
 ghost use Rattle.machine_model.specs.Calls.Pause.{freeze_process};
-ghost use Rattle.machine_model.specs.Effects.EndMain.{exec_ended};
 ghost use Rattle.machine_model.specs.Effects.Meet.{stepped, write_record};
 ghost use Rattle.machine_model.specs.Step.{counted};
 ghost use Rattle.machine_effects.specs.Fit.{AreFew, AreTimely};
@@ -19,19 +18,18 @@ ghost use Rattle.machine_effects.specs.Marks.{marked};
 ghost use Rattle.machine_effects.specs.Memory.{HasRoom, standing};
 ghost use Rattle.machine_effects.specs.Rooms.{FitsLog, FitsOutput};
 
-use super::containers::Containers;
-use super::execs::Execs;
 use super::kit::Kit;
-use super::marks::Mark;
 use super::moments::Moments;
-use super::outputs::Outputs;
+use super::processes::Processes;
 use super::removals::Removals;
 use super::tickets::Tickets;
-use container_table::Held;
+use super::{exec_lists, lives};
+use container_table::{Held, LifeChange, Rank, Table};
 use engine_text::{
-    Bytes, Effect, Event, Exec, Found, NoMemory, OwnedLog, Owner, Script, Signal, Stream,
+    Bytes, Effect, Event, Exec, Found, LogRecord, NoMemory, OwnedLog, Owner, Script, Signal, Stream,
 };
-use proc_kernel::Kernel;
+use exec_table::Execs;
+use machine_model::{GREATEST_MOMENT, KEPT_EVENTS};
 use std::alloc::Global;
 use std::marker::Model;
 use volume_table::Volumes;
@@ -39,10 +37,9 @@ use volume_table::Volumes;
 /// Every part of the machine's state.
 #[derive(Drop)]
 pub struct Tables {
-    pub(super) containers: Containers,
+    pub(super) table: Table,
     pub(super) execs: Execs,
-    pub(super) outputs: Outputs,
-    pub(super) kernel: Kernel,
+    pub(super) processes: Processes,
     pub(super) volumes: Volumes,
     pub(super) tickets: Tickets,
     pub(super) removals: Removals,
@@ -72,15 +69,14 @@ impl Tables {
     /// The tables of a machine in which nothing is, at a moment.
     pub fn new(alloc: Global, seed: [u8; 32], moment: u64) -> Result<Tables, NoMemory>
         ensures state { IfOk result (λ t. t.state ≡ initial_state seed moment) }
-        ensures moments { IfOk result (λ t. 65536 ≤ t.room.moments) }
+        ensures moments { IfOk result (λ t. KEPT_EVENTS ≤ t.room.moments) }
     {
         let mut moments = Moments::new(alloc);
-        moments.reserve(65_536)?;
+        moments.reserve(KEPT_EVENTS)?;
         Ok(Tables {
-            containers: Containers::new(alloc),
+            table: Table::new(alloc),
             execs: Execs::new(alloc),
-            outputs: Outputs::new(alloc),
-            kernel: Kernel::new(alloc),
+            processes: Processes::new(alloc),
             volumes: Volumes::new(alloc),
             tickets: Tickets::new(alloc),
             removals: Removals::new(alloc),
@@ -98,12 +94,12 @@ impl Tables {
     }
 
     /// That is noted in the container's life.
-    pub fn renew(&mut self, number: u64, noted: Mark)
+    pub fn renew(&mut self, number: u64, noted: LifeChange)
         ensures state { self.new.state ≡ change_life number (marked noted) self.old.state }
         ensures room { self.new.room ≡ self.old.room }
         ensures spare { self.new.spare ≡ self.old.spare }
     {
-        self.containers.renew(number, noted);
+        lives::renew(&mut self.table, number, noted);
     }
 
     /// The owner's process is gone.
@@ -113,26 +109,26 @@ impl Tables {
         ensures spare { self.new.spare ≡ self.old.spare }
         ensures scratch { self.new.scratch ≡ self.old.scratch }
     {
-        self.kernel.remove(owner);
+        self.processes.remove(owner);
     }
 
     /// The timer of that rank and number is gone.
-    pub fn clear_timer(&mut self, rank: u8, number: u64)
-        ensures state { self.new.state ≡ clear_timer rank number self.old.state }
+    pub fn clear_timer(&mut self, rank: Rank, number: u64)
+        ensures state { self.new.state ≡ clear_timer (number_of rank) number self.old.state }
         ensures room { self.new.room ≡ self.old.room }
         ensures spare { self.new.spare ≡ self.old.spare }
     {
-        self.containers.clear(rank, number);
+        self.table.clear(rank, number);
     }
 
     /// There is a timer of that rank and number at the moment, in the place of an earlier one.
-    pub fn set_timer(&mut self, rank: u8, number: u64, moment: u64)
+    pub fn set_timer(&mut self, rank: Rank, number: u64, moment: u64)
         requires { length self.old.state.timers < self.old.room.timers }
-        ensures state { self.new.state ≡ set_timer rank number moment self.old.state }
+        ensures state { self.new.state ≡ set_timer (number_of rank) number moment self.old.state }
         ensures room { self.new.room ≡ self.old.room }
         ensures spare { self.new.spare ≡ self.old.spare }
     {
-        self.containers.set(moment, rank, number);
+        self.table.set(moment, rank, number);
     }
 
     /// The moment of the step.
@@ -147,28 +143,28 @@ impl Tables {
         ensures { option_map container_in (option_copied result)
             ≡ container_numbered number self.now.state }
     {
-        self.containers.numbered(number)
+        self.table.find_number(number)
     }
 
     /// The exec with that number.
     pub fn exec(&self, number: u64) -> Option<&Exec>
         ensures { option_copied result ≡ exec_numbered number self.now.state }
     {
-        self.execs.numbered(number)
+        self.execs.find_number(number)
     }
 
     /// The container that a reference names.
     pub fn find(&self, reference: &str) -> Found
         ensures { result ≡ container_by self.now.state.containers reference.now }
     {
-        self.containers.find(reference)
+        self.table.find(reference)
     }
 
     /// Whether the owner's process lives.
     pub fn stands(&self, owner: Owner) -> bool
         ensures { result ≡ is_live owner self.now.state }
     {
-        self.kernel.stands(owner)
+        self.processes.kernel().stands(owner)
     }
 
     /// The numbers of the container's running execs.
@@ -180,7 +176,7 @@ impl Tables {
         if numbers.reserve(self.execs.len()).is_err() {
             return Err(NoMemory);
         }
-        self.execs.list_running(&self.kernel, number, &mut numbers);
+        exec_lists::list_running(&self.execs, self.processes.kernel(), number, &mut numbers);
         Ok(numbers)
     }
 
@@ -190,50 +186,9 @@ impl Tables {
         ensures { (t : ℕ) → result ≡ code_at (signal sent.number thaws t)
             (process_of (owners.Owner.Container number) self.now.state.processes) }
     {
-        self.kernel
+        self.processes
+            .kernel()
             .signal_code(Owner::Container(number), sent, thaws)
-    }
-
-    pub(super) fn has_exec(&self, number: u64) -> bool
-        ensures { result ≡ is_there (exec_numbered number self.now.state) }
-    {
-        self.execs.has(number)
-    }
-
-    // The exec has ended with that code.
-    pub(super) fn end_row(&mut self, code: u8, number: u64)
-        ensures state { self.new.state ≡ change_exec number (exec_ended code) self.old.state }
-        ensures room { self.new.room ≡ self.old.room }
-        ensures spare { self.new.spare ≡ self.old.spare }
-        ensures scratch { self.new.scratch ≡ self.old.scratch }
-    {
-        self.execs.end(number, code);
-    }
-
-    // Notes which of the container's execs run.
-    pub(super) fn note_running(&mut self, number: u64)
-        requires { length self.old.state.execs ≤ self.old.room.scratch }
-        ensures state { self.new.state ≡ self.old.state }
-        ensures room { self.new.room ≡ self.old.room }
-        ensures spare { self.new.spare ≡ self.old.spare }
-        ensures scratch { self.new.scratch
-            ≡ map (λ x. x.number) (running_execs number self.old.state) }
-    {
-        self.execs
-            .list_running(&self.kernel, number, &mut self.scratch);
-    }
-
-    pub(super) fn noted(&self) -> usize
-        ensures { result ≡ length self.now.scratch }
-    {
-        self.scratch.len()
-    }
-
-    pub(super) fn noted_at(&self, place: usize) -> u64
-        requires { place < length self.now.scratch }
-        ensures { result ≡ slice_index self.now.scratch place }
-    {
-        self.scratch[place]
     }
 
     /// The owner's process goes on.
@@ -246,7 +201,7 @@ impl Tables {
         ensures spare { self.new.spare ≡ self.old.spare }
         ensures scratch { self.new.scratch ≡ self.old.scratch }
     {
-        self.kernel.thaw(owner, self.clock)
+        self.processes.thaw(owner, self.clock)
     }
 
     /// The signal comes to the owner's process.
@@ -260,7 +215,7 @@ impl Tables {
         ensures room { self.new.room ≡ self.old.room }
         ensures spare { self.new.spare ≡ self.old.spare }
     {
-        self.kernel.signal(owner, sent, thaws, self.clock)
+        self.processes.signal(owner, sent, thaws, self.clock)
     }
 
     /// The next op of the owner's process takes effect.
@@ -268,7 +223,7 @@ impl Tables {
         requires due { due_at (process_of owner self.old.state.processes)
             ≡ Some self.old.state.clock }
         requires spare { 0 < self.old.spare }
-        requires clock { self.old.state.clock ≤ 9000000000000 }
+        requires clock { self.old.state.clock ≤ GREATEST_MOMENT }
         requires length { length_at (process_of owner self.old.state.processes) ≤ self.old.bytes }
         ensures state { self.new.state ≡ stepped run_due owner self.old.state }
         ensures effect { result ≡ effect_of (run_due self.old.state.clock)
@@ -278,7 +233,7 @@ impl Tables {
         ensures logs { self.new.logs ≡ self.old.logs }
         ensures outputs { self.new.outputs ≡ self.old.outputs }
     {
-        self.kernel.run_due(owner, self.clock)
+        self.processes.run_due(owner, self.clock)
     }
 
     /// The container's log has one more record, of its current run.
@@ -289,7 +244,7 @@ impl Tables {
         ensures room { self.new.room ≡ self.old.room }
         ensures spare { self.new.spare ≡ self.old.spare }
     {
-        self.containers.record(number, stream, payload, self.clock);
+        lives::record(&mut self.table, number, stream, payload, self.clock);
     }
 
     /// The exec's output has one more record.
@@ -300,7 +255,13 @@ impl Tables {
         ensures room { self.new.room ≡ self.old.room }
         ensures spare { self.new.spare ≡ self.old.spare }
     {
-        self.outputs.record(number, stream, payload, self.clock);
+        let written = LogRecord {
+            run: 1,
+            stream,
+            payload,
+            moment: self.clock,
+        };
+        self.execs.push_record(number, written);
     }
 
     /// The owner's process is frozen.
@@ -310,7 +271,7 @@ impl Tables {
         ensures spare { self.new.spare ≡ self.old.spare }
         ensures scratch { self.new.scratch ≡ self.old.scratch }
     {
-        self.kernel.freeze(owner, self.clock);
+        self.processes.freeze(owner, self.clock);
     }
 
     // The container's life and process begin, with room for so many bytes.
@@ -321,11 +282,9 @@ impl Tables {
         ensures state { self.new.state ≡ begun number script stdin room self.old.state }
         ensures room { self.new.room ≡ self.old.room }
     {
-        self.containers.launch(number, self.clock, self.next_pid);
-        let stop = Signal { number: 15 };
+        lives::launch(&mut self.table, number, self.clock, self.next_pid);
         let owner = Owner::Container(number);
-        self.kernel
-            .spawn(owner, script, self.clock, stdin, stop, room);
+        self.processes.spawn(owner, script, self.clock, stdin, room);
         self.next_pid += 1;
     }
 
@@ -341,7 +300,7 @@ impl Tables {
         requires steps { self.old.state.step_count < 2 ^ 60 }
         requires calls { self.old.state.call_count + calls < 2 ^ 63 }
         requires events { self.old.state.event_count + length events.now < 2 ^ 64 }
-        requires moments { min 65536 (length self.old.state.event_moments + length events.now)
+        requires moments { min KEPT_EVENTS (length self.old.state.event_moments + length events.now)
             ≤ self.old.room.moments }
         ensures state { self.new.state ≡ counted events.now calls self.old.state }
         ensures room { self.new.room ≡ self.old.room }
@@ -363,17 +322,17 @@ impl Tables {
         if self.scratch.reserve(self.execs.len()).is_err() {
             return Err(NoMemory);
         }
-        self.containers.reserve_timer()?;
+        self.table.reserve_timers(1)?;
         self.removals.reserve()?;
-        self.kernel.reserve(alloc, 1, 0)
+        self.processes.reserve(alloc, 1, 0)
     }
 
     /// The memory that the end of the container's main process may want, with the script of its launch.
     pub fn kit(&self, alloc: Global, number: u64, script: Option<Script>) -> Result<Kit, NoMemory>
         ensures { IfOk result (λ k. IsKitOf number script self.now.state k) }
     {
-        let execs = self.execs.numbers_of(alloc, number)?;
-        let outputs = self.outputs.count_of(&self.execs, number);
+        let execs = exec_lists::numbers_of(&self.execs, alloc, number)?;
+        let outputs = self.execs.count_of(number);
         let logs = room_for(alloc, outputs)?;
         Ok(Kit {
             script,

@@ -16,6 +16,7 @@ pub mod IdLemmas
 pub mod SettleLemmas
 pub mod StreamFacts
 pub mod NameLemmas
+pub mod FrameLemmas
 pub mod ChangeLemmas
 pub mod OwnerLemmas
 pub mod Processes

@@ -6,6 +6,7 @@ use Rattle.proc_kernel.specs.Catalogue.{program_of}
 use Rattle.proc_kernel.specs.Processes.{Process, is_frozen}
 use Rattle.proc_kernel.specs.Tables.{process_of}
 use Rattle.proc_kernel.specs.Times.{IsTimely}
+use Rattle.machine_model.specs.declared.limits.TheConstants.{CONTAINER_BYTES, EXEC_BYTES, INPUT_BYTES}
 use Rattle.machine_model.specs.Ranges.{IsInRange}
 use Rattle.machine_model.specs.State.{State, container_numbered, exec_numbered, timer_of, is_live}
 use Rattle.api_json.specs.Status.{is_paused, is_restarting}
@@ -200,9 +201,9 @@ pub record HasTickets (s : State) : Type 0 where
 pub record IsWithinLimits (s : State) : Type 0 where
   pub dues : AllByRecursion (λ d. s.clock ≤ d.moment) (due_actions s)
   pub clock : s.clock ≤ greatest_moment
-  pub logs : AllByRecursion (λ c. log_size c.life.log ≤ 4194304) s.containers
-  pub outputs : AllByRecursion (λ o. log_size o.log ≤ 1048576) s.outputs
-  pub input : AllByRecursion (λ e. sum_by length e.process.input ≤ 1048576) s.processes
+  pub logs : AllByRecursion (λ c. log_size c.life.log ≤ CONTAINER_BYTES) s.containers
+  pub outputs : AllByRecursion (λ o. log_size o.log ≤ EXEC_BYTES) s.outputs
+  pub input : AllByRecursion (λ e. sum_by length e.process.input ≤ INPUT_BYTES) s.processes
 
 -- ---- counts
 
@@ -266,11 +267,11 @@ room_left (Some p) = p.room
 
 -- A log has room for all that its process may yet write: else a write would pass the log's limit.
 abbrev pub HasLogRoom : State → Container → Type 0
-HasLogRoom s c = log_size c.life.log + room_left (process_of (OfContainer c.number) s.processes) ≤ 4194304
+HasLogRoom s c = log_size c.life.log + room_left (process_of (OfContainer c.number) s.processes) ≤ CONTAINER_BYTES
 
 -- So it is with an exec's output.
 abbrev pub HasOutputRoom : State → OwnedLog → Type 0
-HasOutputRoom s o = log_size o.log + room_left (process_of o.owner s.processes) ≤ 1048576
+HasOutputRoom s o = log_size o.log + room_left (process_of o.owner s.processes) ≤ EXEC_BYTES
 
 -- Restarts find their programs, writes their room, and no process's times lie behind the clock or more than a week ahead.
 pub record CanGoOn (s : State) : Type 0 where

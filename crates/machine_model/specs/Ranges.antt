@@ -4,6 +4,7 @@ use Rattle.std.specs.Prelude.{ℕ, ◌<◌, ◌≤◌, List, Option, Some, None,
 use Rattle.std.specs.List.{AllByRecursion}
 use Rattle.proc_kernel.specs.Processes.{Process}
 use Rattle.proc_kernel.specs.Tables.{Entry}
+use Rattle.machine_model.specs.declared.limits.TheConstants.{MOST_MOUNTS}
 use Rattle.machine_model.specs.State.{State}
 use Rattle.engine_text.specs.declared.container.Life.{Life}
 use Rattle.engine_text.specs.declared.script.Op.{Op}
@@ -57,6 +58,6 @@ pub record IsInRange (s : State) : Type 0 where
   pub processes : AreCoded s.processes
   pub lives : AllByRecursion (λ c. IsLifeInRange c.life) s.containers
   pub codes : AllByRecursion (λ x. IsByte x.code) s.execs
-  pub mounts : AllByRecursion (λ c. length c.life.mounts ≤ 16) s.containers
+  pub mounts : AllByRecursion (λ c. length c.life.mounts ≤ MOST_MOUNTS) s.containers
   pub moments : AllByRecursion (λ c. IsPast s.clock c.life) s.containers
   pub volumes : AllByRecursion (λ v. v.created ≤ s.clock) s.volumes

@@ -3,7 +3,7 @@ ghost use Rattle.std.specs.Prelude.{◌≡◌, ◌<◌};
 
 use crate::line::{as_text, number, owned};
 use crate::short::Short;
-use container_table::{Held, Table};
+use container_table::{Held, Rank, Table, blank_life};
 use engine_text::{Container, OpenLog, Text, id_of};
 use std::alloc::Global;
 
@@ -18,30 +18,30 @@ fn id_text(alloc: Global, number: u64) -> Result<Text, Short> {
 }
 
 // A container with these, of which no more is told, and an empty log.
-fn blank(table: &Table, alloc: Global, number: u64, id: Text, name: Text) -> Held {
+fn blank(alloc: Global, number: u64, id: Text, name: Text) -> Held {
     Held {
         container: Container {
             number,
             id,
             name,
-            life: table.blank_life(),
+            life: blank_life(alloc),
         },
         log: OpenLog::new(alloc),
     }
 }
 
 // A container of that number and name, with its id.
-fn held(table: &Table, alloc: Global, number: u64, name: &str) -> Result<Held, Short> {
+fn held(alloc: Global, number: u64, name: &str) -> Result<Held, Short> {
     let id = id_text(alloc, number)?;
     let name = Text::of(alloc, name)?;
-    Ok(blank(table, alloc, number, id, name))
+    Ok(blank(alloc, number, id, name))
 }
 
 // Whether the container of `NUMBER NAME` was added.
 fn add(table: &mut Table, alloc: Global, rest: &str) -> Result<bool, Short> {
     let (n, name) = word(rest);
     table.reserve(alloc, 1)?;
-    let held = held(table, alloc, number(n), name)?;
+    let held = held(alloc, number(n), name)?;
     let one = &held.container;
     if !table.is_free(one.number, one.id.as_str(), one.name.as_str()) {
         return Ok(false);
@@ -68,8 +68,8 @@ fn rename(table: &mut Table, alloc: Global, rest: &str) -> Result<bool, Short> {
 }
 
 // The rank in a field.
-fn rank(field: &str) -> u8 {
-    field.parse().unwrap_or(0)
+fn rank(field: &str) -> Rank {
+    Rank::numbered(field.parse().unwrap_or(0))
 }
 
 // Whether the timer of `MOMENT RANK NUMBER` was set.

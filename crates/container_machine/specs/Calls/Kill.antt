@@ -1,14 +1,11 @@
 -- own: what a kill does once its container is found.
-use Rattle.std.specs.Prelude.{ℕ, ◌<◌, ◌≤◌, Bool, length}
+use Rattle.std.specs.Prelude.{ℕ, Bool}
 use Rattle.engine_text.specs.declared.signal.Signal.{Signal}
 use Rattle.machine_model.specs.State.{State}
 use Rattle.machine_model.specs.Chain.{Effect, and_then, tell_of}
 use Rattle.machine_model.specs.EventTexts.{kill_event}
 use Rattle.machine_model.specs.Calls.Kill.{deliver}
 use Rattle.machine_model.specs.Effects.Cancel.{cancel_restart}
-use Rattle.machine_effects.specs.Fit.{AreTimely, CanEndBy}
-use Rattle.machine_effects.specs.Memory.{Memory}
-use Rattle.machine_effects.specs.declared.kit.Kit.{Kit}
 
 -- Of a container that runs or is paused: event kill, and the signal is delivered.
 abbrev pub kill_effect : ℕ → Signal → Bool → State → Effect
@@ -17,11 +14,3 @@ kill_effect n sent last = and_then (tell_of (kill_event sent.number) n) (deliver
 -- Of one that waits for its restart: event kill, and the restart is given up.
 abbrev pub kill_restarting_effect : ℕ → Signal → State → Effect
 kill_restarting_effect n sent = and_then (tell_of (kill_event sent.number) n) (cancel_restart n)
-
--- What it needs.
-pub record CanKill (n : ℕ) (sent : Signal) (last : Bool) (kit : Kit) (m : Memory) : Type 0 where
-  pub signal : sent.number < 32
-  pub timely : AreTimely m.state
-  pub room : length m.state.execs ≤ m.room.scratch
-  pub end : CanEndBy (deliver last sent.number n) n kit m.room m.state
-  pub spare : 0 < m.spare

@@ -1,16 +1,12 @@
--- own: what a removal does once its container is found, and what that needs.
-use Rattle.std.specs.Prelude.{ℕ, ◌<◌, ◌≤◌, length}
+-- own: what a removal does once its container is found.
+use Rattle.std.specs.Prelude.{ℕ}
 use Rattle.engine_text.specs.declared.ticket.Asked.TheVariants as Asked
 use Rattle.machine_model.specs.State.{State}
 use Rattle.machine_model.specs.Chain.{Effect, and_then, change}
-use Rattle.machine_model.specs.Calls.Remove.{kill_to_remove, to_remove}
+use Rattle.machine_model.specs.Calls.Remove.{kill_to_remove}
 use Rattle.machine_model.specs.Effects.Cancel.{cancel_restart}
 use Rattle.machine_model.specs.Effects.Destroy.{destroy}
 use Rattle.machine_model.specs.Tickets.{begun}
-use Rattle.machine_effects.specs.Fit.{AreTimely, CanEndAs}
-use Rattle.machine_effects.specs.Memory.{Memory}
-use Rattle.machine_effects.specs.Tickets.{CanBegin}
-use Rattle.machine_effects.specs.declared.kit.Kit.{Kit}
 
 -- Of a container that waits for its restart: the restart is given up, and the container is gone.
 abbrev pub give_up_effect : ℕ → State → Effect
@@ -19,12 +15,3 @@ give_up_effect n = and_then (cancel_restart n) (destroy n)
 -- Of one that lives: a ticket of the connection, and the container is to be removed.
 abbrev pub force_effect : ℕ → ℕ → State → Effect
 force_effect connection n = and_then (change (begun connection n Asked.Remove)) (kill_to_remove n)
-
--- What the second needs.
-pub record CanForce (connection n : ℕ) (kit : Kit) (m : Memory) : Type 0 where
-  pub begin : CanBegin m
-  pub timely : AreTimely m.state
-  pub room : length m.state.execs ≤ m.room.scratch
-  pub timers : length m.state.timers < m.room.timers
-  pub end : CanEndAs to_remove (kill_to_remove n) n kit m.room (begun connection n Asked.Remove m.state)
-  pub spare : 0 < m.spare

@@ -1,17 +1,13 @@
--- own: what a stop or a restart does once its container is found, and what that needs.
-use Rattle.std.specs.Prelude.{ℕ, ℤ, ◌<◌}
+-- own: what a stop or a restart does once its container is found.
+use Rattle.std.specs.Prelude.{ℕ, ℤ}
 use Rattle.engine_text.specs.declared.event.Action.TheVariants as Action
-use Rattle.engine_text.specs.declared.signal.Signal.{Signal}
 use Rattle.machine_model.specs.State.{State}
 use Rattle.machine_model.specs.Chain.{Effect, and_then, change, tell_of}
 use Rattle.machine_model.specs.Effects.Cancel.{cancel_restart}
 use Rattle.machine_model.specs.EventTexts.{plain_event}
 use Rattle.machine_model.specs.Tickets.{begun}
-use Rattle.machine_effects.specs.Halts.{CanHalt, asked_of, halted}
-use Rattle.machine_effects.specs.Memory.{Memory}
-use Rattle.machine_effects.specs.Tickets.{CanBegin}
+use Rattle.machine_effects.specs.Halts.{asked_of, halted}
 use Rattle.machine_effects.specs.declared.halting.Halting.{Halting}
-use Rattle.machine_effects.specs.declared.kit.Kit.{Kit}
 
 -- Of a container that lives: a ticket of the connection, and the run is to end.
 abbrev pub halt_effect : ℕ → ℕ → Halting → ℤ → ℕ → State → Effect
@@ -21,9 +17,3 @@ halt_effect connection n halting seconds signal =
 -- A stop of one that waits for its restart: the restart is given up, and event stop.
 abbrev pub stop_restarting_effect : ℕ → State → Effect
 stop_restarting_effect n = and_then (cancel_restart n) (tell_of (plain_event Action.Stop) n)
-
--- What the first needs.
-pub record CanStop (connection n : ℕ) (halting : Halting) (sent : Signal) (seconds : ℤ) (kit : Kit) (m : Memory) : Type 0 where
-  pub signal : sent.number < 32
-  pub begin : CanBegin m
-  pub halt : CanHalt halting seconds sent.number n kit (record m { state = begun connection n (asked_of halting) m.state })

@@ -12,9 +12,10 @@ ghost use Rattle.container_machine.specs.Making.{Makes};
 use crate::lookup::{Looked, look};
 use crate::plan::Plan;
 use crate::prepared::Prepared;
-use crate::streams::{FAR, run_if};
+use crate::streams::run_if;
 use engine_text::{Action, AttachAsk, LogSpec, NoMemory, Owner, Reply, Status, StopRule};
 use machine_effects::{Held, Tables, add, plain_event};
+use machine_model::FAR;
 use std::alloc::Global;
 
 // The current run, the next one or the last one.

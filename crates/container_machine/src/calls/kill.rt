@@ -5,7 +5,8 @@ ghost use Rattle.machine_model.specs.Calls.Kill as spec;
 ghost use Rattle.machine_effects.specs.Held.{container_in};
 ghost use Rattle.machine_model.specs.Consistency.{IsConsistent};
 ghost use Rattle.container_machine.specs.Making.{Makes};
-ghost use Rattle.container_machine.specs.Calls.Kill.{kill_effect, kill_restarting_effect, CanKill};
+ghost use Rattle.container_machine.specs.Calls.Kill.{kill_effect, kill_restarting_effect};
+ghost use Rattle.container_machine.specs.Needs.{CanEndRun};
 ghost use Rattle.machine_effects.specs.Settled.{deaths};
 
 use crate::answers::refuse;
@@ -26,7 +27,8 @@ pub fn perform(
     last: bool,
     kit: Kit,
 ) -> Option<Death>
-    requires { CanKill number sent last kit tables.old }
+    requires { CanEndRun number (Some sent.number) (spec.deliver last sent.number number) kit
+        tables.old }
     ensures state { tables.new.state ≡ (kill_effect number sent last tables.old.state).state }
     ensures died { deaths result ≡ (kill_effect number sent last tables.old.state).died }
     ensures room { tables.new.room ≡ tables.old.room }

@@ -1,5 +1,5 @@
 // Remove: by the container's status.
-ghost use Rattle.std.specs.Prelude.{◌≡◌, ◌<◌, ◌^◌, [], Some, IfOk};
+ghost use Rattle.std.specs.Prelude.{◌≡◌, ◌<◌, ◌^◌, [], Some, None, IfOk};
 ghost use Rattle.engine_text.specs.declared.owner.Owner as owners;
 ghost use Rattle.engine_text.specs.declared.ticket.Asked as asks;
 ghost use Rattle.machine_model.specs.Consistency.{IsConsistent};
@@ -12,8 +12,10 @@ ghost use Rattle.machine_model.specs.Calls.Remove as spec;
 ghost use Rattle.machine_effects.specs.Fit.{CanRemove};
 ghost use Rattle.machine_effects.specs.Held.{container_in};
 ghost use Rattle.machine_effects.specs.Settled.{deaths};
-ghost use Rattle.container_machine.specs.Calls.Remove.{CanForce, force_effect, give_up_effect};
+ghost use Rattle.container_machine.specs.Calls.Remove.{force_effect, give_up_effect};
 ghost use Rattle.container_machine.specs.Making.{IsAnswer, Makes};
+ghost use Rattle.container_machine.specs.Needs.{CanEndFor};
+ghost use Rattle.container_table.specs.declared.life_change.LifeChange as changes;
 
 use crate::answers::refuse;
 use crate::lookup::{Looked, look};
@@ -48,7 +50,8 @@ pub fn perform_given_up(tables: &mut Tables, number: u64, kit: Kit)
 
 /// A ticket is given, and the container is to be removed.
 pub fn perform_forced(tables: &mut Tables, conn: u32, number: u64, kit: Kit) -> Option<Death>
-    requires { CanForce conn number kit tables.old }
+    requires { CanEndFor conn number asks.Asked.Remove changes.LifeChange.ToRemove None
+        (spec.kill_to_remove number) kit tables.old }
     ensures state { tables.new.state ≡ (force_effect conn number tables.old.state).state }
     ensures died { deaths result ≡ (force_effect conn number tables.old.state).died }
     ensures room { tables.new.room ≡ tables.old.room }

@@ -7,8 +7,8 @@ ghost use Rattle.machine_model.specs.State.{container_numbered};
 ghost use Rattle.machine_model.specs.Calls.Restart as spec;
 ghost use Rattle.machine_effects.specs.Held.{container_in};
 ghost use Rattle.container_machine.specs.Calls.Restart.{restart_restarting_effect};
-ghost use Rattle.container_machine.specs.Calls.Start.{CanStart};
 ghost use Rattle.container_machine.specs.Making.{Makes};
+ghost use Rattle.container_machine.specs.Needs.{CanStart};
 
 use super::start::first_word;
 use crate::answers::refuse;

@@ -7,8 +7,8 @@ ghost use Rattle.machine_model.specs.State.{container_numbered};
 ghost use Rattle.machine_model.specs.Effects.Launch.{launch_by_call};
 ghost use Rattle.machine_model.specs.Calls.Start as spec;
 ghost use Rattle.machine_effects.specs.Held.{container_in};
-ghost use Rattle.container_machine.specs.Calls.Start.{CanStart};
 ghost use Rattle.container_machine.specs.Making.{Makes};
+ghost use Rattle.container_machine.specs.Needs.{CanStart};
 
 use crate::answers::{answer, refuse};
 use crate::lookup::{Looked, look};

@@ -1,5 +1,5 @@
 // Unpause: by the container's status.
-ghost use Rattle.std.specs.Prelude.{◌≡◌, ◌<◌, ◌^◌, Some, IfOk};
+ghost use Rattle.std.specs.Prelude.{◌≡◌, ◌<◌, ◌^◌, Some, None, IfOk};
 ghost use Rattle.engine_text.specs.declared.status.Status as statuses;
 ghost use Rattle.machine_model.specs.Consistency.{IsConsistent};
 ghost use Rattle.machine_model.specs.Effects.Meet.{thaw_container};
@@ -9,8 +9,8 @@ ghost use Rattle.machine_model.specs.State.{container_numbered};
 ghost use Rattle.machine_model.specs.Calls.Unpause as spec;
 ghost use Rattle.machine_effects.specs.Held.{container_in};
 ghost use Rattle.machine_effects.specs.Settled.{deaths};
-ghost use Rattle.container_machine.specs.Calls.Unpause.{CanThaw};
 ghost use Rattle.container_machine.specs.Making.{IsAnswer, Makes};
+ghost use Rattle.container_machine.specs.Needs.{CanEndRun};
 
 use crate::answers::refuse;
 use crate::lookup::{Looked, look};
@@ -24,7 +24,7 @@ use std::alloc::Global;
 
 /// The container goes on.
 pub fn perform(tables: &mut Tables, number: u64, kit: Kit) -> Option<Death>
-    requires { CanThaw number kit tables.old }
+    requires { CanEndRun number None (thaw_container number) kit tables.old }
     ensures state { tables.new.state ≡ (thaw_container number tables.old.state).state }
     ensures died { deaths result ≡ (thaw_container number tables.old.state).died }
     ensures room { tables.new.room ≡ tables.old.room }

@@ -14,7 +14,7 @@ use crate::plan::Plan;
 use crate::prepared::Prepared;
 use crate::refusals::{auto_remove_excludes, being_removed, dead};
 use engine_text::{Action, NoMemory, Policy, Reply, Status, Text};
-use machine_effects::{Held, Mark, Tables, add, plain_event};
+use machine_effects::{Held, LifeChange, Tables, add, plain_event};
 use std::alloc::Global;
 
 /// The container has the given policy, if one is given.
@@ -23,7 +23,7 @@ pub fn perform(tables: &mut Tables, number: u64, policy: Option<Policy>)
     ensures died { [] ≡ (update_effect number policy tables.old.state).died }
     ensures room { tables.new.room ≡ tables.old.room }
 {
-    tables.renew(number, Mark::Governed(policy));
+    tables.renew(number, LifeChange::Governed(policy));
 }
 
 // With a policy that the container may have.

@@ -15,11 +15,9 @@ use crate::header::Header;
 use crate::writing::header_of;
 use hex::FromHex;
 use json_laws::value_of_line;
+use machine_model::GREATEST_MOMENT;
 use serde_json::Value;
 use std::alloc::Global;
-
-/// The greatest moment, in milliseconds since 1970.
-const GREATEST_MOMENT: u64 = 9_000_000_000_000;
 
 // 32 bytes in hexadecimal.
 fn seed_of(digits: &str) -> Result<[u8; 32], LineFault>

@@ -6,6 +6,7 @@ ghost use Rattle.journal_lines.specs.Reading.Parts as spec;
 
 use crate::fault::LineFault;
 use engine_text::{Signal, Text};
+use machine_model::MOST_SECONDS;
 use serde_json::Value;
 use std::alloc::Global;
 
@@ -15,9 +16,6 @@ const MOST_COUNT: u64 = 4_294_967_295;
 const MOST_STATUS: u64 = 65_535;
 
 const MOST_SIGNAL: u64 = 255;
-
-/// The greatest number of seconds of a stop.
-const MOST_SECONDS: i64 = 2_147_483;
 
 /// What stands at a key.
 pub fn part_at<'v>(value: &'v Value, key: &str) -> Result<&'v Value, LineFault>

@@ -7,9 +7,7 @@ ghost use Rattle.journal_lines.specs.LentFields as lent;
 
 use crate::fields::{NumberTest, TextListTest, TextTest};
 use engine_text::{Bytes, HealthSpec, Signal, Text, Words, is_name, is_volume_name};
-
-/// The greatest moment that a request can write, in milliseconds.
-const FAR: u64 = 9_999_999_999_999;
+use machine_model::FAR;
 
 /// The greatest number of restarts.
 const MOST_RETRIES: u64 = 2_147_483_647;

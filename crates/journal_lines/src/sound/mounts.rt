@@ -5,9 +5,7 @@ ghost use Rattle.engine_text.specs.Mounts.{is_path};
 ghost use Rattle.engine_text.specs.Soundness as spec;
 
 use engine_text::{Mount, is_volume_name};
-
-/// The most mounts that a container has.
-const MOST_MOUNTS: usize = 16;
+use machine_model::MOST_MOUNTS;
 
 // Whether it begins with a slash.
 fn is_path(path: &str) -> bool

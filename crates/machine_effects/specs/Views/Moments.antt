@@ -3,12 +3,9 @@ use Rattle.std.specs.Prelude.{◌≡◌, ℕ, ◌-◌, ◌≤◌, List, Bool, tr
 use Rattle.std.specs.List.Sorted.{IsNonDecreasing}
 use Rattle.std.specs.Option.{option_map_or}
 use Rattle.std.specs.VecDeque.{deque_capacity}
+use Rattle.machine_model.specs.declared.limits.TheConstants.{KEPT_EVENTS}
 use Rattle.machine_effects.specs.Values.Moments.{MomentRows}
 use Rattle.machine_effects.specs.declared.moments.Moments.TheInside.{Inside}
-
--- How many moments are kept.
-abbrev pub most_moments : ℕ
-most_moments = 65536
 
 -- The moments.
 abbrev pub moment_rows : Inside → MomentRows
@@ -24,5 +21,5 @@ is_since_there moment found = option_map_or (nat_le moment) found true
 
 -- No more of them stand than are kept, and they are in order where this is noted.
 pub record AreSoundMoments (m : Inside) : Type 0 where
-  pub few : length m.items.items ≤ most_moments
+  pub few : length m.items.items ≤ KEPT_EVENTS
   pub ordered : m.in_order ≡ true → IsNonDecreasing m.items.items

@@ -8,11 +8,11 @@ use Rattle.machine_effects.specs.declared.tables.Tables.TheInside.{Inside}
 -- The state.
 abbrev pub state_of : Inside → State
 state_of m = record {
-  containers = m.containers.containers;
+  containers = m.table.containers;
   execs = m.execs.execs;
-  outputs = m.outputs.outputs;
-  processes = m.kernel.processes;
-  timers = m.containers.timers;
+  outputs = m.execs.outputs;
+  processes = m.processes.processes;
+  timers = m.table.timers;
   volumes = m.volumes.volumes;
   uses = m.volumes.uses;
   tickets = tickets_in m.seed m.tickets.tickets;
@@ -34,21 +34,20 @@ abbrev pub memory_of : Inside → Memory
 memory_of m = record {
   state = state_of m;
   room = record {
-    timers = m.containers.room;
+    timers = m.table.timer_places;
     tickets = m.tickets.room;
     removed = m.removals.removed_room;
     kept = m.removals.kept_room;
     moments = m.moments.room;
     scratch = vec_capacity m.scratch;
   };
-  containers = m.containers.places;
+  containers = m.table.places;
   volumes = m.volumes.room;
   uses = m.volumes.use_room;
-  execs = m.execs.room;
-  exec_outputs = m.outputs.places;
-  spare = m.kernel.spare;
-  bytes = m.kernel.bytes;
-  logs = m.containers.logs;
-  outputs = m.outputs.rooms;
+  execs = m.execs.places;
+  spare = m.processes.spare;
+  bytes = m.processes.bytes;
+  logs = m.table.logs;
+  outputs = m.execs.rooms;
   scratch = m.scratch.items;
 }

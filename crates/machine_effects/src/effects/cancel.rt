@@ -2,8 +2,8 @@
 ghost use Rattle.std.specs.Prelude.{◌≡◌};
 ghost use Rattle.machine_model.specs.Effects.Cancel.{cancel_restart};
 
-use crate::marks::Mark;
 use crate::tables::Tables;
+use container_table::{LifeChange, Rank};
 
 impl Tables {
     /// The pending restart is given up.
@@ -12,7 +12,7 @@ impl Tables {
         ensures room { self.new.room ≡ self.old.room }
         ensures spare { self.new.spare ≡ self.old.spare }
     {
-        self.clear_timer(3, number);
-        self.renew(number, Mark::Cancelled);
+        self.clear_timer(Rank::RestartTimer, number);
+        self.renew(number, LifeChange::Cancelled);
     }
 }

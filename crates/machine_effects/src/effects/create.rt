@@ -6,6 +6,7 @@ ghost use Rattle.machine_model.specs.Names.{chosen_name, holder};
 ghost use Rattle.machine_effects.specs.Held.{container_in};
 ghost use Rattle.machine_effects.specs.NewVolumes.{missing_volumes, CanAdd, HasAddRoom};
 
+use crate::names::chosen_name;
 use crate::new_volumes::{make_volumes, missing_volumes, refer_to};
 use crate::tables::Tables;
 use container_table::Held;
@@ -42,7 +43,7 @@ impl Tables {
         ensures { option_map container_in (option_copied result)
             ≡ holder name.now self.now.state.containers }
     {
-        self.containers.holder(name)
+        self.table.find_name(name)
     }
 
     /// The name that a create gives: the one that was asked for, or a free one.
@@ -51,7 +52,7 @@ impl Tables {
         ensures { IfOk result (λ t. t
             ≡ chosen_name asked.now self.now.state.next_number self.now.state.containers) }
     {
-        self.containers.chosen_name(alloc, asked, self.next_number)
+        chosen_name(alloc, asked, self.next_number, &self.table)
     }
 
     /// The volumes of these mounts that don't stand, each once, made at the moment.
@@ -73,7 +74,7 @@ impl Tables {
         ensures room { OnOk result (HasAddRoom mounts self.new) }
         ensures moments { self.new.room.moments ≡ self.old.room.moments }
     {
-        self.containers.reserve_place(alloc)?;
+        self.table.reserve_containers(alloc, 1)?;
         self.volumes.reserve(alloc, mounts)
     }
 
@@ -90,7 +91,7 @@ impl Tables {
             held.container.life.mounts.as_slice(),
             number,
         );
-        self.containers.add(held);
+        self.table.insert(held);
         self.next_number += 1;
     }
 }

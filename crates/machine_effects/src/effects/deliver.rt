@@ -4,8 +4,8 @@ ghost use Rattle.machine_model.specs.Calls.Kill.{deliver};
 ghost use Rattle.machine_effects.specs.Fit.{AreTimely, CanEndBy, died_of};
 
 use crate::kit::Kit;
-use crate::marks::Mark;
 use crate::tables::Tables;
+use container_table::LifeChange;
 use engine_text::Signal;
 
 impl Tables {
@@ -23,7 +23,7 @@ impl Tables {
         ensures room { self.new.room ≡ self.old.room }
     {
         if last {
-            self.renew(number, Mark::ByHand);
+            self.renew(number, LifeChange::ByHand);
             self.meet_signal(sent, number, kit)
         } else {
             self.send(sent, false, number, kit)

@@ -26,7 +26,7 @@ impl Tables {
         ensures room { self.new.room ≡ self.old.room }
         ensures spare { self.new.spare ≡ self.old.spare }
     {
-        let Some(h) = self.containers.remove(number) else {
+        let Some(h) = self.table.remove(number) else {
             return;
         };
         let code = h.container.life.code;
@@ -39,8 +39,7 @@ impl Tables {
             owner: Owner::Container(number),
             log: h.log.close(),
         });
-        self.outputs.take_of(&self.execs, number, &mut logs);
-        self.execs.remove_of(number);
+        self.execs.remove_container(number, &mut logs);
         self.volumes.release(number);
         self.tickets.answer(number, Fate::Gone(code));
         let removed = Removed { number, execs };

@@ -1,14 +1,15 @@
 // What deadlines and timers do.
 ghost use Rattle.std.specs.Prelude.{◌≡◌, ◌<◌, ◌≤◌, length};
 ghost use Rattle.machine_model.specs.Due.{stop_deadline, removal_deadline, restart_timer, restarted};
-ghost use Rattle.machine_model.specs.State.{change_life};
+ghost use Rattle.machine_model.specs.Consistency.{is_there};
+ghost use Rattle.machine_model.specs.State.{change_life, container_numbered};
 ghost use Rattle.machine_effects.specs.Deadlines.{HasId, CanRestart, timed_out_at};
 ghost use Rattle.machine_effects.specs.Fit.{AreTimely, CanLaunch, CanEndBy, died_of};
 
 use crate::held::Fate;
 use crate::kit::Kit;
-use crate::marks::Mark;
 use crate::tables::Tables;
+use container_table::{LifeChange, Rank};
 use engine_text::{Script, Signal};
 
 impl Tables {
@@ -22,8 +23,18 @@ impl Tables {
         ensures died { died_of number result ≡ (stop_deadline number self.old.state).died }
         ensures room { self.new.room ≡ self.old.room }
     {
-        self.clear_timer(1, number);
+        self.clear_timer(Rank::StopDeadline, number);
         self.meet_signal(Signal { number: 9 }, number, kit)
+    }
+
+    // Whether there is a container with that number.
+    fn has(&self, number: u64) -> bool
+        ensures { result ≡ is_there (container_numbered number self.now.state) }
+    {
+        match self.numbered(number) {
+            None => false,
+            Some(_) => true,
+        }
     }
 
     // The removals' tickets of the container are told that it takes too long.
@@ -33,7 +44,7 @@ impl Tables {
         ensures room { self.new.room ≡ self.old.room }
         ensures spare { self.new.spare ≡ self.old.spare }
     {
-        if self.containers.has(number) {
+        if self.has(number) {
             self.tickets.answer(number, Fate::TimedOut);
         }
     }
@@ -45,8 +56,8 @@ impl Tables {
         ensures room { self.new.room ≡ self.old.room }
         ensures spare { self.new.spare ≡ self.old.spare }
     {
-        self.clear_timer(2, number);
-        self.renew(number, Mark::Died);
+        self.clear_timer(Rank::RemovalDeadline, number);
+        self.renew(number, LifeChange::Died);
         self.time_out(number);
     }
 
@@ -61,7 +72,7 @@ impl Tables {
             return;
         };
         let count = h.container.life.restarts + 1;
-        self.renew(number, Mark::Restarted(count));
+        self.renew(number, LifeChange::Restarted(count));
     }
 
     /// The restart timer has come: the restart count rises, and the container is launched.
@@ -72,7 +83,7 @@ impl Tables {
         ensures state { self.new.state ≡ (restart_timer number self.old.state).state }
         ensures room { self.new.room ≡ self.old.room }
     {
-        self.clear_timer(3, number);
+        self.clear_timer(Rank::RestartTimer, number);
         self.count_restart(number);
         self.launch(number, script);
     }

@@ -7,8 +7,8 @@ ghost use Rattle.machine_effects.specs.Fit.{CanRemove, CanSettle, HasGoal};
 
 use crate::kit::Kit;
 use crate::lives;
-use crate::marks::Mark;
 use crate::tables::Tables;
+use container_table::{LifeChange, Rank};
 use engine_text::{Goal, Owner, Status};
 use restart_policy::Decision;
 
@@ -48,7 +48,7 @@ impl Tables {
     {
         let moment = self.clock();
         self.drop_process(Owner::Container(number));
-        self.renew(number, Mark::Ended(code, moment));
+        self.renew(number, LifeChange::Ended(code, moment));
     }
 
     /// The stop deadline and the removal deadline are gone.
@@ -57,8 +57,8 @@ impl Tables {
         ensures room { self.new.room ≡ self.old.room }
         ensures spare { self.new.spare ≡ self.old.spare }
     {
-        self.clear_timer(1, number);
-        self.clear_timer(2, number);
+        self.clear_timer(Rank::StopDeadline, number);
+        self.clear_timer(Rank::RemovalDeadline, number);
     }
 
     // It waits for a restart after the delay.
@@ -70,8 +70,8 @@ impl Tables {
         ensures room { self.new.room ≡ self.old.room }
     {
         let moment = self.clock() + delay;
-        self.renew(number, Mark::Waiting(delay));
-        self.set_timer(3, number, moment);
+        self.renew(number, LifeChange::Waiting(delay));
+        self.set_timer(Rank::RestartTimer, number, moment);
     }
 
     // It stays exited, and is gone where it is removed by itself.
@@ -84,7 +84,7 @@ impl Tables {
             return;
         };
         let auto = h.container.life.auto_remove;
-        self.renew(number, Mark::Exited);
+        self.renew(number, LifeChange::Exited);
         if !auto {
             return;
         }
@@ -152,6 +152,6 @@ impl Tables {
         self.die(code, number);
         self.clear_deadlines(number);
         self.conclude(number, kit);
-        self.renew(number, Mark::NoGoal);
+        self.renew(number, LifeChange::NoGoal);
     }
 }

@@ -3,11 +3,9 @@ ghost use Rattle.std.specs.Prelude.{◌≡◌, ◌<◌, ◌&&◌, not, OnOk};
 ghost use Rattle.machine_effects.specs.ExecStarts.{CanSpawn, exec_begun, start_effect};
 
 use crate::tables::Tables;
-use engine_text::{Exec, NoMemory, Owner, Script, Signal};
+use engine_text::{Exec, NoMemory, Owner, Script};
+use machine_model::EXEC_BYTES;
 use std::alloc::Global;
-
-// How many bytes an exec may write.
-const MOST_BYTES: u64 = 1_048_576;
 
 // Whether its input is open from the start.
 fn has_input(exec: &Exec, detach: bool) -> bool
@@ -23,7 +21,7 @@ impl Tables {
         ensures room { OnOk result (0 < self.new.spare) }
         ensures moments { self.new.room.moments ≡ self.old.room.moments }
     {
-        self.kernel.reserve(alloc, 1, 0)
+        self.processes.reserve(alloc, 1, 0)
     }
 
     // The exec has started, and its process begins.
@@ -33,10 +31,9 @@ impl Tables {
         ensures room { self.new.room ≡ self.old.room }
     {
         self.execs.start(number, self.next_pid);
-        let stop = Signal { number: 15 };
         let owner = Owner::Exec(number);
-        self.kernel
-            .spawn(owner, script, self.clock, stdin, stop, MOST_BYTES);
+        self.processes
+            .spawn(owner, script, self.clock, stdin, EXEC_BYTES);
         self.next_pid += 1;
     }
 

@@ -11,7 +11,7 @@ impl Tables {
     pub fn input_room(&self, owner: Owner) -> u64
         ensures { result ≡ room_at (process_of owner self.now.state.processes) }
     {
-        self.kernel.input_room(owner)
+        self.processes.kernel().input_room(owner)
     }
 
     /// A piece of input comes to the owner's process.
@@ -20,7 +20,7 @@ impl Tables {
         ensures state { self.new.state ≡ (feeds.feed_process owner piece self.old.state).state }
         ensures room { self.new.room ≡ self.old.room }
     {
-        self.kernel.feed(owner, piece, self.clock);
+        self.processes.feed(owner, piece, self.clock);
     }
 
     /// The input of the owner's process ends.
@@ -28,6 +28,6 @@ impl Tables {
         ensures state { self.new.state ≡ (feeds.end_input owner self.old.state).state }
         ensures room { self.new.room ≡ self.old.room }
     {
-        self.kernel.feed_end(owner, self.clock);
+        self.processes.feed_end(owner, self.clock);
     }
 }

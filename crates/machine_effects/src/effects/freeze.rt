@@ -2,8 +2,8 @@
 ghost use Rattle.std.specs.Prelude.{◌≡◌, ◌≤◌, length};
 ghost use Rattle.machine_model.specs.Calls.Pause.{freeze_execs, pause};
 
-use crate::marks::Mark;
 use crate::tables::Tables;
+use container_table::LifeChange;
 use engine_text::Owner;
 
 impl Tables {
@@ -30,6 +30,6 @@ impl Tables {
     {
         self.freeze_process(Owner::Container(number));
         self.freeze_execs(number);
-        self.renew(number, Mark::Paused);
+        self.renew(number, LifeChange::Paused);
     }
 }

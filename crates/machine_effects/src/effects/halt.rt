@@ -9,7 +9,9 @@ ghost use Rattle.machine_effects.specs.Halts.{CanHalt, HasHaltRoom, halted};
 use crate::halting::Halting;
 use crate::kit::Kit;
 use crate::tables::Tables;
+use container_table::Rank;
 use engine_text::{NoMemory, Signal};
+use machine_model::SECOND;
 use std::alloc::Global;
 
 impl Tables {
@@ -17,7 +19,7 @@ impl Tables {
     fn lesser_deadline(&self, number: u64, moment: u64) -> u64
         ensures { result ≡ lesser (timer_of 1 number self.now.state) moment }
     {
-        match self.containers.timer(1, number) {
+        match self.table.timer(Rank::StopDeadline, number) {
             None => moment,
             Some(d) => d.moment.min(moment),
         }
@@ -34,8 +36,8 @@ impl Tables {
         if seconds < 0 {
             return;
         }
-        let moment = self.lesser_deadline(number, self.clock() + 1000 * seconds as u64);
-        self.set_timer(1, number, moment);
+        let moment = self.lesser_deadline(number, self.clock() + SECOND * seconds as u64);
+        self.set_timer(Rank::StopDeadline, number, moment);
     }
 
     /// The marks of the call, the stop deadline, and the signal; the code of the main process, if
@@ -72,8 +74,8 @@ impl Tables {
             return Err(NoMemory);
         }
         self.tickets.reserve()?;
-        self.containers.reserve_timers(2)?;
+        self.table.reserve_timers(2)?;
         self.removals.reserve()?;
-        self.kernel.reserve(alloc, 1, 0)
+        self.processes.reserve(alloc, 1, 0)
     }
 }

@@ -3,12 +3,10 @@ ghost use Rattle.std.specs.Prelude.{◌≡◌, ◌<◌};
 ghost use Rattle.machine_model.specs.Effects.Launch.{launch, launch_by_call};
 ghost use Rattle.machine_effects.specs.Fit.{CanLaunch};
 
-use crate::marks::Mark;
 use crate::tables::Tables;
+use container_table::LifeChange;
 use engine_text::Script;
-
-// How many bytes a log may have.
-const MOST_BYTES: u64 = 4_194_304;
+use machine_model::CONTAINER_BYTES;
 
 impl Tables {
     /// The container is launched, with the script of its words.
@@ -25,7 +23,7 @@ impl Tables {
             return;
         };
         let stdin = h.container.life.open_stdin;
-        let room = h.log.bytes_left(MOST_BYTES);
+        let room = h.log.bytes_left(CONTAINER_BYTES);
         self.begin(number, script, stdin, room);
     }
 
@@ -36,7 +34,7 @@ impl Tables {
         ensures state { self.new.state ≡ (launch_by_call number self.old.state).state }
         ensures room { self.new.room ≡ self.old.room }
     {
-        self.renew(number, Mark::Afresh);
+        self.renew(number, LifeChange::Afresh);
         self.launch(number, script);
     }
 }

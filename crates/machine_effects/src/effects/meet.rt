@@ -7,8 +7,9 @@ ghost use Rattle.machine_model.specs.Effects.Meet.{step_process, by_effect, thaw
 ghost use Rattle.machine_effects.specs.Fit.{AreTimely, IsQuiet, CanEndBy, died_of};
 
 use crate::kit::Kit;
-use crate::marks::Mark;
+use crate::ready::is_paused;
 use crate::tables::Tables;
+use container_table::LifeChange;
 use engine_text::{Effect, Owner, Signal, Status};
 
 impl Tables {
@@ -104,7 +105,7 @@ impl Tables {
         ensures room { self.new.room ≡ self.old.room }
         ensures spare { self.new.spare ≡ self.old.spare }
     {
-        self.renew(number, Mark::Running);
+        self.renew(number, LifeChange::Running);
         self.thaw_execs(number);
     }
 
@@ -117,14 +118,8 @@ impl Tables {
         ensures room { self.new.room ≡ self.old.room }
         ensures spare { self.new.spare ≡ self.old.spare }
     {
-        match status {
-            Status::Paused => self.wake(number),
-            Status::Created => {}
-            Status::Running => {}
-            Status::Restarting => {}
-            Status::Removing => {}
-            Status::Exited => {}
-            Status::Dead => {}
+        if is_paused(status) {
+            self.wake(number);
         }
     }
 

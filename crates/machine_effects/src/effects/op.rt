@@ -11,6 +11,7 @@ ghost use Rattle.machine_effects.specs.Ops.{HasRecordRoom, CanEnd};
 use crate::kit::Kit;
 use crate::tables::Tables;
 use engine_text::{Bytes, Effect, Owner, Stream};
+use machine_model::GREATEST_MOMENT;
 
 impl Tables {
     // What the owner's process has written is kept.
@@ -68,7 +69,7 @@ impl Tables {
     pub fn run_op(&mut self, owner: Owner, kit: Kit) -> Option<u8>
         requires due { due_at (process_of owner self.old.state.processes)
             ≡ Some self.old.state.clock }
-        requires clock { self.old.state.clock ≤ 9000000000000 }
+        requires clock { self.old.state.clock ≤ GREATEST_MOMENT }
         requires length { length_at (process_of owner self.old.state.processes) ≤ self.old.bytes }
         requires kept { HasRecordRoom owner self.old }
         requires end { CanEnd (step_process run_due) owner kit self.old }

@@ -1,29 +1,18 @@
 // The forced removal of a container that lives.
-ghost use Rattle.std.specs.Prelude.{◌≡◌, ◌<◌, ◌≤◌, length, OnOk};
+ghost use Rattle.std.specs.Prelude.{◌≡◌, ◌<◌, ◌≤◌, length};
 ghost use Rattle.engine_text.specs.declared.owner.Owner as owners;
 ghost use Rattle.machine_model.specs.Calls.Remove.{if_it_lives, kill_to_remove, to_remove};
 ghost use Rattle.machine_model.specs.History.{greatest_moment};
 ghost use Rattle.machine_model.specs.State.{is_live};
 ghost use Rattle.machine_effects.specs.Fit.{AreTimely, CanEndAs, died_of};
-ghost use Rattle.machine_effects.specs.Removing.{HasForceRoom};
 
 use crate::kit::Kit;
-use crate::marks::Mark;
 use crate::tables::Tables;
-use engine_text::{NoMemory, Owner, Signal};
-use std::alloc::Global;
+use container_table::{LifeChange, Rank};
+use engine_text::{Owner, Signal};
+use machine_model::REMOVAL_TIME;
 
 impl Tables {
-    /// Makes room for a ticket, and for the end of a main process with what may follow it.
-    pub fn make_force_room(&mut self, alloc: Global) -> Result<(), NoMemory>
-        ensures state { self.new.state ≡ self.old.state }
-        ensures room { OnOk result (HasForceRoom self.new) }
-        ensures moments { self.new.room.moments ≡ self.old.room.moments }
-    {
-        self.tickets.reserve()?;
-        self.make_room(alloc)
-    }
-
     // Where the main process still lives, the container is in removing, and has ten seconds to end.
     fn await_end(&mut self, number: u64)
         requires clock { self.old.state.clock ≤ greatest_moment }
@@ -33,9 +22,9 @@ impl Tables {
         ensures room { self.new.room ≡ self.old.room }
     {
         if self.stands(Owner::Container(number)) {
-            let moment = self.clock() + 10_000;
-            self.renew(number, Mark::Removing);
-            self.set_timer(2, number, moment);
+            let moment = self.clock() + REMOVAL_TIME;
+            self.renew(number, LifeChange::Removing);
+            self.set_timer(Rank::RemovalDeadline, number, moment);
         }
     }
 
@@ -51,7 +40,7 @@ impl Tables {
         ensures died { died_of number result ≡ (kill_to_remove number self.old.state).died }
         ensures room { self.new.room ≡ self.old.room }
     {
-        self.renew(number, Mark::ToRemove);
+        self.renew(number, LifeChange::ToRemove);
         let code = self.meet_signal(Signal { number: 9 }, number, kit);
         self.await_end(number);
         code

@@ -15,6 +15,6 @@ impl Tables {
         ensures room { self.new.room ≡ self.old.room }
         ensures spare { self.new.spare ≡ self.old.spare }
     {
-        self.containers.rename(number, name);
+        self.table.rename(number, name);
     }
 }

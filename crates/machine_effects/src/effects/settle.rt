@@ -12,8 +12,8 @@ use container_table::Held;
 use engine_text::{Asked, Owner, Until};
 
 impl Tables {
-    // Whether no process of the container lives and no restart is pending.
-    fn is_at_rest(&self, h: &Held) -> bool
+    /// Whether no process of the container lives and no restart is pending.
+    pub fn is_at_rest(&self, h: &Held) -> bool
         ensures { result ≡ is_at_rest (container_in h.now) self.now.state }
     {
         if self.stands(Owner::Container(h.container.number)) {

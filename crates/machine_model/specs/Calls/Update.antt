@@ -1,5 +1,5 @@
 -- Update (Docker Engine API v1.43, ContainerUpdate; own: the answers by state).
-use Rattle.std.specs.Prelude.{ℕ, List, Bool, true, false, not, Option, Some, None, codes, unwrap_or}
+use Rattle.std.specs.Prelude.{ℕ, List, Bool, true, false, not, Option, Some, None, codes}
 use Rattle.engine_text.specs.Soundness.{allows_auto_remove}
 use Rattle.machine_model.specs.State.{State}
 use Rattle.machine_model.specs.Chain.{Effect, and_then, renew, tell_of}
@@ -7,17 +7,12 @@ use Rattle.machine_model.specs.EventTexts.{plain_event}
 use Rattle.machine_model.specs.Outcome.{Outcome, replies, conflicts, at_reference}
 use Rattle.machine_model.specs.Refusals.{being_removed, dead, auto_remove_excludes}
 use Rattle.engine_text.specs.declared.container.Container.{Container}
-use Rattle.engine_text.specs.declared.container.Life.{Life}
 use Rattle.engine_text.specs.declared.event.Action.TheVariants.{Update}
 use Rattle.engine_text.specs.declared.policy.Policy.{Policy}
 use Rattle.engine_text.specs.declared.reply.Reply.TheVariants.{Answer}
 use Rattle.engine_text.specs.declared.status.Status.{Status}
 use Rattle.engine_text.specs.declared.status.Status.TheVariants.{Created, Running, Paused, Restarting, Removing, Exited, Dead}
-
--- The given policy in the place of the old one, which stands where none is given; the restart count, the delay, the timer
--- and the manual flag stand.
-abbrev pub governed : Option Policy → Life → Life
-governed policy l = record l { policy = unwrap_or policy l.policy }
+pub use Rattle.container_table.specs.LifeChanges.{governed}
 
 -- The answer of an update.
 abbrev pub updated : List ℕ

@@ -14,7 +14,7 @@ use crate::plan::Plan;
 use crate::prepared::Prepared;
 use crate::texts::join;
 use engine_text::{Action, Exec, NoMemory, Reply, Text, Words};
-use machine_effects::{Held, HeldOutput, Tables, add, exec_event};
+use machine_effects::{Held, Tables, add, exec_event};
 use std::alloc::Global;
 
 /// What is asked of an exec.
@@ -27,13 +27,13 @@ pub struct ExecAsk<'a> {
 }
 
 /// The exec stands, with its output.
-pub fn perform(tables: &mut Tables, exec: Exec, output: HeldOutput)
-    requires { CanAddExec exec output tables.old }
+pub fn perform(tables: &mut Tables, exec: Exec)
+    requires { CanAddExec exec tables.old }
     ensures state { tables.new.state ≡ (add_exec exec tables.old.state).state }
     ensures died { [] ≡ (add_exec exec tables.old.state).died }
     ensures room { tables.new.room ≡ tables.old.room }
 {
-    tables.add_exec(exec, output);
+    tables.add_exec(exec);
 }
 
 // The answer to an exec create that was done.
@@ -81,12 +81,11 @@ fn prepare_new(
     let event = exec_event(alloc, Action::ExecCreate, &exec.id, &h.container, moment)?;
     add(&mut events, event)?;
     let body = created_text(alloc, &exec.id)?;
-    let output = HeldOutput::new(alloc, exec.number);
     Ok(Prepared {
         moment,
         reply: Reply::Answer { status: 201, body },
         events,
-        plan: Plan::ExecCreate { exec, output },
+        plan: Plan::ExecCreate { exec },
     })
 }
 

@@ -18,9 +18,10 @@ use crate::calls::start::first_word;
 use crate::plan::Plan;
 use crate::prepared::Prepared;
 use crate::refusals::{exec_already_started, unknown_command};
-use crate::streams::{FAR, run_if};
+use crate::streams::run_if;
 use engine_text::{Action, Exec, LogSpec, NoMemory, Owner, Reply, Script, StopRule, Text};
 use machine_effects::{Held, Tables, add, exec_event};
+use machine_model::FAR;
 use proc_kernel::program;
 use std::alloc::Global;
 

@@ -13,6 +13,7 @@ use crate::prepared::Prepared;
 use api_json::{VolumeView, volume_body};
 use engine_text::{Action, NoMemory, Pairs, Reply, Text};
 use machine_effects::{Tables, add, volume_event};
+use machine_model::GREATEST_MOMENT;
 use std::alloc::Global;
 
 /// The volume stands.
@@ -27,7 +28,7 @@ pub fn perform(tables: &mut Tables, name: Text, labels: Pairs)
 
 // What the volume will be.
 fn new_text(alloc: Global, moment: u64, name: &str, labels: &Pairs) -> Result<Text, NoMemory>
-    requires { moment ≤ 9_000_000_000_000 }
+    requires { moment ≤ GREATEST_MOMENT }
     ensures { IfOk result (λ t. t ≡ volume_body (new_volume name.now labels.now moment)) }
 {
     let view = VolumeView {
@@ -46,7 +47,7 @@ fn prepare_new(
     name: &str,
     labels: &Pairs,
 ) -> Result<Prepared, NoMemory>
-    requires until { moment ≤ 9_000_000_000_000 }
+    requires until { moment ≤ GREATEST_MOMENT }
     requires free { volume_named name.now tables.now.state ≡ None }
     ensures { IfOk result
         (λ p. Makes p moment tables.now.state (spec.by_standing None name.now labels.now)) }
@@ -76,7 +77,7 @@ pub fn prepare(
     name: &str,
     labels: &Pairs,
 ) -> Result<Prepared, NoMemory>
-    requires until { moment ≤ 9_000_000_000_000 }
+    requires until { moment ≤ GREATEST_MOMENT }
     requires kept { IsConsistent tables.now.state }
     ensures { IfOk result (λ p. Makes p moment tables.now.state
         (spec.volume_create_outcome name.now labels.now)) }

@@ -13,11 +13,12 @@ use crate::refusals::no_such_volume;
 use api_json::{VolumeView, volume_body};
 use engine_text::{NoMemory, Volume};
 use machine_effects::Tables;
+use machine_model::GREATEST_MOMENT;
 use std::alloc::Global;
 
 /// An answer that tells what the volume is.
 pub fn show(alloc: Global, moment: u64, status: u16, volume: &Volume) -> Result<Prepared, NoMemory>
-    requires { volume.now.created ≤ 9_000_000_000_000 }
+    requires { volume.now.created ≤ GREATEST_MOMENT }
     ensures { IfOk result (λ p. IsAnswer moment status (volume_body volume.now) p) }
 {
     let view = VolumeView {

@@ -7,10 +7,10 @@ use Rattle.history_replay.proofs.making.ask.Goals as goal
 
 pub returns-clause-reply : goal.returns-clause-reply
 returns-clause-reply c =
-    let done = c.commit.ensures (asked_by c.args.conn c.args.moment c.args.call.now) c.in_ok-prepared.ensures.ready in
-    done.reply ∙ ap (λ (s : State). reply_of s c.args.conn c.args.moment c.args.call.now) c.prepare.ensures.state
+    c.commit.ensures.reply (asked_by c.args.conn c.args.moment c.args.call.now) c.in_ok-prepared.ensures.ready
+    ∙ ap (λ (s : State). reply_of s c.args.conn c.args.moment c.args.call.now) c.prepare.ensures.state
 
 pub returns-clause-made : goal.returns-clause-made
 returns-clause-made c =
-    let done = c.commit.ensures (asked_by c.args.conn c.args.moment c.args.call.now) c.in_ok-prepared.ensures.ready in
+    let done = c.commit.ensures.step (asked_by c.args.conn c.args.moment c.args.call.now) c.in_ok-prepared.ensures.ready in
     done.state ∙ ap (λ (s : State). after_step s (Step.Call c.args.conn c.args.moment c.args.call.now)) c.prepare.ensures.state

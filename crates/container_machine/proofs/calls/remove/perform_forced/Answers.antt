@@ -1,3 +1,4 @@
+use Rattle.std.proofs.Common.{arith}
 use Rattle.container_machine.proofs.RemoveLemmas.{forced_end, forced_execs, forced_timely, forced_timers}
 use Rattle.container_machine.proofs.calls.remove.perform_forced.Goals as goal
 
@@ -10,7 +11,8 @@ kill_to_remove-requires-clause-room c =
 
 pub kill_to_remove-requires-clause-timers : goal.kill_to_remove-requires-clause-timers
 kill_to_remove-requires-clause-timers c =
-    forced_timers c.args.conn c.args.number c.args.tables.now.room c.begin_ticket.new.self.room c.args.tables.now.state c.begin_ticket.new.self.state c.begin_ticket.ensures.state c.begin_ticket.ensures.room c.requires.timers
+    let more = c.requires.timers in
+    forced_timers c.args.conn c.args.number c.args.tables.now.room c.begin_ticket.new.self.room c.args.tables.now.state c.begin_ticket.new.self.state c.begin_ticket.ensures.state c.begin_ticket.ensures.room (omega (arith, more))
 
 pub kill_to_remove-requires-clause-end : goal.kill_to_remove-requires-clause-end
 kill_to_remove-requires-clause-end c =

@@ -1,6 +1,8 @@
 use Rattle.std.proofs.Common.{◌≤◌, arith, refl, ap, sym, subst, ◌∙◌}
+use Rattle.machine_model.specs.declared.limits.TheConstants.{KEPT_EVENTS}
 use Rattle.machine_effects.specs.Memory.{Memory, Room, standing}
-use Rattle.container_machine.specs.Plans.{Fits}
+use Rattle.container_machine.specs.Needs.{Fits}
+use Rattle.container_machine.specs.Plans.{need_of}
 use Rattle.machine_model.specs.Step.{at_moment, counted}
 use Rattle.container_machine.specs.Parts.{MachineParts}
 use Rattle.container_machine.proofs.CommitLemmas.{commit_parts, kept_parts, count_fits}
@@ -10,7 +12,7 @@ pub invariant_of-self : goal.invariant_of-self
 invariant_of-self c = record {
   state = kept_parts c.args.prepared c.args.self.now c.requires.0 c.perform-death.result c.as_slice.result.now c.stand_at.new.self.state c.perform-death.new.tables.state c.settle.new.self.state c.count.new.self.state
       c.requires.1 (ap (λ (m : Memory). m.state) c.stand_at.ensures ∙ ap (λ (w : MachineParts). at_moment c.args.prepared.moment w.memory.state) c.self.view_is) c.perform-death.ensures.state c.perform-death.ensures.died c.settle.ensures.state c.as_slice.ensures.value c.count.ensures.state;
-  moments = subst (λ (r : Room). 65536 ≤ r.moments) (sym (c.count.ensures.room ∙ (c.settle.ensures.room ∙ (c.perform-death.ensures.room ∙ ap (λ (m : Memory). m.room) c.stand_at.ensures)))) c.self.invariant.moments;
+  moments = subst (λ (r : Room). KEPT_EVENTS ≤ r.moments) (sym (c.count.ensures.room ∙ (c.settle.ensures.room ∙ (c.perform-death.ensures.room ∙ ap (λ (m : Memory). m.room) c.stand_at.ensures)))) c.self.invariant.moments;
 }
 
 pub count-requires-clause-calls : goal.count-requires-clause-calls
@@ -21,21 +23,23 @@ pub count-requires-clause-events : goal.count-requires-clause-events
 count-requires-clause-events c = (count_fits c.as_slice.result.now 1 c.settle.new.self.state (kept_parts c.args.prepared c.args.self.now c.requires.0 c.perform-death.result c.as_slice.result.now c.stand_at.new.self.state c.perform-death.new.tables.state c.settle.new.self.state (counted c.as_slice.result.now 1 c.settle.new.self.state)
     c.requires.1 (ap (λ (m : Memory). m.state) c.stand_at.ensures ∙ ap (λ (w : MachineParts). at_moment c.args.prepared.moment w.memory.state) c.self.view_is) c.perform-death.ensures.state c.perform-death.ensures.died c.settle.ensures.state c.as_slice.ensures.value refl)).1
 
-pub returns : goal.returns
-returns c = λ asked for. record {
-  reply = for.reply;
+pub returns-clause-step : goal.returns-clause-step
+returns-clause-step c = λ asked for. record {
   state = commit_parts c.args.prepared c.args.self.now asked c.perform-death.result c.as_slice.result.now c.stand_at.new.self.state c.perform-death.new.tables.state c.settle.new.self.state c.count.new.self.state
       for (ap (λ (m : Memory). m.state) c.stand_at.ensures ∙ ap (λ (w : MachineParts). at_moment c.args.prepared.moment w.memory.state) c.self.view_is) c.perform-death.ensures.state c.perform-death.ensures.died c.settle.ensures.state c.as_slice.ensures.value c.count.ensures.state;
   room = c.count.ensures.room ∙ (c.settle.ensures.room ∙ (c.perform-death.ensures.room ∙ (ap (λ (m : Memory). m.room) c.stand_at.ensures ∙ ap (λ (w : MachineParts). w.memory.room) c.self.view_is)));
 }
 
+pub returns-clause-reply : goal.returns-clause-reply
+returns-clause-reply c = λ asked for. for.makes.reply
+
 pub perform-death-requires : goal.perform-death-requires
 perform-death-requires c =
-    subst (λ (m : Memory). Fits c.args.prepared.plan m)
-    (sym (c.stand_at.ensures ∙ (ap (λ t. standing t c.self.inside.tables) c.requires.1.moment ∙ ap (λ (w : MachineParts). standing c.requires.0.moment w.memory) c.self.view_is)))
+    subst (λ (m : Memory). Fits (need_of c.args.prepared.plan) m)
+    (sym (c.stand_at.ensures ∙ (ap (λ t. standing t c.self.inside.tables) c.requires.1.makes.moment ∙ ap (λ (w : MachineParts). standing c.requires.0.moment w.memory) c.self.view_is)))
     c.requires.1.fits
 
 pub count-requires-clause-moments : goal.count-requires-clause-moments
 count-requires-clause-moments c =
-    let room : 65536 ≤ c.settle.new.self.room.moments = subst (λ (r : Room). 65536 ≤ r.moments) (sym (c.settle.ensures.room ∙ (c.perform-death.ensures.room ∙ ap (λ (m : Memory). m.room) c.stand_at.ensures))) c.self.invariant.moments in
+    let room : KEPT_EVENTS ≤ c.settle.new.self.room.moments = subst (λ (r : Room). KEPT_EVENTS ≤ r.moments) (sym (c.settle.ensures.room ∙ (c.perform-death.ensures.room ∙ ap (λ (m : Memory). m.room) c.stand_at.ensures))) c.self.invariant.moments in
     omega (arith, room)

@@ -6,6 +6,7 @@ use Rattle.machine_model.proofs.Laws.{timely_call}
 use Rattle.machine_model.specs.History.{IsLawful}
 use Rattle.engine_text.specs.declared.step.Step.{Step}
 use Rattle.container_machine.specs.Making.{Makes}
+use Rattle.container_machine.specs.Needs.{HasSpace}
 use Rattle.container_machine.specs.Prepared.{IsFor, asked_by}
 use Rattle.machine_model.specs.Consistency.{IsConsistent}
 use Rattle.container_machine.proofs.ReadyLemmas.{ready}
@@ -25,15 +26,15 @@ prepare_call-requires-clause-until c =
 
 pub returns-clause-ready : goal.returns-clause-ready
 returns-clause-ready c =
-    let e : c.args.self.now.memory.state ≡ c.make_room.new.self.memory.state = sym c.make_room.ensures.state in
-    ready c.in_ok-prepared.prepared c.make_room.new.self c.args.conn c.args.moment c.args.call.now
+    let e : c.args.self.now.memory.state ≡ c.make_space.new.self.memory.state = sym c.make_space.ensures.state in
+    ready c.in_ok-prepared.prepared c.make_space.new.self c.args.conn c.args.moment c.args.call.now
     (subst (λ (s : State). IsConsistent s) e c.kept.ensures.state)
     (subst (λ (s : State). IsLawful s (Step.Call c.args.conn c.args.moment c.args.call.now)) e c.requires.lawful)
     (subst (λ (s : State). Makes c.in_ok-prepared.prepared c.args.moment s (outcome_of c.args.call.now c.args.conn)) e c.in_ok-prepared.ensures)
-    c.in_ok-make_room.ensures.room
+    (subst (λ x. HasSpace x c.make_space.new.self.memory) c.space_of.ensures c.in_ok-make_space.ensures.room)
 
 pub prepare_call-requires-clause-heard : goal.prepare_call-requires-clause-heard
 prepare_call-requires-clause-heard c = not_drop c.args.call.now c.in_default.not-Drop
 
-pub returns-in_err-make_room-clause-drop : goal.returns-in_err-make_room-clause-drop
-returns-in_err-make_room-clause-drop c = on_err c.from_residual-in_err-make_room.result _ (not_drop c.args.call.now c.in_default.not-Drop)
+pub returns-in_err-make_space-clause-drop : goal.returns-in_err-make_space-clause-drop
+returns-in_err-make_space-clause-drop c = on_err c.from_residual-in_err-make_space.result _ (not_drop c.args.call.now c.in_default.not-Drop)

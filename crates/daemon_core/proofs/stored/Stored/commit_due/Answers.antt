@@ -2,9 +2,8 @@ use Rattle.std.proofs.Common.{◌≡◌, refl, subst, sym, ap, ◌∙◌}
 use Rattle.engine_text.specs.declared.step.Step.{Step}
 use Rattle.machine_model.specs.State.{State}
 use Rattle.machine_model.specs.History.{after_step}
-use Rattle.machine_model.specs.Step.{due_step, step_effect}
+use Rattle.machine_model.specs.Step.{step_effect}
 use Rattle.daemon_core.specs.Telling.{AreTimed}
-use Rattle.daemon_core.proofs.DueLemmas.{stepped}
 use Rattle.daemon_core.proofs.TellLemmas.{due_events, played, room_for, timed_step}
 use Rattle.daemon_core.proofs.stored.Stored.commit_due.Goals as goal
 
@@ -35,7 +34,7 @@ returns c =
     c.in_ok-lines.ensures.ok ∙ c.events.ensures ∙ due_events c.in_ok-prepared.prepared m c.in_ok-prepared.ensures.ready
     ∙ ap (λ (y : State). (step_effect Step.Due y).events) c.in_ok-prepared.ensures.state in
     let is : n.memory.state ≡ after_step s Step.Due =
-    stepped (due_step m.memory.state) m n c.commit_due.ensures ∙ ap (λ (y : State). after_step y Step.Due) c.in_ok-prepared.ensures.state in
+    c.commit_due.ensures.state ∙ ap (λ (y : State). after_step y Step.Due) c.in_ok-prepared.ensures.state in
     record {
       journal = refl;
       made = played c.args.self.now (record { machine = n; journal = c.args.self.now.journal; ring = c.keep_all.new.ring }) Step.Due

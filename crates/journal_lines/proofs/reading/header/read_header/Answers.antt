@@ -5,7 +5,7 @@ use Rattle.journal_lines.specs.JournalLines.{header_value, header_line}
 use Rattle.journal_lines.specs.Line.{IsHeaderFault}
 use Rattle.journal_lines.specs.declared.fault.LineFault.{LineFault}
 use Rattle.journal_lines.specs.declared.header.Header.{Header}
-use Rattle.journal_lines.proofs.HeaderLemmas.{header, header_same, is_carried, not_read}
+use Rattle.journal_lines.proofs.HeaderLemmas.{header_same, is_carried, not_read}
 use Rattle.journal_lines.proofs.reading.header.read_header.Goals as goal
 
 not_false : (b : Bool) → not b ≡ false → b ≡ true

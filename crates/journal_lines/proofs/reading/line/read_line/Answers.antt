@@ -1,13 +1,12 @@
 use Rattle.std.proofs.Common.{◌≡◌, ℕ, List, true, false, refl, sym, ap, ◌∙◌, subst, not, Bool, bytes_eq, Result, Ok, Err, IfErr, IsErrAnd}
 use Rattle.std.proofs.lemmas.Slice.Eq.{bytes_eq-Decides}
-use Rattle.serde_json.specs.View.{view}
 use Rattle.engine_text.specs.Soundness.{is_sound}
 use Rattle.journal_lines.specs.JournalLines.{format_of, entry_value, journal_line}
 use Rattle.engine_text.specs.declared.entry.Entry.{Entry}
 use Rattle.journal_lines.specs.Line.{IsLineFault}
 use Rattle.journal_lines.specs.declared.format.Format.{Format}
 use Rattle.journal_lines.specs.declared.fault.LineFault.{LineFault}
-use Rattle.journal_lines.proofs.EntryLemmas.{entry_same, entry_told, has_line, is_carried, not_read}
+use Rattle.journal_lines.proofs.EntryLemmas.{entry_same, entry_told, has_line, is_carried}
 use Rattle.journal_lines.proofs.reading.line.read_line.Goals as goal
 
 not_false : (b : Bool) → not b ≡ false → b ≡ true

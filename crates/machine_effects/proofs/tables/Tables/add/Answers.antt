@@ -45,17 +45,17 @@ refer_to-requires-clause-stand c =
     subst (λ (vs : List Volume). AllByRecursion (λ (m : Mount). IsTrue (is_there (find (λ v. same_bytes v.name m.volume) vs))) c.as_slice.result.now) (sym same)
     (subst (λ (l : List Mount). AllByRecursion (λ (m : Mount). IsTrue (is_there (find (λ v. same_bytes v.name m.volume) (with_volumes made s.volumes)))) l) (sym c.as_slice.ensures) (all_stand ms s))
 
-pub add-requires-clause-above : goal.add-requires-clause-above
-add-requires-clause-above c = subst (λ (m : Memory). AllByRecursion (λ (d : Container). d.number < c.args.held.container.number) m.state.containers) (sym c.self.view_is) c.requires.above
+pub insert-requires-clause-above : goal.insert-requires-clause-above
+insert-requires-clause-above c = subst (λ (m : Memory). AllByRecursion (λ (d : Container). d.number < c.args.held.container.number) m.state.containers) (sym c.self.view_is) c.requires.above
 
-pub add-requires-clause-id : goal.add-requires-clause-id
-add-requires-clause-id c = subst (λ (m : Memory). with_id c.args.held.container.id m.state.containers ≡ None) (sym c.self.view_is) c.requires.id
+pub insert-requires-clause-id : goal.insert-requires-clause-id
+insert-requires-clause-id c = subst (λ (m : Memory). with_id c.args.held.container.id m.state.containers ≡ None) (sym c.self.view_is) c.requires.id
 
-pub add-requires-clause-name : goal.add-requires-clause-name
-add-requires-clause-name c = subst (λ (m : Memory). named c.args.held.container.name m.state.containers ≡ None) (sym c.self.view_is) c.requires.name
+pub insert-requires-clause-name : goal.insert-requires-clause-name
+insert-requires-clause-name c = subst (λ (m : Memory). named c.args.held.container.name m.state.containers ≡ None) (sym c.self.view_is) c.requires.name
 
-pub add-requires-clause-place : goal.add-requires-clause-place
-add-requires-clause-place c = subst (λ (m : Memory). length m.state.containers < m.containers) (sym c.self.view_is) c.requires.room.place
+pub insert-requires-clause-room : goal.insert-requires-clause-room
+insert-requires-clause-room c = subst (λ (m : Memory). length m.state.containers < m.containers) (sym c.self.view_is) c.requires.room.place
 
 pub returns-clause-state : goal.returns-clause-state
 returns-clause-state c =
@@ -66,7 +66,7 @@ returns-clause-state c =
     c.refer_to.ensures.uses
     ∙ (ap (λ (l : List VolumeUse). l ++ map (λ (m : Mount). use_of m.volume d.number) c.as_slice.result.now) c.make_volumes.ensures.uses
     ∙ ap (λ (l : List Mount). s.uses ++ map (λ (m : Mount). use_of m.volume d.number) l) c.as_slice.ensures) in
-    added_parts d s c.add.new.self.containers c.add.new.self.timers c.refer_to.new.volumes.volumes c.refer_to.new.volumes.uses
-    c.add.ensures.containers c.add.ensures.timers
+    added_parts d s c.insert.new.self.containers c.insert.new.self.timers c.refer_to.new.volumes.volumes c.refer_to.new.volumes.uses
+    c.insert.ensures.containers c.insert.ensures.timers
     (c.refer_to.ensures.volumes ∙ (c.make_volumes.ensures.volumes ∙ ap (λ l. with_volumes l s.volumes) made)) uses
     ∙ ap (λ (m : Memory). (add d m.state).state) c.self.view_is

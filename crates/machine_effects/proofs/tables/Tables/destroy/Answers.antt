@@ -19,7 +19,7 @@ use Rattle.machine_effects.proofs.tables.Tables.destroy.Goals as goal
 pub returns-in_default-clause-state : goal.returns-in_default-clause-state
 returns-in_default-clause-state c =
     let s : State = state_of c.self.inside in
-    let none : container_numbered c.args.number s ≡ None = sym c.remove.ensures.held ∙ ap (option_map container_in) c.in_default.is in
+    let none : container_numbered c.args.number s ≡ None = sym c.remove.ensures.value ∙ ap (option_map container_in) c.in_default.is in
     ap (λ (cs : List Container). record s { containers = cs; timers = c.remove.new.self.timers }) (c.remove.ensures.containers ∙ sym (removed_none (λ (d : Container). d.number == c.args.number) s.containers none))
     ∙ (ap (λ (ts : List DueAction). record s { timers = ts }) c.remove.ensures.timers
     ∙ (destroyed_none c.args.number s none ∙ ap (λ (m : Memory). (destroy c.args.number m.state).state) c.self.view_is))
@@ -29,18 +29,18 @@ returns-clause-state c =
     let s : State = state_of c.self.inside in
     let n : ℕ = c.args.number in
     let d : Container = container_in c.in-Some.h in
-    let found : container_numbered n s ≡ Some d = sym c.remove.ensures.held ∙ ap (option_map container_in) c.in-Some.is in
+    let found : container_numbered n s ≡ Some d = sym c.remove.ensures.value ∙ ap (option_map container_in) c.in-Some.is in
     let numbers : c.args.kit.execs ≡ exec_numbers n s = c.requires.numbers ∙ sym (ap (λ (m : Memory). exec_numbers n m.state) c.self.view_is) in
     let first : c.push_reserved.new.self.items ≡ record { owner = Owner.Container n; log = c.in-Some.h.log.records } ∷ [] =
     c.push_reserved.ensures.items ∙ (ap (λ (l : List OwnedLog). l ++ record { owner = Owner.Container n; log = c.close.result } ∷ []) c.requires.empty
     ∙ ap (λ (l : List LogRecord). record { owner = Owner.Container n; log = l } ∷ []) c.close.ensures) in
     let logs : c.from_vec.result ≡ record { owner = Owner.Container n; log = d.life.log } ∷ outputs_of n s =
-    c.from_vec.ensures ∙ (c.take_of.ensures.into ∙ ap (λ (l : List OwnedLog). l ++ outputs_of n s) first) in
+    c.from_vec.ensures ∙ (c.remove_container.ensures.into ∙ ap (λ (l : List OwnedLog). l ++ outputs_of n s) first) in
     let t : State = record s {
       containers = c.remove.new.self.containers;
       timers = c.remove.new.self.timers;
-      execs = c.remove_of.new.self.execs;
-      outputs = c.take_of.new.self.outputs;
+      execs = c.remove_container.new.self.execs;
+      outputs = c.remove_container.new.self.outputs;
       volumes = c.release.new.self.volumes;
       uses = c.release.new.self.uses;
       tickets = tickets_in c.self.inside.seed c.answer.new.self.tickets;
@@ -50,8 +50,8 @@ returns-clause-state c =
     let parts : IsWithout n d s t = record {
       containers = c.remove.ensures.containers;
       timers = c.remove.ensures.timers;
-      execs = c.remove_of.ensures;
-      outputs = c.take_of.ensures.outputs;
+      execs = c.remove_container.ensures.execs;
+      outputs = c.remove_container.ensures.outputs;
       volumes = c.release.ensures.volumes;
       uses = c.release.ensures.uses;
       tickets = ap (tickets_in c.self.inside.seed) c.answer.ensures.tickets ∙ tickets_last c.self.inside.seed n d.life.code c.self.inside.tickets.tickets;

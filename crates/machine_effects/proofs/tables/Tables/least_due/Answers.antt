@@ -9,6 +9,6 @@ use Rattle.machine_effects.proofs.tables.Tables.least_due.Goals as goal
 pub returns : goal.returns
 returns c =
     c.lesser.ensures
-    ∙ (ap (λ o. lesser o c.least_timer.result) c.least_op.ensures
-    ∙ (ap (λ o. lesser (least (actions_of c.self.inside.kernel.processes)) o) c.least_timer.ensures
-    ∙ (least_both (actions_of c.self.inside.kernel.processes) c.self.inside.containers.timers ∙ ap (λ (m : Memory). least_due m.state) c.self.view_is)))
+    ∙ (ap (λ o. lesser o c.least-2.result) c.least.ensures
+    ∙ (ap (λ o. lesser (least (actions_of c.self.inside.processes.processes)) o) c.least-2.ensures
+    ∙ (least_both (actions_of c.self.inside.processes.processes) c.self.inside.table.timers ∙ ap (λ (m : Memory). least_due m.state) c.self.view_is)))

@@ -11,5 +11,5 @@ returns-clause-room c =
     c.in_ok-reserve_end_of.ensures.room c.in_ok-reserve_record.ensures.kept c.reserve_record.ensures.state c.reserve_record.ensures.room
     (ap (λ (ps : List Entry). record (memory_of c.self.inside).state { processes = ps }) c.reserve.ensures.processes ∙ ap (λ (m : Memory). m.state) c.self.view_is)
     (ap (λ (m : Memory). m.room) c.self.view_is) (ap (λ (m : Memory). m.logs) c.self.view_is) (ap (λ (m : Memory). m.outputs) c.self.view_is)
-    (c.record_length-length.ensures ∙ ap (λ (m : Memory). length_at (process_of c.args.owner m.state.processes)) c.self.view_is)
+    (c.record_length-length.ensures ∙ ap (λ (ps : List Entry). length_at (process_of c.args.owner ps)) c.kernel.ensures ∙ ap (λ (m : Memory). length_at (process_of c.args.owner m.state.processes)) c.self.view_is)
     c.reserve.ensures.spare c.reserve.ensures.bytes

@@ -1,6 +1,8 @@
-use Rattle.std.proofs.Common.{ap, ◌∙◌, map}
+use Rattle.std.proofs.Common.{List, ap, ◌∙◌, map, filter}
 use Rattle.engine_text.specs.declared.exec.Exec.{Exec}
+use Rattle.proc_kernel.specs.Tables.{Entry}
 use Rattle.machine_model.specs.State.{running_execs}
+use Rattle.machine_effects.specs.Running.{is_running}
 use Rattle.machine_effects.proofs.EachLemmas.{running_is}
 use Rattle.machine_effects.specs.Memory.{Memory}
 use Rattle.machine_effects.specs.Views.Tables.{state_of}
@@ -9,5 +11,6 @@ use Rattle.machine_effects.proofs.tables.Tables.running.Goals as goal
 pub returns : goal.returns
 returns c =
     c.list_running.ensures.items
-    ∙ (ap (map (λ (x : Exec). x.number)) (running_is c.args.number (state_of c.self.inside))
+    ∙ (ap (λ (ps : List Entry). map (λ (x : Exec). x.number) (filter (is_running c.args.number ps) c.self.inside.execs.execs)) c.kernel.ensures
+    ∙ ap (map (λ (x : Exec). x.number)) (running_is c.args.number (state_of c.self.inside))
     ∙ ap (λ (m : Memory). map (λ (x : Exec). x.number) (running_execs c.args.number m.state)) c.self.view_is)
