@@ -1,0 +1,42 @@
+-- Worked examples of the table.
+use Rattle.std.proofs.Common.{◌≡◌, Some, None, codes, refl}
+use Rattle.lab_front.specs.Rows.{path_of, row_by}
+use Rattle.lab_front.specs.declared.table.Network.TheVariants as network
+use Rattle.lab_front.specs.declared.table.Row.TheVariants as to
+
+-- ---- paths
+
+behind_a_version : path_of (codes "/v1.41/images/json?all=1") ≡ Some (codes "images/json")
+behind_a_version = refl
+
+lowest_version : path_of (codes "/v1.24/info") ≡ Some (codes "info")
+lowest_version = refl
+
+highest_version : path_of (codes "/v1.43/info") ≡ Some (codes "info")
+highest_version = refl
+
+version_too_new : path_of (codes "/v1.44/info") ≡ Some (codes "v1.44/info")
+version_too_new = refl
+
+without_a_version : path_of (codes "/networks/none") ≡ Some (codes "networks/none")
+without_a_version = refl
+
+-- ---- rows
+
+one_image : row_by (codes "GET") (codes "images/engine/tools/json") ≡ Some to.Image
+one_image = refl
+
+another_image : row_by (codes "GET") (codes "images/redis:7/json") ≡ Some to.NoImage
+another_image = refl
+
+history_is_the_daemons : row_by (codes "GET") (codes "images/redis:7/history") ≡ None
+history_is_the_daemons = refl
+
+one_network : row_by (codes "GET") (codes "networks/host") ≡ Some (to.Network network.Host)
+one_network = refl
+
+another_network : row_by (codes "GET") (codes "networks/app_default") ≡ Some to.NoNetwork
+another_network = refl
+
+info_is_read_alone : row_by (codes "POST") (codes "info") ≡ None
+info_is_read_alone = refl

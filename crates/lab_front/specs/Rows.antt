@@ -1,0 +1,88 @@
+-- Which requests are answered the same at each time (Docker Engine API v1.43, the operations of images, networks and system;
+-- "Versioning"; the parts of a target: RFC 9112, section 3.2.1).
+use Rattle.std.specs.Prelude.{ℕ, List, [], ◌∷◌, Bool, false, ◌==◌, ◌&&◌, ◌||◌, nat_le, if◌then◌else◌, Option, Some, None, option_map, option_and_then, nat_eq, codes}
+use Rattle.std.specs.List.{before_first, after_first, starts_with, ends_with}
+use Rattle.std.specs.Str.{bytes_eq}
+use Rattle.http_edge.specs.Message.{Request}
+use Rattle.lab_front.specs.declared.table.Network.TheVariants as network
+use Rattle.lab_front.specs.declared.table.Row.{Row}
+use Rattle.lab_front.specs.declared.table.Row.TheVariants as to
+
+-- ---- the path of a target
+
+-- a byte from low to high
+abbrev pub is_between : ℕ → ℕ → ℕ → Bool
+is_between low high b = nat_le low b && nat_le b high
+
+-- two digits of a number from 24 to 43
+abbrev pub is_served : ℕ → ℕ → Bool
+is_served tens ones =
+    ((tens == 50) && is_between 52 57 ones) || ((tens == 51) && is_between 48 57 ones)
+    || ((tens == 52) && is_between 48 51 ones)
+
+-- `v1.24` to `v1.43`
+abbrev pub is_version : List ℕ → Bool
+is_version (v ∷ one ∷ dot ∷ tens ∷ ones ∷ []) = (v == 118) && (one == 49) && (dot == 46) && is_served tens ones
+is_version segment = false
+
+-- without the slash that it begins with
+abbrev pub after_slash : List ℕ → Option (List ℕ)
+after_slash [] = None
+after_slash (c ∷ rest) = if c == 47 then Some rest else None
+
+-- without the version that it begins with, if it does
+abbrev pub behind_version : List ℕ → List ℕ
+behind_version path =
+    if is_version (before_first (λ b. b == 47) path) then after_first (λ b. b == 47) path else path
+
+-- the path without its first slash and its version; the query isn't read
+abbrev pub path_of : List ℕ → Option (List ℕ)
+path_of target = option_map behind_version (after_slash (before_first (λ b. b == 63) target))
+
+-- ---- the table
+
+-- the names of the one image
+abbrev pub is_image : List ℕ → Bool
+is_image path =
+    bytes_eq path (codes "images/engine/tools:latest/json") || bytes_eq path (codes "images/engine/tools/json")
+    || bytes_eq path (codes "images/sha256:dc2452a28ddfa42c3d90bbaea861195fde1209aa4b1575039c91db3968531778/json")
+    || bytes_eq path (codes "images/dc2452a28ddfa42c3d90bbaea861195fde1209aa4b1575039c91db3968531778/json")
+
+-- what begins and ends as an image's does
+abbrev pub names_image : List ℕ → Bool
+names_image path = starts_with nat_eq path (codes "images/") && ends_with nat_eq path (codes "/json")
+
+abbrev pub network_row : List ℕ → Row
+network_row path =
+    if bytes_eq path (codes "networks/bridge") then to.Network network.Bridge
+    else if bytes_eq path (codes "networks/host") then to.Network network.Host
+    else if bytes_eq path (codes "networks/none") then to.Network network.None
+    else to.NoNetwork
+
+abbrev pub get_row : List ℕ → Option Row
+get_row path =
+    if bytes_eq path (codes "info") then Some to.Info
+    else if bytes_eq path (codes "system/df") then Some to.DiskUse
+    else if bytes_eq path (codes "images/json") then Some to.Images
+    else if bytes_eq path (codes "networks") then Some to.Networks
+    else if is_image path then Some to.Image
+    else if names_image path then Some to.NoImage
+    else if starts_with nat_eq path (codes "networks/") then Some (network_row path)
+    else None
+
+abbrev pub post_row : List ℕ → Option Row
+post_row path =
+    if bytes_eq path (codes "images/prune") then Some to.PrunedImages
+    else if bytes_eq path (codes "networks/prune") then Some to.PrunedNetworks
+    else if bytes_eq path (codes "build/prune") then Some to.PrunedBuilds
+    else None
+
+abbrev pub row_by : List ℕ → List ℕ → Option Row
+row_by method path =
+    if bytes_eq method (codes "GET") then get_row path
+    else if bytes_eq method (codes "POST") then post_row path
+    else None
+
+-- by the method and the target; none is the daemon's own
+abbrev pub row_of : Request → Option Row
+row_of request = option_and_then (row_by request.method) (path_of request.target)

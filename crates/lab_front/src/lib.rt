@@ -1,0 +1,11 @@
+//! The requests that a front before the daemon answers the same at each time.
+#![tactic(auto)]
+
+mod path;
+mod table;
+mod texts;
+mod writing;
+
+pub use table::{Network, Row, row_of};
+pub use texts::{status_of, text_of};
+pub use writing::write_row;
