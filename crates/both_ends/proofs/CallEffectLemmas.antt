@@ -28,6 +28,7 @@ use Rattle.machine_model.proofs.ChangeLemmas.{all_updated}
 use Rattle.machine_model.proofs.Processes.CodeLemmas.{all_changed, coded_freeze, coded_feed_end}
 use Rattle.machine_model.proofs.Processes.ProgramCodeLemmas.{OfProgram}
 use Rattle.both_ends.proofs.EffectLemmas.{IsLow, Keeps, keeps_then, keeps_still, keeps_change, keeps_at, keeps_each, keeps_tell, keeps_renew, keeps_spawns, keeps_launch_by_call, keeps_send, keeps_meet}
+use Rattle.container_table.specs.declared.rank.Rank.{Rank}
 
 pub low_new : (name : List ℕ) (spec : CreateSpec) (s : State) → IsLow (new_container name spec s)
 low_new name spec s = omega arith
@@ -83,7 +84,7 @@ module _ {n : ℕ} where
 
   lives_by : (b : Bool) (m : ℕ) → Keeps n (remove.if_it_lives b m)
   lives_by false m = keeps_still
-  lives_by true m = keeps_then (keeps_renew m remove.removing (λ l k. k)) (keeps_change (λ s. set_timer 2 m (s.clock + 10000) s) (λ s h. h))
+  lives_by true m = keeps_then (keeps_renew m remove.removing (λ l k. k)) (keeps_change (λ s. set_timer Rank.RemovalDeadline m (s.clock + 10000) s) (λ s h. h))
 
   pub keeps_removal : (m : ℕ) → Keeps n (remove.kill_to_remove m)
   keeps_removal m =

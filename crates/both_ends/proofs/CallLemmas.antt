@@ -43,6 +43,7 @@ use Rattle.machine_model.specs.Calls.Restart as restart
 use Rattle.machine_model.specs.Calls.Kill as kill
 use Rattle.machine_model.specs.Calls.Pause as pause
 use Rattle.machine_model.specs.Calls.Unpause as unpause
+use Rattle.api_json.specs.Status.{is_paused}
 use Rattle.machine_model.specs.Calls.Rename as rename
 use Rattle.machine_model.specs.Calls.Update as update
 use Rattle.machine_model.specs.Calls.Remove as remove
@@ -164,14 +165,9 @@ module _ (n : ℕ) (s : State) (h : Holds n s) (lives : AllByRecursion LifeInRan
   pause_by Status.Exited c = idle
   pause_by Status.Dead c = idle
 
-  unpause_by : (u : Status) (c : Container) → Leaves (unpause.by_status u c s)
-  unpause_by Status.Paused c = does (keeps_thaw c.number)
-  unpause_by Status.Created c = idle
-  unpause_by Status.Running c = idle
-  unpause_by Status.Restarting c = idle
-  unpause_by Status.Removing c = idle
-  unpause_by Status.Exited c = idle
-  unpause_by Status.Dead c = idle
+  unpause_by : (b : Bool) (c : Container) → Leaves (unpause.if_paused b c s)
+  unpause_by true c = does (keeps_thaw c.number)
+  unpause_by false c = idle
 
   rename_held : (o : Option Container) (name : List ℕ) (c : Container) → Leaves (rename.by_holder o name c s)
   rename_held (Some other) name c = idle
@@ -293,7 +289,7 @@ module _ (n : ℕ) (s : State) (h : Holds n s) (lives : AllByRecursion LifeInRan
   call_leaves (Call.Kill target given) connection sound =
       at target (λ c. kill.by_status c.life.status given c) (λ c found. kill_by given c.life.status c (low_signal given (both_true _ _ sound).1))
   call_leaves (Call.Pause target) connection sound = at target (λ c. pause.by_status c.life.status c) (λ c found. pause_by c.life.status c)
-  call_leaves (Call.Unpause target) connection sound = at target (λ c. unpause.by_status c.life.status c) (λ c found. unpause_by c.life.status c)
+  call_leaves (Call.Unpause target) connection sound = at target unpause.unpause_outcome (λ c found. unpause_by (is_paused c.life.status) c)
   call_leaves (Call.Rename target name) connection sound =
       at target (λ c. rename.by_status c.life.status (without_slash name) c) (λ c found. rename_by (without_slash name) c.life.status c)
   call_leaves (Call.Update target policy) connection sound =

@@ -27,7 +27,7 @@ use Rattle.proc_kernel.specs.Processes.{Process, ProcessStep, run_due, signal, t
 use Rattle.proc_kernel.specs.Tables.{Entry, process_of, effect_of}
 use Rattle.machine_model.specs.State.{State, container_numbered, exec_numbered, running_execs, owner_number, clear_timer, set_timer, drop_process, change_exec}
 use Rattle.machine_model.specs.Chain.{Effect, Died, still, change, and_then, in_order, each, with_found, with_container, renew, tell_of, tell_mounts}
-use Rattle.machine_model.specs.Due.{due_effect, op_effect, stop_deadline, removal_deadline, restart_timer, restarted, died, timed_out, time_out}
+use Rattle.machine_model.specs.Due.{by_rank, due_effect, restarted, died, timed_out, time_out}
 use Rattle.machine_model.specs.EventTexts.{plain_event, die_event, exec_die_event, kill_event}
 use Rattle.machine_model.specs.Ranges.{AreCoded, HaveCodes}
 use Rattle.machine_model.specs.Tickets.{begun}
@@ -44,6 +44,8 @@ use Rattle.machine_model.proofs.ObeyLemmas.{found_all}
 use Rattle.machine_model.proofs.Effects.MeetLemmas.{KeepsCodes}
 use Rattle.machine_model.proofs.Processes.CodeLemmas.{EndsCoded, all_changed, all_without, all_begun, ends_coded, coded_spawn, coded_due, coded_thaw, coded_signal}
 use Rattle.machine_model.proofs.Processes.ProgramCodeLemmas.{OfProgram, program_coded}
+use Rattle.container_table.specs.Ranks.{rank_numbered}
+use Rattle.container_table.specs.declared.rank.Rank.{Rank}
 
 -- ---- what holds of a state in which ticket n, if it stands, is a wait's
 
@@ -187,7 +189,7 @@ module _ {n : ℕ} where
       (record { holds = λ s h. gone m (container_numbered m s) s refl h })
 
   pub keeps_cancel : (m : ℕ) → Keeps n (cancel_restart m)
-  keeps_cancel m = keeps_then (keeps_change (clear_timer 3 m) (λ s h. h)) (keeps_renew m cancelled (λ l k. k))
+  keeps_cancel m = keeps_then (keeps_change (clear_timer Rank.RestartTimer m) (λ s h. h)) (keeps_renew m cancelled (λ l k. k))
 
   -- ---- the end of execs and of main processes
 
@@ -224,7 +226,7 @@ module _ {n : ℕ} where
   keeps_follow : (d : Decision) (auto : Bool) (m : ℕ) → Keeps n (follow d auto m)
   keeps_follow Stay auto m = keeps_then (keeps_renew m exited (λ l k. k)) (keeps_removed_if auto m)
   keeps_follow (Again delay) auto m =
-      keeps_then (keeps_renew m (restarting delay) (λ l k. k)) (keeps_change (λ s. set_timer 3 m (s.clock + delay) s) (λ s h. h))
+      keeps_then (keeps_renew m (restarting delay) (λ l k. k)) (keeps_change (λ s. set_timer Rank.RestartTimer m (s.clock + delay) s) (λ s h. h))
 
   keeps_goal : (g : Goal) (c : Container) → Keeps n (by_goal g c)
   keeps_goal Goal.Remove c = keeps_destroy c.number
@@ -315,26 +317,23 @@ module _ {n : ℕ} where
 
   -- ---- due steps
 
-  either : {e f : State → Effect} (b : Bool) → Keeps n e → Keeps n f → Keeps n (if b then e else f)
-  either true one other = one
-  either false one other = other
+  keeps_rank : (r : Rank) (m : ℕ) → Keeps n (by_rank r m)
+  keeps_rank Rank.Op m =
+      keeps_at (λ s. with_found (find (λ e. owner_number e.owner == m) s.processes) (λ (e : Entry). step_process run_due e.owner))
+      (λ s. keeps_found (find (λ e. owner_number e.owner == m) s.processes) (λ (e : Entry). keeps_step run_due e.owner coded_due))
+  keeps_rank Rank.StopDeadline m =
+      keeps_then (keeps_change (clear_timer Rank.StopDeadline m) (λ s h. h)) (keeps_then (keeps_tell (kill_event 9) m) (keeps_meet 9 m (omega arith)))
+  keeps_rank Rank.RemovalDeadline m =
+      keeps_then (keeps_change (clear_timer Rank.RemovalDeadline m) (λ s h. h))
+      (keeps_then (keeps_renew m died (λ l k. k))
+      (keeps_with m
+      (λ c. keeps_change (time_out c)
+      (λ s h. (h.0, h.1, h.2, all_through (IsWait n) (λ t. if t.container == c.number then timed_out t.asked c t else t) (λ t k. timed_either n (t.container == c.number) c t k) s.tickets h.3)))))
+  keeps_rank Rank.RestartTimer m =
+      keeps_then (keeps_change (clear_timer Rank.RestartTimer m) (λ s h. h)) (keeps_then (keeps_renew m restarted (λ l k. k)) (keeps_launch m))
 
   pub keeps_due : (d : DueAction) → Keeps n (due_effect d)
-  keeps_due d =
-      let op : Keeps n (op_effect d.number) =
-      keeps_at (λ s. with_found (find (λ e. owner_number e.owner == d.number) s.processes) (λ (e : Entry). step_process run_due e.owner))
-      (λ s. keeps_found (find (λ e. owner_number e.owner == d.number) s.processes) (λ (e : Entry). keeps_step run_due e.owner coded_due)) in
-      let stops : Keeps n (stop_deadline d.number) =
-      keeps_then (keeps_change (clear_timer 1 d.number) (λ s h. h)) (keeps_then (keeps_tell (kill_event 9) d.number) (keeps_meet 9 d.number (omega arith))) in
-      let removes : Keeps n (removal_deadline d.number) =
-      keeps_then (keeps_change (clear_timer 2 d.number) (λ s h. h))
-      (keeps_then (keeps_renew d.number died (λ l k. k))
-      (keeps_with d.number
-      (λ c. keeps_change (time_out c)
-      (λ s h. (h.0, h.1, h.2, all_through (IsWait n) (λ t. if t.container == c.number then timed_out t.asked c t else t) (λ t k. timed_either n (t.container == c.number) c t k) s.tickets h.3))))) in
-      let restarts : Keeps n (restart_timer d.number) =
-      keeps_then (keeps_change (clear_timer 3 d.number) (λ s h. h)) (keeps_then (keeps_renew d.number restarted (λ l k. k)) (keeps_launch d.number)) in
-      either (d.rank == 0) op (either (d.rank == 1) stops (either (d.rank == 2) removes restarts))
+  keeps_due d = keeps_rank (rank_numbered d.rank) d.number
 
   -- ---- a ticket more
 

@@ -11,14 +11,14 @@ use Rattle.machine_model.specs.Step.{at_moment, counted, finished, step_of}
 use Rattle.machine_model.specs.Effects.Settle.{settle_tickets}
 use Rattle.machine_model.specs.Consistency.{live_execs}
 use Rattle.container_machine.specs.DuePlans.{due_plan_effect}
-use Rattle.container_machine.specs.Plans.{plan_effect}
-use Rattle.machine_effects.specs.Settled.{deaths}
+use Rattle.call_plans.specs.Plans.{plan_effect}
+use Rattle.machine_tables.specs.Settled.{deaths}
 use Rattle.machine_model.specs.Consistency.{IsConsistent}
-use Rattle.container_machine.specs.Parts.{MachineParts}
-use Rattle.container_machine.specs.Prepared.{Asked, IsFor, step_of_call}
-use Rattle.machine_effects.specs.declared.death.Death.{Death}
+use Rattle.call_plans.specs.Parts.{MachineParts}
+use Rattle.call_plans.specs.Prepared.{Asked, IsFor, step_of_call}
+use Rattle.machine_tables.specs.declared.death.Death.{Death}
 use Rattle.container_machine.specs.Dues.{IsForDue, due_at}
-use Rattle.container_machine.specs.declared.prepared.Prepared.{Prepared}
+use Rattle.call_plans.specs.declared.prepared.Prepared.{Prepared}
 use Rattle.container_machine.specs.declared.due.PreparedDue.{PreparedDue}
 
 -- the state after all parts

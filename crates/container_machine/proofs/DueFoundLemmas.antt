@@ -19,7 +19,7 @@ use Rattle.machine_model.proofs.DueLemmas.{all_actions, exec_apart, own_process,
 use Rattle.machine_model.proofs.ListLemmas.{all_append, all_both, all_weaken}
 use Rattle.machine_model.proofs.ObeyLemmas.{found_all}
 use Rattle.machine_model.proofs.OwnerLemmas.{owner_is}
-use Rattle.machine_effects.specs.Ops.{owner_at}
+use Rattle.machine_events.specs.Ops.{owner_at}
 
 -- ---- whose a number is
 

@@ -1,5 +1,5 @@
 -- A due step that is made ready is what the least due action does, and may be committed.
-use Rattle.std.proofs.Common.{◌≡◌, IsTrue, ℕ, ◌+◌, ◌==◌, true, ◌<◌, ◌≤◌, List, [], ◌++◌, Option, Some, None, refl, ap, sym, ◌∙◌, subst, arith, find, length}
+use Rattle.std.proofs.Common.{◌≡◌, IsTrue, ℕ, ◌+◌, ◌==◌, true, ◌<◌, ◌≤◌, List, [], ◌++◌, Option, Some, None, refl, ap, sym, ◌∙◌, subst, arith, find}
 use Rattle.engine_text.specs.Id.{id_of}
 use Rattle.engine_text.specs.Scripts.{Program}
 use Rattle.engine_text.specs.declared.container.Container.{Container}
@@ -11,6 +11,7 @@ use Rattle.proc_kernel.specs.Catalogue.{program_of}
 use Rattle.proc_kernel.specs.Foretelling.{code_at}
 use Rattle.proc_kernel.specs.Processes.{run_due, signal}
 use Rattle.proc_kernel.specs.Tables.{Entry, process_of, due_at as op_due_at}
+use Rattle.container_table.specs.Ranks.{rank_numbered}
 use Rattle.machine_model.specs.State.{State, container_numbered}
 use Rattle.machine_model.specs.Chain.{Effect, with_found}
 use Rattle.machine_model.specs.Consistency.{HasOwner, IsConsistent, is_there}
@@ -20,33 +21,33 @@ use Rattle.machine_model.specs.History.{IsLawful, latest}
 use Rattle.machine_model.specs.Step.{at_moment}
 use Rattle.machine_model.proofs.Laws.{IsMomentOf, kept_due, timely_due}
 use Rattle.machine_model.proofs.ObeyLemmas.{found_all}
-use Rattle.machine_effects.specs.Deadlines.{CanRestart, HasId}
-use Rattle.machine_effects.specs.Foretold.{told_launch}
-use Rattle.machine_effects.specs.Memory.{Memory, standing}
-use Rattle.machine_effects.specs.Ops.{CanEnd, HasEndRoomOf, HasRecordRoom, owner_at}
-use Rattle.machine_effects.specs.ToldCalls.{told_op}
-use Rattle.machine_effects.specs.ToldKill.{told_kill}
-use Rattle.machine_effects.specs.declared.kit.Kit.{Kit}
-use Rattle.machine_effects.proofs.CallToldLemmas.{OwnerStands, op_told, removal_deadline_told, restart_timer_told}
-use Rattle.machine_effects.proofs.DiedToldLemmas.{main_died, stop_deadline_died}
-use Rattle.machine_effects.proofs.KillToldLemmas.{stop_deadline_told}
-use Rattle.machine_effects.proofs.SettleLemmas.{has_number}
+use Rattle.machine_events.specs.Deadlines.{CanRestart, HasId}
+use Rattle.machine_events.specs.Foretold.{told_launch}
+use Rattle.machine_events.specs.Memory.{Memory, standing}
+use Rattle.machine_events.specs.Ops.{CanEnd, HasEndRoomOf, HasRecordRoom, owner_at}
+use Rattle.machine_events.specs.ToldCalls.{told_op}
+use Rattle.machine_events.specs.ToldKill.{told_kill}
+use Rattle.machine_events.specs.declared.end_memory.EndMemory.{EndMemory}
+use Rattle.machine_events.proofs.CallToldLemmas.{OwnerStands, op_told, removal_deadline_told, restart_timer_told}
+use Rattle.machine_events.proofs.DiedToldLemmas.{main_died, stop_deadline_died}
+use Rattle.machine_events.proofs.KillToldLemmas.{stop_deadline_told}
+use Rattle.machine_events.proofs.SettleLemmas.{has_number}
 use Rattle.container_machine.specs.DuePlans.{due_plan_effect, BringsDue, FitsDue, HasDueRoom, ServesOwner}
 use Rattle.container_machine.specs.Dues.{due_at, IsForDue, MakesDue}
-use Rattle.container_machine.specs.Parts.{MachineParts}
-use Rattle.container_machine.specs.RunEnds.{IsEndKit, IsOwnerKit, ServesBy}
+use Rattle.call_plans.specs.Parts.{MachineParts}
+use Rattle.call_plans.specs.RunEnds.{IsEndMemory, IsOwnerMemory}
 use Rattle.container_machine.specs.declared.due.DuePlan.{DuePlan}
 use Rattle.container_machine.specs.declared.due.PreparedDue.{PreparedDue}
 use Rattle.container_machine.proofs.DueFoundLemmas.{OpStands, due_stands}
-use Rattle.container_machine.proofs.MakeLemmas.{stand_once}
-use Rattle.container_machine.proofs.ReadyLemmas.{few, settles, timely}
-use Rattle.container_machine.proofs.RunEndLemmas.{kill_next, main_next, own_script, script_for, serves_end}
+use Rattle.call_plans.proofs.MakeLemmas.{stand_once}
+use Rattle.call_plans.proofs.ReadyLemmas.{few, settles, timely}
+use Rattle.call_plans.proofs.RunEndLemmas.{kill_next, main_next, own_script, script_for, serves_end}
 use Rattle.std.specs.Prelude.{nat_le, false}
 use Rattle.std.specs.Option.{option_map_or}
 
 -- an action's effect, by its rank
-of_rank : (d : DueAction) (r : ℕ) (s : State) → d.rank ≡ r → due_at d s ≡ by_rank r d.number (at_moment d.moment s)
-of_rank d r s e = ap (λ k. by_rank k d.number (at_moment d.moment s)) e
+of_rank : (d : DueAction) (r : ℕ) (s : State) → d.rank ≡ r → due_at d s ≡ by_rank (rank_numbered r) d.number (at_moment d.moment s)
+of_rank d r s e = ap (λ k. by_rank (rank_numbered k) d.number (at_moment d.moment s)) e
 
 one_then : (empty out told : List Event) → empty ≡ [] → out ≡ empty ++ told → out ≡ told
 one_then empty out told e h = h ∙ ap (λ l. l ++ told) e
@@ -66,26 +67,26 @@ stands_at : (o : Owner) (script : Option Program) (t : ℕ) (s : State) → Owne
 stands_at (Owner.Container n) script t s h = h
 stands_at (Owner.Exec n) script t s h = tt
 
--- what is told of the op with the kit's script is what is told with the other
-told_with : (o : Owner) (code : Option ℕ) (s z : State) (kit : Kit) (there : HasOwner s o) → z.containers ≡ s.containers → IsOwnerKit code o s kit → told_op o code kit.script z ≡ told_op o code (stands_with o s there).0 z
+-- what is told of the op with the script that is brought is what is told with the other
+told_with : (o : Owner) (code : Option ℕ) (s z : State) (brought : EndMemory) (there : HasOwner s o) → z.containers ≡ s.containers → IsOwnerMemory code o s brought → told_op o code brought.script z ≡ told_op o code (stands_with o s there).0 z
 unfolding stands_with there_is
-told_with (Owner.Container n) code s z kit there same of =
+told_with (Owner.Container n) code s z brought there same of =
     let c = there_is (container_numbered n s) there in
-    main_next (container_numbered n z) code c.0 kit.script z (ap (λ l. find (λ (d : Container). d.number == n) l) same ∙ c.1) (script_for code n c.0 s kit (of c.0 c.1))
-told_with (Owner.Exec n) code s z kit there same of = refl
+    main_next (container_numbered n z) code c.0 brought.script z (ap (λ l. find (λ (d : Container). d.number == n) l) same ∙ c.1) (script_for code n c.0 s brought (of c.0 c.1))
+told_with (Owner.Exec n) code s z brought there same of = refl
 
--- the kit is what the end of the owner's process wants
-serves_op : (o : Owner) (code : Option ℕ) (t : ℕ) (s : State) (kit : Kit) → HasOwner s o → code ≡ code_at (run_due t) (process_of o s.processes) → IsOwnerKit code o s kit → ServesOwner o kit (at_moment t s)
-serves_op (Owner.Container n) code t s kit there is of =
+-- what is brought is what the end of the owner's process wants
+serves_op : (o : Owner) (code : Option ℕ) (t : ℕ) (s : State) (brought : EndMemory) → HasOwner s o → code ≡ code_at (run_due t) (process_of o s.processes) → IsOwnerMemory code o s brought → ServesOwner o brought (at_moment t s)
+serves_op (Owner.Container n) code t s brought there is of =
     let c = there_is (container_numbered n s) there in
     let z : State = at_moment t s in
-    serves_end code n c.0.life.goal c.0 c.0 s z kit (step_process run_due (Owner.Container n) z).died (main_died run_due n z code is) (of c.0 c.1) c.1 refl refl refl
-serves_op (Owner.Exec n) code t s kit there is of = tt
+    serves_end code n c.0.life.goal c.0 c.0 s z brought (step_process run_due (Owner.Container n) z).died (main_died run_due n z code is) (of c.0 c.1) c.1 refl refl refl
+serves_op (Owner.Exec n) code t s brought there is of = tt
 
-pub makes_op : (p : PreparedDue) (d : DueAction) (s : State) (o : Owner) (kit : Kit) (code : Option ℕ) (empty : List Event) → IsConsistent s → least_due s ≡ Some d → d.rank ≡ 0
-    → o ≡ owner_at d.number s → IsOwnerKit code o s kit → ((t : ℕ) → code ≡ code_at (run_due t) (process_of o s.processes))
-    → p.moment ≡ d.moment → p.plan ≡ DuePlan.Op o kit → empty ≡ [] → p.events.items ≡ empty ++ told_op o code kit.script (at_moment d.moment s) → MakesDue p d s
-makes_op p d s o kit code empty k least rank is of code_is moment plan none events =
+pub makes_op : (p : PreparedDue) (d : DueAction) (s : State) (o : Owner) (brought : EndMemory) (code : Option ℕ) (empty : List Event) → IsConsistent s → least_due s ≡ Some d → d.rank ≡ 0
+    → o ≡ owner_at d.number s → IsOwnerMemory code o s brought → ((t : ℕ) → code ≡ code_at (run_due t) (process_of o s.processes))
+    → p.moment ≡ d.moment → p.plan ≡ DuePlan.Op o brought → empty ≡ [] → p.events.items ≡ empty ++ told_op o code brought.script (at_moment d.moment s) → MakesDue p d s
+makes_op p d s o brought code empty k least rank is of code_is moment plan none events =
     let op : OpStands s d = (due_stands s d k least).0 rank in
     let z : State = at_moment d.moment s in
     let same : op.entry.owner ≡ o = op.is ∙ sym is in
@@ -100,28 +101,28 @@ makes_op p d s o kit code empty k least rank is of code_is moment plan none even
     record {
       moment = moment;
       effect = ap (λ q. due_plan_effect q z) plan ∙ effect;
-      events = one_then empty p.events.items (told_op o code kit.script z) none events ∙ (told_with o code s z kit there refl of ∙ sym told);
-      brings = subst (λ q. BringsDue q d.moment s) (sym plan) (ap (λ w. op_due_at (process_of w s.processes)) is ∙ op.due, serves_op o code d.moment s kit there (code_is d.moment) of);
+      events = one_then empty p.events.items (told_op o code brought.script z) none events ∙ (told_with o code s z brought there refl of ∙ sym told);
+      brings = subst (λ q. BringsDue q d.moment s) (sym plan) (ap (λ w. op_due_at (process_of w s.processes)) is ∙ op.due, serves_op o code d.moment s brought there (code_is d.moment) of);
     }
 
 -- ---- deadlines and timers
 
 -- SIGKILL is met
-pub makes_stop_deadline : (p : PreparedDue) (d : DueAction) (s : State) (c : Container) (kit : Kit) (code : Option ℕ) (empty : List Event) → IsConsistent s → d.rank ≡ 1
-    → container_numbered d.number s ≡ Some c → IsEndKit code c.life.goal d.number c s kit → ((t : ℕ) → code ≡ code_at (signal 9 true t) (process_of (Owner.Container d.number) s.processes))
-    → p.moment ≡ d.moment → p.plan ≡ DuePlan.StopDeadline d.number kit → empty ≡ [] → p.events.items ≡ empty ++ told_kill 9 code c kit.script (at_moment d.moment s) → MakesDue p d s
-makes_stop_deadline p d s c kit code empty k rank found of is moment plan none events =
+pub makes_stop_deadline : (p : PreparedDue) (d : DueAction) (s : State) (c : Container) (brought : EndMemory) (code : Option ℕ) (empty : List Event) → IsConsistent s → d.rank ≡ 1
+    → container_numbered d.number s ≡ Some c → IsEndMemory code c.life.goal d.number c s brought → ((t : ℕ) → code ≡ code_at (signal 9 true t) (process_of (Owner.Container d.number) s.processes))
+    → p.moment ≡ d.moment → p.plan ≡ DuePlan.StopDeadline d.number brought → empty ≡ [] → p.events.items ≡ empty ++ told_kill 9 code c brought.script (at_moment d.moment s) → MakesDue p d s
+makes_stop_deadline p d s c brought code empty k rank found of is moment plan none events =
     let z : State = at_moment d.moment s in
     let once = stand_once s k in
     record {
       moment = moment;
       effect = ap (λ q. due_plan_effect q z) plan ∙ sym (of_rank d 1 s rank);
-      events = one_then empty p.events.items (told_kill 9 code c kit.script z) none events
-          ∙ (kill_next 9 code c kit.script z (script_for code d.number c s kit of)
+      events = one_then empty p.events.items (told_kill 9 code c brought.script z) none events
+          ∙ (kill_next 9 code c brought.script z (script_for code d.number c s brought of)
           ∙ (sym (stop_deadline_told d.number z c (own_script c) code found refl (record { execs = once.execs; processes = once.processes }) (is d.moment))
           ∙ sym (ap (λ (e : Effect). e.events) (of_rank d 1 s rank))));
       brings = subst (λ q. BringsDue q d.moment s) (sym plan)
-          (serves_end code d.number c.life.goal c c s z kit (stop_deadline d.number z).died (stop_deadline_died d.number z c code found (is d.moment)) of found refl refl refl);
+          (serves_end code d.number c.life.goal c c s z brought (stop_deadline d.number z).died (stop_deadline_died d.number z c code found (is d.moment)) of found refl refl refl);
     }
 
 -- nothing is told of a removal deadline
@@ -163,27 +164,27 @@ restarts_of_number s n k c found =
     let low : c.life.restarts ≤ s.step_count = found_all (λ (x : Container). x.life.restarts ≤ s.step_count) (λ (x : Container). x.number == n) c s.containers found k.counts.restarts in
     omega (arith, low, k.counts.steps)
 
-end_fits : (o : Owner) (kit : Kit) (t : ℕ) (m : Memory) → ServesOwner o kit (at_moment t m.state) → IsConsistent m.state → IsMomentOf m.state t → HasEndRoomOf o m → 1 < m.spare → CanEnd (step_process run_due) o kit (standing t m)
-end_fits (Owner.Container n) kit t m serves k at room spare =
+end_fits : (o : Owner) (brought : EndMemory) (t : ℕ) (m : Memory) → ServesOwner o brought (at_moment t m.state) → IsConsistent m.state → IsMomentOf m.state t → HasEndRoomOf o m → 1 < m.spare → CanEnd (step_process run_due) o brought (standing t m)
+end_fits (Owner.Container n) brought t m serves k at room spare =
     let most : 0 < m.spare = omega (arith, spare) in
-    (λ ended. settles n kit t m (serves ended) k at.until (record { execs = room.execs; timers = room.timers; removed = room.removed; kept = room.kept; spare = most }), most)
-end_fits (Owner.Exec n) kit t m serves k at room spare = tt
+    (λ ended. settles n brought t m (serves ended) k at.until (record { execs = room.execs; timers = room.timers; removed = room.removed; kept = room.kept; spare = most }), most)
+end_fits (Owner.Exec n) brought t m serves k at room spare = tt
 
 record_fits : (o : Owner) (t : ℕ) (m : Memory) → HasRecordRoom o m → HasRecordRoom o (standing t m)
 record_fits (Owner.Container n) t m room = room
 record_fits (Owner.Exec n) t m room = room
 
 pub fits_due : (plan : DuePlan) (t : ℕ) (m : Memory) → BringsDue plan t m.state → IsConsistent m.state → IsMomentOf m.state t → HasDueRoom plan m → FitsDue plan (standing t m)
-fits_due (DuePlan.Op owner kit) t m brings k at room = record {
+fits_due (DuePlan.Op owner brought) t m brings k at room = record {
   due = brings.0;
   clock = at.until;
   length = room.length;
   kept = record_fits owner t m room.kept;
-  end = end_fits owner kit t m brings.1 k at room.end room.spare;
+  end = end_fits owner brought t m brings.1 k at room.end room.spare;
   spare = room.spare;
 }
-fits_due (DuePlan.StopDeadline n kit) t m brings k at room =
-    record { timely = timely t m.state at; room = room.execs; end = λ ended. settles n kit t m (brings ended) k at.until room; spare = room.spare }
+fits_due (DuePlan.StopDeadline n brought) t m brings k at room =
+    record { timely = timely t m.state at; room = room.execs; end = λ ended. settles n brought t m (brings ended) k at.until room; spare = room.spare }
 fits_due (DuePlan.RemovalDeadline n) t m brings k at room = id_of_number m.state n k
 fits_due (DuePlan.RestartTimer n script) t m brings k at room = (
   record { few = few m.state k; pid = omega (arith, k.numbers.next_pid, k.counts.steps); named = brings },

@@ -8,8 +8,8 @@ use Rattle.machine_model.specs.Consistency.{IsConsistent}
 use Rattle.machine_model.specs.Due.{due_effect, least_due}
 use Rattle.machine_model.specs.History.{after_step}
 use Rattle.machine_model.specs.Step.{at_moment}
-use Rattle.machine_effects.specs.Memory.{standing}
-use Rattle.container_machine.specs.Parts.{MachineParts}
+use Rattle.machine_events.specs.Memory.{standing}
+use Rattle.call_plans.specs.Parts.{MachineParts}
 use Rattle.container_machine.specs.DuePlans.{due_plan_effect, BringsDue, FitsDue}
 use Rattle.container_machine.specs.declared.due.PreparedDue.{PreparedDue}
 

@@ -1,12 +1,5 @@
 pub mod Calls
 pub mod DuePlans
 pub mod Dues
-pub mod LogParts
-pub mod Making
-pub mod Needs
-pub mod Parts
-pub mod Plans
-pub mod Prepared
-pub mod RunEnds
-pub mod Runs
+pub mod Found
 pub mod Views

@@ -1,5 +1,5 @@
 -- own: the machine's fields as what they mean.
-use Rattle.container_machine.specs.Parts.{MachineParts, IsSoundMemory}
+use Rattle.call_plans.specs.Parts.{MachineParts, IsSoundMemory}
 use Rattle.container_machine.specs.declared.machine.Machine.TheInside.{Inside}
 
 -- The tables.

@@ -2,7 +2,7 @@
 ghost use Rattle.std.specs.Prelude.{◌≡◌, ◌≤◌, length};
 ghost use Rattle.machine_model.specs.History.{greatest_moment};
 
-use super::machine::Machine;
+use crate::machine::Machine;
 
 impl Machine {
     /// The moment of the last step.

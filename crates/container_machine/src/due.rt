@@ -3,24 +3,26 @@ ghost use Rattle.std.specs.Prelude.{◌≡◌, ℕ, ◌+◌, ◌<◌, ◌^◌, [
 ghost use Rattle.machine_model.specs.State.{State, container_numbered};
 ghost use Rattle.machine_model.specs.Consistency.{HasOwner, IsConsistent, is_there};
 ghost use Rattle.machine_model.specs.Due.{least_due};
-ghost use Rattle.machine_effects.specs.Fit.{died_of};
-ghost use Rattle.machine_effects.specs.Held.{container_in};
-ghost use Rattle.machine_effects.specs.Settled.{deaths};
+ghost use Rattle.container_table.specs.Logs.{container_in};
+ghost use Rattle.machine_tables.specs.Settled.{deaths};
 ghost use Rattle.container_machine.specs.DuePlans.{due_plan_effect, FitsDue};
 ghost use Rattle.container_machine.specs.Dues.{MakesDue};
-ghost use Rattle.container_machine.specs.RunEnds.{IsOwnerKit};
+ghost use Rattle.call_plans.specs.RunEnds.{IsOwnerMemory};
 
-use super::run_ends::{empty_kit, end_kit};
+use call_plans::{empty_memory, end_memory};
+use container_table::{Held, Rank};
 use engine_text::{DueAction, Event, NoMemory, Owner, Script, Signal};
-use machine_effects::{Death, Held, Kit, Rank, Tables, number_of, tell_launch};
+use machine_effects::{Tables, death_with};
+use machine_events::{EndMemory, tell_launch};
+use machine_tables::{Death, number_of};
 use proc_kernel::program;
 use std::alloc::Global;
 
 /// What a due step does.
 #[derive(Drop)]
 pub enum DuePlan {
-    Op { owner: Owner, kit: Kit },
-    StopDeadline { number: u64, kit: Kit },
+    Op { owner: Owner, brought: EndMemory },
+    StopDeadline { number: u64, brought: EndMemory },
     RemovalDeadline { number: u64 },
     RestartTimer { number: u64, script: Option<Script> },
 }
@@ -42,15 +44,6 @@ impl PreparedDue {
     }
 }
 
-fn death_of(number: u64, code: Option<u8>) -> Option<Death>
-    ensures { deaths result ≡ died_of number code }
-{
-    match code {
-        None => None,
-        Some(code) => Some(Death { number, code }),
-    }
-}
-
 /// Makes it. It takes no memory.
 pub fn perform(tables: &mut Tables, plan: DuePlan) -> Option<Death>
     requires { FitsDue plan tables.old }
@@ -59,13 +52,13 @@ pub fn perform(tables: &mut Tables, plan: DuePlan) -> Option<Death>
     ensures room { tables.new.room ≡ tables.old.room }
 {
     match plan {
-        DuePlan::Op { owner, kit } => {
-            let code = tables.run_op(owner, kit);
-            death_of(number_of(owner), code)
+        DuePlan::Op { owner, brought } => {
+            let code = tables.run_op(owner, brought);
+            death_with(number_of(owner), code)
         }
-        DuePlan::StopDeadline { number, kit } => {
-            let code = tables.stop_deadline(number, kit);
-            death_of(number, code)
+        DuePlan::StopDeadline { number, brought } => {
+            let code = tables.stop_deadline(number, brought);
+            death_with(number, code)
         }
         DuePlan::RemovalDeadline { number } => {
             tables.removal_deadline(number);
@@ -90,22 +83,22 @@ fn standing(tables: &Tables, number: u64) -> &Held
 }
 
 // What the end of the owner's process with that code wants: that of an exec wants nothing.
-fn owner_kit(
+fn owner_memory(
     tables: &Tables,
     alloc: Global,
     code: Option<u8>,
     owner: Owner,
-) -> Result<Kit, NoMemory>
+) -> Result<EndMemory, NoMemory>
     requires stands { HasOwner tables.now.state owner }
     requires kept { IsConsistent tables.now.state }
-    ensures { IfOk result (λ k. IsOwnerKit code owner tables.now.state k) }
+    ensures { IfOk result (λ k. IsOwnerMemory code owner tables.now.state k) }
 {
     match owner {
         Owner::Container(number) => {
             let h = standing(tables, number);
-            end_kit(tables, alloc, code, h.container.life.goal, number, h)
+            end_memory(tables, alloc, code, h.container.life.goal, number, h)
         }
-        Owner::Exec(_) => Ok(empty_kit(alloc)),
+        Owner::Exec(_) => Ok(empty_memory(alloc)),
     }
 }
 
@@ -119,13 +112,13 @@ fn prepare_op(tables: &Tables, alloc: Global, due: DueAction) -> Result<Prepared
     let moment = due.moment;
     let owner = tables.owner_at(due.number);
     let code = tables.due_code(owner);
-    let kit = owner_kit(tables, alloc, code, owner)?;
+    let brought = owner_memory(tables, alloc, code, owner)?;
     let mut events = Vec::new(alloc);
-    tables.tell_op(alloc, owner, code, &kit.script, moment, &mut events)?;
+    tables.tell_op(alloc, owner, code, &brought.script, moment, &mut events)?;
     Ok(PreparedDue {
         moment,
         events,
-        plan: DuePlan::Op { owner, kit },
+        plan: DuePlan::Op { owner, brought },
     })
 }
 
@@ -144,13 +137,13 @@ fn prepare_stop_deadline(
     let number = due.number;
     let h = standing(tables, number);
     let code = tables.signal_code(number, Signal { number: 9 }, true);
-    let kit = end_kit(tables, alloc, code, h.container.life.goal, number, h)?;
+    let brought = end_memory(tables, alloc, code, h.container.life.goal, number, h)?;
     let mut events = Vec::new(alloc);
-    tables.tell_deadline(alloc, code, h, &kit.script, moment, &mut events)?;
+    tables.tell_deadline(alloc, code, h, &brought.script, moment, &mut events)?;
     Ok(PreparedDue {
         moment,
         events,
-        plan: DuePlan::StopDeadline { number, kit },
+        plan: DuePlan::StopDeadline { number, brought },
     })
 }
 

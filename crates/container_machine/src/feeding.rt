@@ -3,8 +3,8 @@ ghost use Rattle.std.specs.Prelude.{◌≡◌};
 ghost use Rattle.engine_text.specs.declared.call.Call as calls;
 ghost use Rattle.machine_model.specs.Ready.{is_ready};
 
-use super::machine::Machine;
-use super::runs::{Run, run_of};
+use crate::machine::Machine;
+use call_plans::{Run, run_of};
 use engine_text::{Bytes, Owner};
 
 impl Machine {

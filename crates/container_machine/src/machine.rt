@@ -7,18 +7,17 @@ ghost use Rattle.machine_model.specs.State.{initial_state};
 ghost use Rattle.engine_text.specs.Soundness.{IsSound};
 ghost use Rattle.container_machine.specs.DuePlans.{HasDueRoom};
 ghost use Rattle.container_machine.specs.Dues.{IsForDue};
-ghost use Rattle.container_machine.specs.Making.{Makes};
-ghost use Rattle.container_machine.specs.Needs.{HasSpace};
-ghost use Rattle.container_machine.specs.Parts.{IsStep};
+ghost use Rattle.call_plans.specs.Making.{Makes};
+ghost use Rattle.call_plans.specs.Needs.{HasSpace};
+ghost use Rattle.call_plans.specs.Parts.{IsStep};
 ghost use Rattle.machine_model.specs.Consistency.{IsConsistent};
-ghost use Rattle.container_machine.specs.Prepared.{Asked, asked_by, IsFor, IsForSome, step_of_call};
+ghost use Rattle.call_plans.specs.Prepared.{Asked, asked_by, IsFor, IsForSome, step_of_call};
 
-use super::calls::execs::create::ExecAsk;
-use super::due::{DuePlan, PreparedDue};
-use super::plan::perform;
-use super::prepared::Prepared;
-use super::space::{Space, space_of};
-use super::{calls, due};
+use crate::due;
+use crate::due::{DuePlan, PreparedDue};
+use crate::found::prepare_at;
+use crate::performing::perform;
+use call_plans::{Prepared, Space, space_of};
 use engine_text::{Call, NoMemory, Reply};
 use machine_effects::Tables;
 use machine_model::{GREATEST_MOMENT, KEPT_EVENTS};
@@ -32,7 +31,7 @@ pub struct Machine {
 }
 
 impl Model for Machine {
-    ghost use Rattle.container_machine.specs.Parts.{MachineParts};
+    ghost use Rattle.call_plans.specs.Parts.{MachineParts};
 
     ghost Value = { MachineParts };
 
@@ -54,7 +53,6 @@ impl Machine {
     }
 
     // The call as it is answered in this state.
-    #[tactic(auto, using(crate::proofs::StopLemmas::low_signal))]
     fn prepare_call(
         &self,
         alloc: Global,
@@ -70,109 +68,119 @@ impl Machine {
     {
         self.kept();
         match call {
-            Call::Attach { target, ask } => {
-                calls::attach::prepare(&self.tables, alloc, moment, target.as_str(), ask)
+            Call::Attach { target, .. } => {
+                prepare_at(&self.tables, alloc, conn, moment, target.as_str(), call)
             }
-            Call::Create(asked) => calls::create::prepare(&self.tables, alloc, moment, asked),
+            Call::Create(asked) => changing_calls::create::prepare(
+                &self.tables,
+                alloc,
+                moment,
+                asked,
+            ),
             Call::Events {
                 since,
                 until,
                 filter,
-            } => calls::events::prepare(&self.tables, alloc, moment, *since, *until, filter),
-            Call::ExecCreate {
-                target,
-                words,
-                stdin,
-                out,
-                err,
-            } => {
-                let asked = ExecAsk {
-                    words,
-                    stdin: *stdin,
-                    out: *out,
-                    err: *err,
-                };
-                calls::execs::create::prepare(&self.tables, alloc, moment, target.as_str(), &asked)
+            } => reading_calls::events::prepare(
+                &self.tables,
+                alloc,
+                moment,
+                *since,
+                *until,
+                filter,
+            ),
+            Call::ExecCreate { target, .. } => {
+                prepare_at(&self.tables, alloc, conn, moment, target.as_str(), call)
             }
             Call::ExecInspect { id } => {
-                calls::execs::inspect::prepare(&self.tables, alloc, moment, id.as_str())
+                reading_calls::execs::inspect::prepare(&self.tables, alloc, moment, id.as_str())
             }
             Call::ExecStart { id, detach } => {
-                calls::execs::start::prepare(&self.tables, alloc, moment, id.as_str(), *detach)
+                changing_calls::execs::start::prepare(
+                    &self.tables,
+                    alloc,
+                    moment,
+                    id.as_str(),
+                    *detach,
+                )
             }
             Call::Feed { owner, run, bytes } => {
-                calls::feed::prepare(&self.tables, alloc, moment, *owner, *run, bytes)
+                changing_calls::feed::prepare(&self.tables, alloc, moment, *owner, *run, bytes)
             }
-            Call::FeedEnd { owner, run } => Ok(calls::feed::prepare_end(
+            Call::FeedEnd { owner, run } => Ok(changing_calls::feed::prepare_end(
                 &self.tables,
                 alloc,
                 moment,
                 *owner,
                 *run,
             )),
-            Call::Kill { target, signal } => {
-                calls::kill::prepare(&self.tables, alloc, moment, target.as_str(), *signal)
+            Call::Kill { target, .. } => {
+                prepare_at(&self.tables, alloc, conn, moment, target.as_str(), call)
             }
             Call::Inspect { target } => {
-                calls::inspect::prepare(&self.tables, alloc, moment, target.as_str())
+                prepare_at(&self.tables, alloc, conn, moment, target.as_str(), call)
             }
-            Call::JournalRead => calls::events::prepare_journal(&self.tables, alloc, moment),
+            Call::JournalRead => reading_calls::events::prepare_journal(
+                &self.tables,
+                alloc,
+                moment,
+            ),
             Call::List { all, limit, filter } => {
-                calls::list::prepare(&self.tables, alloc, moment, *all, *limit, filter)
+                reading_calls::list::prepare(&self.tables, alloc, moment, *all, *limit, filter)
             }
-            Call::Logs { target, ask } => {
-                calls::logs::prepare(&self.tables, alloc, moment, target.as_str(), ask)
+            Call::Logs { target, .. } => {
+                prepare_at(&self.tables, alloc, conn, moment, target.as_str(), call)
             }
             Call::Pause { target } => {
-                calls::pause::prepare(&self.tables, alloc, moment, target.as_str())
+                prepare_at(&self.tables, alloc, conn, moment, target.as_str(), call)
             }
-            Call::Remove { target, force } => {
-                calls::remove::prepare(&self.tables, alloc, conn, moment, target.as_str(), *force)
+            Call::Remove { target, .. } => {
+                prepare_at(&self.tables, alloc, conn, moment, target.as_str(), call)
             }
-            Call::Rename { target, name } => {
-                calls::rename::prepare(&self.tables, alloc, moment, target.as_str(), name.as_str())
+            Call::Rename { target, .. } => {
+                prepare_at(&self.tables, alloc, conn, moment, target.as_str(), call)
             }
-            Call::Restart {
-                target,
-                wait,
-                signal,
-            } => {
-                let target = target.as_str();
-                calls::restart::prepare(&self.tables, alloc, conn, moment, target, *wait, *signal)
+            Call::Restart { target, .. } => {
+                prepare_at(&self.tables, alloc, conn, moment, target.as_str(), call)
             }
             Call::Start { target } => {
-                calls::start::prepare(&self.tables, alloc, moment, target.as_str())
+                prepare_at(&self.tables, alloc, conn, moment, target.as_str(), call)
             }
-            Call::Stop {
-                target,
-                wait,
-                signal,
-            } => {
-                let target = target.as_str();
-                calls::stop::prepare(&self.tables, alloc, conn, moment, target, *wait, *signal)
+            Call::Stop { target, .. } => {
+                prepare_at(&self.tables, alloc, conn, moment, target.as_str(), call)
             }
-            Call::Take { ticket } => calls::take::prepare(&self.tables, alloc, moment, *ticket),
+            Call::Take { ticket } => reading_calls::take::prepare(
+                &self.tables,
+                alloc,
+                moment,
+                *ticket,
+            ),
             Call::Unpause { target } => {
-                calls::unpause::prepare(&self.tables, alloc, moment, target.as_str())
+                prepare_at(&self.tables, alloc, conn, moment, target.as_str(), call)
             }
-            Call::Update { target, policy } => {
-                calls::update::prepare(&self.tables, alloc, moment, target.as_str(), *policy)
+            Call::Update { target, .. } => {
+                prepare_at(&self.tables, alloc, conn, moment, target.as_str(), call)
             }
             Call::VolumeCreate { name, labels } => {
-                calls::volumes::create::prepare(&self.tables, alloc, moment, name.as_str(), labels)
+                changing_calls::volumes::create::prepare(
+                    &self.tables,
+                    alloc,
+                    moment,
+                    name.as_str(),
+                    labels,
+                )
             }
             Call::VolumeInspect { name } => {
-                calls::volumes::inspect::prepare(&self.tables, alloc, moment, name.as_str())
+                reading_calls::volumes::inspect::prepare(&self.tables, alloc, moment, name.as_str())
             }
             Call::VolumeList { filter } => {
-                calls::volumes::list::prepare(&self.tables, alloc, moment, filter)
+                reading_calls::volumes::list::prepare(&self.tables, alloc, moment, filter)
             }
             Call::VolumeRemove { name } => {
-                calls::volumes::remove::prepare(&self.tables, alloc, moment, name.as_str())
+                changing_calls::volumes::remove::prepare(&self.tables, alloc, moment, name.as_str())
             }
-            Call::Wait { target, until } => {
-                let target = target.as_str();
-                calls::wait::prepare(&self.tables, alloc, conn, moment, target, *until)
+            Call::Wait { target, .. } => {
+                prepare_at(&self.tables, alloc, conn, moment, target.as_str(), call)
             }
             Call::Drop { .. } => unreachable!(),
         }
@@ -220,7 +228,7 @@ impl Machine {
     {
         self.kept();
         if let Call::Drop { ticket } = call {
-            return Ok(calls::take::prepare_drop(alloc, moment, *ticket));
+            return Ok(reading_calls::take::prepare_drop(alloc, moment, *ticket));
         }
         let prepared = self.prepare_call(alloc, conn, moment, call)?;
         self.make_space(alloc, space_of(&prepared.plan))?;

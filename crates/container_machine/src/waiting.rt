@@ -4,7 +4,7 @@ ghost use Rattle.engine_text.specs.declared.call.Call as calls;
 ghost use Rattle.machine_model.specs.History.{has_ticket};
 ghost use Rattle.machine_model.specs.Ready.{is_ready};
 
-use super::machine::Machine;
+use crate::machine::Machine;
 use engine_text::Call;
 
 impl Machine {

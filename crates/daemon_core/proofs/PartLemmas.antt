@@ -8,7 +8,7 @@ use Rattle.engine_text.specs.declared.step.Step.{Step}
 use Rattle.machine_model.specs.State.{State}
 use Rattle.machine_model.specs.History.{Charter, IsLegal, after_step, state_after, DuesUntil, SomeDues}
 use Rattle.machine_model.specs.LogStream.{log_end, log_of, log_reach}
-use Rattle.container_machine.specs.LogParts.{HasMore}
+use Rattle.reading_calls.specs.LogParts.{HasMore}
 use Rattle.session_model.specs.Pass.{PassView}
 use Rattle.session_model.specs.Turning.{Turn}
 use Rattle.session_model.specs.declared.turned.Part.{Part}

@@ -23,7 +23,7 @@ use Rattle.machine_model.proofs.Laws.{kept_step}
 use Rattle.machine_model.proofs.ListLemmas.{all_weaken}
 use Rattle.machine_model.proofs.MomentLemmas.{Moves, moves}
 use Rattle.container_machine.specs.Dues.{IsForDue}
-use Rattle.container_machine.specs.Parts.{MachineParts}
+use Rattle.call_plans.specs.Parts.{MachineParts}
 use Rattle.container_machine.specs.declared.due.PreparedDue.{PreparedDue}
 use Rattle.daemon_core.specs.Keeping.{history_of}
 use Rattle.daemon_core.specs.Telling.{AreTimed, HasEnds, IsLike, IsTold, IsToldBySome, KeepsTold, Plays}

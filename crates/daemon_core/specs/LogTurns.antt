@@ -1,6 +1,6 @@
 -- What asking for a part of a log's stream tells (own).
 use Rattle.std.specs.Prelude.{◌≡◌, ℕ, ◌<◌, ◌≤◌, true, List, ◌++◌, length}
-pub use Rattle.container_machine.specs.LogParts.{ends_by, is_whole_at, is_lost, is_gone, GoesOn, IsBehind}
+pub use Rattle.reading_calls.specs.LogParts.{ends_by, is_whole_at, is_lost, is_gone, GoesOn, IsBehind}
 use Rattle.engine_text.specs.declared.reply.LogSpec.{LogSpec}
 use Rattle.machine_model.specs.History.{state_after}
 use Rattle.machine_model.specs.LogStream.{is_kept, log_bytes, log_of, log_reach}

@@ -7,9 +7,9 @@ ghost use Rattle.machine_model.specs.LogStream.{is_asked_by, stamped};
 ghost use Rattle.daemon_core.specs.Framing.{Longer, IsTimed, Passes, asked_bytes};
 
 use crate::append::append;
-use container_machine::is_selected;
 use engine_text::{LogRecord, LogSpec, NoMemory, Stream, moment_text};
 use machine_model::{FRAME_BYTES, GREATEST_MOMENT};
+use reading_calls::is_selected;
 use stream_frame::header;
 
 /// The bytes that a part has at least before it ends with its record.

@@ -6,8 +6,8 @@ ghost use Rattle.daemon_core.specs.Passing.{charter, whole_pass};
 
 use crate::daemon::Daemon;
 use crate::frames::append_records;
-use container_machine::LogPart;
 use engine_text::{LogSpec, NoMemory};
+use reading_calls::LogPart;
 use session_model::{Part, Turned};
 use std::alloc::Global;
 

@@ -14,7 +14,7 @@ use Rattle.json_laws.specs.Plain.{IsWhole, IsPlain, ArePlain, AreRising}
 use Rattle.json_laws.specs.Sound.{line_text}
 use Rattle.engine_text.specs.declared.entry.Entry.{Entry}
 use Rattle.journal_lines.specs.JournalLines.{entry_value, journal_line, header_value, header_line, IsHeader}
-use Rattle.journal_lines.specs.Line.{HasLine, IsJournalLine, BeginsWithLine, BeginsWithHeader, IsHeaderFault}
+use Rattle.journal_lines.specs.Line.{HasLine, IsJournalLine, BeginsWithLine, BeginsWithHeader}
 use Rattle.journal_lines.proofs.EntryLemmas.{is_carried}
 use Rattle.journal_lines.proofs.HeaderLemmas as headers
 use Rattle.journal_lines.specs.declared.format.Format.{Format}

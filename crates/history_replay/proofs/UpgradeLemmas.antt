@@ -6,7 +6,6 @@ use Rattle.std.proofs.lemmas.List.{append_cancel_left}
 use Rattle.hex.specs.Hex.{IsBytes}
 use Rattle.engine_text.specs.declared.entry.Entry.{Entry}
 use Rattle.engine_text.specs.declared.memory.NoMemory.{NoMemory}
-use Rattle.machine_model.specs.State.{State, initial_state}
 use Rattle.machine_model.specs.History.{Charter, IsCharter, opening_state}
 use Rattle.journal_lines.specs.JournalLines.{journal_line, header_line, IsHeader}
 use Rattle.journal_lines.specs.Line.{HasLine, IsJournalLine, BeginsWithHeader}

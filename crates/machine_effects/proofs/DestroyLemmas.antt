@@ -17,13 +17,13 @@ use Rattle.machine_model.specs.State.{State, container_numbered}
 use Rattle.machine_model.specs.Chain.{change, with_found}
 use Rattle.machine_model.specs.EventTexts.{plain_event}
 use Rattle.machine_model.specs.Effects.Destroy.{destroy, without, answer, answered, last_reply}
-use Rattle.machine_effects.specs.Fit.{exec_numbers, outputs_of}
-use Rattle.machine_effects.specs.Held.{ticket_in, tickets_in, replies_in, answered_by, ready_by, ready_or}
-use Rattle.machine_effects.specs.declared.held.Fate.{Fate}
-use Rattle.machine_effects.specs.Outputs.{is_output_of}
-use Rattle.machine_effects.specs.declared.held.HeldTicket.{HeldTicket}
-use Rattle.machine_effects.specs.declared.held.Ready.{Ready}
-use Rattle.machine_effects.proofs.SettleLemmas.{tell_still, has_number}
+use Rattle.machine_events.specs.Fit.{exec_numbers, outputs_of}
+use Rattle.machine_tables.specs.Held.{ticket_in, tickets_in, replies_in, answered_by, ready_by, ready_or}
+use Rattle.machine_tables.specs.declared.held.RemovalResult.{RemovalResult}
+use Rattle.machine_events.specs.Outputs.{is_output_of}
+use Rattle.machine_tables.specs.declared.held.HeldTicket.{HeldTicket}
+use Rattle.machine_tables.specs.declared.held.Ready.{Ready}
+use Rattle.machine_events.proofs.SettleLemmas.{tell_still, has_number}
 
 -- a ticket of the container with that number is answered, its last code being this
 abbrev pub last_by : ℕ → ℕ → Ticket → Ticket
@@ -54,7 +54,7 @@ destroyed_none n s e =
 
 -- ---- tickets
 
-ready_last : (seed : List ℕ) (n code : ℕ) (a : Asked) (o : Option Ready) → replies_in seed n (ready_or o (ready_by (Fate.Gone code) a)) ≡ answered (replies_in seed n o) (last_reply a code)
+ready_last : (seed : List ℕ) (n code : ℕ) (a : Asked) (o : Option Ready) → replies_in seed n (ready_or o (ready_by (RemovalResult.Gone code) a)) ≡ answered (replies_in seed n o) (last_reply a code)
 ready_last seed n code Asked.Stop None = refl
 ready_last seed n code Asked.Restart None = refl
 ready_last seed n code Asked.Remove None = refl
@@ -62,15 +62,15 @@ ready_last seed n code (Asked.Wait u) None = refl
 ready_last seed n code a (Some r) = refl
 
 last_either : (seed : List ℕ) (code : ℕ) (b : Bool) (t : HeldTicket)
-    → ticket_in seed (if b then record t { ready = ready_or t.ready (ready_by (Fate.Gone code) t.asked) } else t) ≡ (if b then answer (last_reply t.asked code) (ticket_in seed t) else ticket_in seed t)
+    → ticket_in seed (if b then record t { ready = ready_or t.ready (ready_by (RemovalResult.Gone code) t.asked) } else t) ≡ (if b then answer (last_reply t.asked code) (ticket_in seed t) else ticket_in seed t)
 last_either seed code true t = ap (λ o. record (ticket_in seed t) { reply = o }) (ready_last seed t.container code t.asked t.ready)
 last_either seed code false t = refl
 
 -- the tickets in memory are answered as the state's are
-pub tickets_last : (seed : List ℕ) (n code : ℕ) (ts : List HeldTicket) → tickets_in seed (map (answered_by (Fate.Gone code) n) ts) ≡ map (last_by n code) (tickets_in seed ts)
+pub tickets_last : (seed : List ℕ) (n code : ℕ) (ts : List HeldTicket) → tickets_in seed (map (answered_by (RemovalResult.Gone code) n) ts) ≡ map (last_by n code) (tickets_in seed ts)
 tickets_last seed n code [] = refl
 tickets_last seed n code (t ∷ ts) =
-    ap (λ x. x ∷ tickets_in seed (map (answered_by (Fate.Gone code) n) ts)) (last_either seed code (t.container == n) t)
+    ap (λ x. x ∷ tickets_in seed (map (answered_by (RemovalResult.Gone code) n) ts)) (last_either seed code (t.container == n) t)
     ∙ ap (λ l. last_by n code (ticket_in seed t) ∷ l) (tickets_last seed n code ts)
 
 -- ---- part by part

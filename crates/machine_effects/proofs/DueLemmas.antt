@@ -19,18 +19,19 @@ use Rattle.machine_model.specs.Effects.Meet.{meet_signal}
 use Rattle.machine_model.specs.Effects.Destroy.{answered}
 use Rattle.machine_model.specs.Outcome.{message_text}
 use Rattle.machine_model.specs.Refusals.{removal_timed_out}
-use Rattle.machine_effects.specs.Deadlines.{HasId, timed_out_at}
-use Rattle.machine_effects.specs.Fit.{CanEndBy, CanLaunch, CanSettle, HasEnded}
-use Rattle.machine_effects.specs.Held.{ticket_in, tickets_in, replies_in, answered_by, late_ready, ready_or}
-use Rattle.machine_effects.specs.Marks.{renewed, marked, counted}
-use Rattle.machine_effects.specs.Memory.{Room}
-use Rattle.machine_effects.specs.declared.held.Fate.{Fate}
-use Rattle.machine_effects.specs.declared.held.HeldTicket.{HeldTicket}
-use Rattle.machine_effects.specs.declared.kit.Kit.{Kit}
+use Rattle.machine_events.specs.Deadlines.{HasId, timed_out_at}
+use Rattle.machine_events.specs.Fit.{CanEndBy, CanLaunch, CanSettle, HasEnded}
+use Rattle.machine_tables.specs.Held.{ticket_in, tickets_in, replies_in, answered_by, late_ready, ready_or}
+use Rattle.machine_events.specs.ChangedLives.{renewed, changed_life, counted}
+use Rattle.machine_events.specs.Memory.{Room}
+use Rattle.machine_tables.specs.declared.held.RemovalResult.{RemovalResult}
+use Rattle.machine_tables.specs.declared.held.HeldTicket.{HeldTicket}
+use Rattle.machine_events.specs.declared.end_memory.EndMemory.{EndMemory}
 use Rattle.container_table.specs.declared.life_change.LifeChange.{LifeChange}
-use Rattle.machine_effects.specs.declared.held.Ready.{Ready}
-use Rattle.machine_effects.proofs.DiedToldLemmas.{behind_event}
-use Rattle.machine_effects.proofs.SettleLemmas.{found_updated, has_number, launch_alike, launch_changed, settle_clear}
+use Rattle.container_table.specs.declared.rank.Rank.{Rank}
+use Rattle.machine_tables.specs.declared.held.Ready.{Ready}
+use Rattle.machine_events.proofs.DiedToldLemmas.{behind_event}
+use Rattle.machine_events.proofs.SettleLemmas.{found_updated, has_number, launch_alike, launch_changed, settle_clear}
 
 -- ---- tickets
 
@@ -56,15 +57,15 @@ late_either seed n c true t is of =
 late_either seed n c false t is of = refl
 
 tickets_late : (seed : List ℕ) (n : ℕ) (c : Container) (ts : List HeldTicket) → c.id ≡ id_of seed n
-    → tickets_in seed (map (answered_by Fate.TimedOut n) ts) ≡ map (λ (t : Ticket). if t.container == n then timed_out t.asked c t else t) (tickets_in seed ts)
+    → tickets_in seed (map (answered_by RemovalResult.TimedOut n) ts) ≡ map (λ (t : Ticket). if t.container == n then timed_out t.asked c t else t) (tickets_in seed ts)
 tickets_late seed n c [] is = refl
 tickets_late seed n c (t ∷ ts) is =
-    ap (λ x. x ∷ tickets_in seed (map (answered_by Fate.TimedOut n) ts)) (late_either seed n c (t.container == n) t is refl)
+    ap (λ x. x ∷ tickets_in seed (map (answered_by RemovalResult.TimedOut n) ts)) (late_either seed n c (t.container == n) t is refl)
     ∙ ap (λ l. (if t.container == n then timed_out t.asked c (ticket_in seed t) else ticket_in seed t) ∷ l) (tickets_late seed n c ts is)
 
 -- the tickets in memory are answered as the state's are
 pub timed_out_found : (n : ℕ) (s : State) (seed : List ℕ) (ts : List HeldTicket) (o : Option Container) → container_numbered n s ≡ o → s.tickets ≡ tickets_in seed ts → s.seed ≡ seed → HasId n s
-    → (c : Container) → o ≡ Some c → record s { tickets = tickets_in seed (map (answered_by Fate.TimedOut n) ts) } ≡ (timed_out_at n s).state
+    → (c : Container) → o ≡ Some c → record s { tickets = tickets_in seed (map (answered_by RemovalResult.TimedOut n) ts) } ≡ (timed_out_at n s).state
 timed_out_found n s seed ts o found is same id c e =
     let at : container_numbered n s ≡ Some c = found ∙ e in
     let number : c.number ≡ n = has_number n s c at in
@@ -96,7 +97,7 @@ pub update_same : {A : Type 0} (f g : A → A) (p : A → Bool) (xs : List A) (y
 update_same f g p [] y e h = absurd (cc)
 update_same f g p (x ∷ xs) y e h = same_either f g p (p x) x y xs (update_first p f xs) (update_first p g xs) e h (λ r. update_same f g p xs y r h)
 
-pub restarts_counted : (n : ℕ) (s : State) (c : Container) → container_numbered n s ≡ Some c → change_life n (marked (LifeChange.Restarted (c.life.restarts + 1))) s ≡ change_life n restarted s
+pub restarts_counted : (n : ℕ) (s : State) (c : Container) → container_numbered n s ≡ Some c → change_life n (changed_life (LifeChange.Restarted (c.life.restarts + 1))) s ≡ change_life n restarted s
 restarts_counted n s c e = ap (λ l. record s { containers = l }) (update_same (renewed (counted (c.life.restarts + 1))) (renewed restarted) (λ (d : Container). d.number == n) s.containers c e refl)
 
 unfound_either : {A : Type 0} (p : A → Bool) (f : A → A) (b : Bool) (x : A) (xs ys : List A) → (if b then Some x else find p xs) ≡ None → (find p xs ≡ None → xs ≡ ys) → x ∷ xs ≡ (if b then f x ∷ xs else x ∷ ys)
@@ -112,19 +113,19 @@ pub none_counted : (n : ℕ) (s : State) → container_numbered n s ≡ None →
 none_counted n s e = ap (λ l. record s { containers = l }) (update_unfound (λ (d : Container). d.number == n) (renewed restarted) s.containers e)
 
 -- after it the container may be launched
-pub launch_timed : (n : ℕ) (script : Option Program) (s a b : State) → a ≡ clear_timer 3 n s → b ≡ change_life n restarted a → CanLaunch n script s → CanLaunch n script b
+pub launch_timed : (n : ℕ) (script : Option Program) (s a b : State) → a ≡ clear_timer Rank.RestartTimer n s → b ≡ change_life n restarted a → CanLaunch n script s → CanLaunch n script b
 launch_timed n script s a b h k can =
     subst (λ (z : State). CanLaunch n script z) (sym k)
     (launch_changed n script restarted (λ l. refl) (λ l. refl) a
-    (subst (λ (z : State). CanLaunch n script z) (sym h) (launch_alike n script s (clear_timer 3 n s) refl refl can)))
+    (subst (λ (z : State). CanLaunch n script z) (sym h) (launch_alike n script s (clear_timer Rank.RestartTimer n s) refl refl can)))
 
 -- what follows is ready where SIGKILL ends the process
-pub end_deadline : (n : ℕ) (kit : Kit) (room other : Room) (s a : State) → a ≡ clear_timer 1 n s → other ≡ room → CanEndBy (stop_deadline n) n kit room s → CanEndBy (meet_signal 9 n) n kit other a
-end_deadline n kit room other s a at same h ended =
-    let y : State = clear_timer 1 n s in
-    subst (λ (r : Room). CanSettle n kit r a) (sym same)
-    (subst (λ (z : State). CanSettle n kit room z) (sym at)
-    (settle_clear n kit room 1 n s (h
+pub end_deadline : (n : ℕ) (brought : EndMemory) (room other : Room) (s a : State) → a ≡ clear_timer Rank.StopDeadline n s → other ≡ room → CanEndBy (stop_deadline n) n brought room s → CanEndBy (meet_signal 9 n) n brought other a
+end_deadline n brought room other s a at same h ended =
+    let y : State = clear_timer Rank.StopDeadline n s in
+    subst (λ (r : Room). CanSettle n brought r a) (sym same)
+    (subst (λ (z : State). CanSettle n brought room z) (sym at)
+    (settle_clear n brought room Rank.StopDeadline n s (h
     (subst (λ (d : List Died). HasEnded d) (sym (behind_event (kill_event 9) n y (λ z. (meet_signal 9 n z).died)))
     (subst (λ (z : State). HasEnded (meet_signal 9 n z).died) at ended)))))
 
@@ -139,6 +140,6 @@ id_found seed n f (Some d) named c e =
 id_renewed : (n : ℕ) (f : Life → Life) (s : State) → HasId n s → HasId n (change_life n f s)
 id_renewed n f s h c at = id_found s.seed n f (container_numbered n s) h c (sym (found_updated (λ (d : Container). d.number == n) (renewed f) s.containers (λ d. refl)) ∙ at)
 
-pub id_marked : (n : ℕ) (s a b : State) → a ≡ clear_timer 2 n s → b ≡ change_life n died a → HasId n s → HasId n b
-id_marked n s a b h k id =
+pub id_changed : (n : ℕ) (s a b : State) → a ≡ clear_timer Rank.RemovalDeadline n s → b ≡ change_life n died a → HasId n s → HasId n b
+id_changed n s a b h k id =
     subst (λ (z : State). HasId n z) (sym k) (id_renewed n died a (subst (λ (z : State). HasId n z) (sym h) id))

@@ -1,4 +1,1 @@
-pub mod Tickets
-pub mod Removals
-pub mod Moments
 pub mod Tables

@@ -2,7 +2,7 @@
 ghost use Rattle.std.specs.Prelude.{◌≡◌, length};
 ghost use Rattle.machine_model.specs.Calls.Events.{first_event};
 
-use super::tables::Tables;
+use crate::tables::Tables;
 
 impl Tables {
     /// How many steps there were.

@@ -1,4 +1,5 @@
 // The effects of a step, one method each.
+
 mod cancel;
 mod create;
 mod deliver;

@@ -1,84 +1,14 @@
-// The events of a launch, of mounts and of the ends of execs, made before them.
-ghost use Rattle.std.specs.Prelude.{◌≡◌, ℕ, ◌∷◌, [], ◌++◌, Some, OnOk};
+// The events of the ends of execs, made before them.
+ghost use Rattle.std.specs.Prelude.{◌≡◌, ◌++◌, Some, OnOk};
 ghost use Rattle.std.specs.List.{flat_map};
-ghost use Rattle.proc_kernel.specs.Catalogue.{program_of};
 ghost use Rattle.machine_model.specs.Step.{at_moment};
-ghost use Rattle.engine_text.specs.declared.container.Goal as goals;
-ghost use Rattle.machine_effects.specs.Held.{container_in};
-ghost use Rattle.machine_effects.specs.Foretold.{told_exec, told_number, told_mounts, told_launch, told_goal};
+ghost use Rattle.machine_events.specs.Foretold.{told_exec, told_number};
 ghost use Rattle.machine_model.specs.State.{exec_numbered};
 
-use super::events::{exec_die_event, mount_event, plain_event};
-use super::tables::Tables;
-use container_table::Held;
-use engine_text::{Action, Event, NoMemory, Script};
+use crate::tables::Tables;
+use engine_text::{Event, NoMemory};
+use machine_events::{add, exec_die_event};
 use std::alloc::Global;
-
-/// One event more.
-pub fn add(out: &mut Vec<Event>, event: Event) -> Result<(), NoMemory>
-    ensures { OnOk result (out.new.items ≡ out.old.items ++ event ∷ []) }
-{
-    match out.push(event) {
-        Ok(()) => Ok(()),
-        Err(_) => Err(NoMemory),
-    }
-}
-
-/// An event of each mount.
-pub fn tell_mounts(
-    alloc: Global,
-    action: Action,
-    h: &Held,
-    moment: u64,
-    out: &mut Vec<Event>,
-) -> Result<(), NoMemory>
-    ensures { OnOk result
-        (out.new.items ≡ out.old.items ++ told_mounts action (container_in h.now) moment) }
-{
-    let mounts = h.container.life.mounts.as_slice();
-    for m in mounts {
-        let event = mount_event(alloc, action, &m.volume, &h.container, moment)?;
-        add(out, event)?;
-    }
-    Ok(())
-}
-
-pub fn tell_launch(
-    alloc: Global,
-    script: &Option<Script>,
-    h: &Held,
-    moment: u64,
-    out: &mut Vec<Event>,
-) -> Result<(), NoMemory>
-    ensures { OnOk result
-        (out.new.items ≡ out.old.items ++ told_launch script.now (container_in h.now) moment) }
-{
-    match script {
-        None => Ok(()),
-        Some(_) => {
-            tell_mounts(alloc, Action::Mount, h, moment, out)?;
-            let event = plain_event(alloc, Action::Start, &h.container, moment)?;
-            add(out, event)
-        }
-    }
-}
-
-pub fn tell_restart(
-    alloc: Global,
-    script: &Option<Script>,
-    h: &Held,
-    moment: u64,
-    out: &mut Vec<Event>,
-) -> Result<(), NoMemory>
-    ensures { OnOk result (out.new.items
-        ≡ out.old.items ++ told_goal goals.Goal.Restart script.now (container_in h.now) moment) }
-{
-    let event = plain_event(alloc, Action::Stop, &h.container, moment)?;
-    add(out, event)?;
-    tell_launch(alloc, script, h, moment, out)?;
-    let event = plain_event(alloc, Action::Restart, &h.container, moment)?;
-    add(out, event)
-}
 
 impl Tables {
     // The end of that exec with that code, if it and its container stand.

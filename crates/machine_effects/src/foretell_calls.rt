@@ -1,37 +1,17 @@
-// The events of an unpause, of a restart of a container that doesn't live, and of a process's op, made before it.
-ghost use Rattle.std.specs.Prelude.{◌≡◌, ℕ, ◌∷◌, [], ◌++◌, OnOk};
+// The end of a process that goes on, and the events of a process's op, made before it.
+ghost use Rattle.std.specs.Prelude.{◌≡◌, ℕ, ◌++◌, OnOk};
 ghost use Rattle.engine_text.specs.declared.owner.Owner as owners;
 ghost use Rattle.proc_kernel.specs.Foretelling.{code_at};
 ghost use Rattle.proc_kernel.specs.Processes.{run_due, thaw};
 ghost use Rattle.proc_kernel.specs.Tables.{process_of};
 ghost use Rattle.machine_model.specs.State.{container_numbered};
 ghost use Rattle.machine_model.specs.Step.{at_moment};
-ghost use Rattle.machine_effects.specs.Held.{container_in};
-ghost use Rattle.machine_effects.specs.ToldCalls.{told_again, told_main, told_op, told_unpause};
+ghost use Rattle.machine_events.specs.ToldCalls.{told_main, told_op};
 
-use super::events::plain_event;
-use super::foretell::{add, tell_launch};
-use super::foretell_end::Ending;
-use super::tables::Tables;
-use container_table::Held;
-use engine_text::{Action, Event, NoMemory, Owner, Script};
+use crate::tables::Tables;
+use engine_text::{Event, NoMemory, Owner, Script};
+use machine_events::Ending;
 use std::alloc::Global;
-
-/// A launch, and then event restart.
-pub fn tell_again(
-    alloc: Global,
-    script: &Option<Script>,
-    h: &Held,
-    moment: u64,
-    out: &mut Vec<Event>,
-) -> Result<(), NoMemory>
-    ensures { OnOk result (out.new.items ≡ out.old.items
-        ++ told_again script.now (container_in h.now) moment) }
-{
-    tell_launch(alloc, script, h, moment, out)?;
-    let event = plain_event(alloc, Action::Restart, &h.container, moment)?;
-    add(out, event)
-}
 
 impl Tables {
     /// The code with which the container's main process ends once it goes on, if it does.
@@ -48,23 +28,6 @@ impl Tables {
             (process_of owner self.now.state.processes) }
     {
         self.processes.kernel().due_code(owner)
-    }
-
-    /// An unpause, which ends the main process with that code, if it does.
-    pub fn tell_unpause(
-        &self,
-        alloc: Global,
-        code: Option<u8>,
-        h: &Held,
-        script: &Option<Script>,
-        moment: u64,
-        out: &mut Vec<Event>,
-    ) -> Result<(), NoMemory>
-        ensures { OnOk result (out.new.items ≡ out.old.items
-            ++ told_unpause code (container_in h.now) script.now
-            (at_moment moment self.now.state)) }
-    {
-        self.tell_woken(alloc, code, Ending::of(h), h, script, moment, out)
     }
 
     // The end of the container's main process with that code, if it ends.

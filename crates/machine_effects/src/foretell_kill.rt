@@ -1,15 +1,13 @@
 // The events of a signal and its event kill, made before it; the container may have another goal then.
 ghost use Rattle.std.specs.Prelude.{◌≡◌, ◌++◌, OnOk};
 ghost use Rattle.machine_model.specs.Step.{at_moment};
-ghost use Rattle.machine_effects.specs.Held.{container_in};
-ghost use Rattle.machine_effects.specs.ToldKill.{aimed, told_kill};
+ghost use Rattle.container_table.specs.Logs.{container_in};
+ghost use Rattle.machine_events.specs.ToldKill.{aimed, told_kill};
 
-use super::events::kill_event;
-use super::foretell::add;
-use super::foretell_end::Ending;
-use super::tables::Tables;
+use crate::tables::Tables;
 use container_table::Held;
 use engine_text::{Event, Goal, NoMemory, Script};
+use machine_events::{Ending, add, kill_event};
 use std::alloc::Global;
 
 impl Tables {

@@ -3,18 +3,15 @@ ghost use Rattle.std.specs.Prelude.{◌≡◌, ℕ, ◌∷◌, [], ◌++◌, IfO
 ghost use Rattle.std.specs.List.{flat_map};
 ghost use Rattle.machine_model.specs.Step.{at_moment};
 ghost use Rattle.machine_model.specs.Calls.Kill.{by_hand};
-ghost use Rattle.machine_effects.specs.Foretold.{ending_as, running_numbers, told_code, told_end};
-ghost use Rattle.machine_effects.specs.Held.{container_in};
-ghost use Rattle.machine_effects.specs.Marks.{renewed};
-ghost use Rattle.machine_effects.specs.ToldMeet.{lives_on, running_after, thawed_code, told_thaw, told_wake, told_meet, told_deliver};
+ghost use Rattle.machine_events.specs.Foretold.{ending_as, running_numbers, told_code, told_end};
+ghost use Rattle.container_table.specs.Logs.{container_in};
+ghost use Rattle.machine_events.specs.ChangedLives.{renewed};
+ghost use Rattle.machine_events.specs.ToldMeet.{lives_on, running_after, thawed_code, told_thaw, told_wake, told_meet, told_deliver};
 
-use super::events::plain_event;
-use super::foretell::add;
-use super::foretell_end::Ending;
-use super::ready::is_paused;
-use super::tables::Tables;
+use crate::tables::Tables;
 use container_table::Held;
 use engine_text::{Action, Event, NoMemory, Owner, Script};
+use machine_events::{Ending, add, is_paused, plain_event};
 use std::alloc::Global;
 
 fn add_number(numbers: &mut Vec<u64>, number: u64) -> Result<(), NoMemory>
@@ -152,8 +149,8 @@ impl Tables {
         )
     }
 
-    // A signal that wakes a paused container.
-    pub(super) fn tell_woken(
+    /// An unpause, or a signal that wakes a paused container.
+    pub fn tell_woken(
         &self,
         alloc: Global,
         code: Option<u8>,

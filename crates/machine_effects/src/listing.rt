@@ -1,8 +1,8 @@
 // The containers one by one, for what shows them all.
 ghost use Rattle.std.specs.Prelude.{◌≡◌, ◌<◌, length, slice_get, Some};
-ghost use Rattle.machine_effects.specs.Held.{container_in};
+ghost use Rattle.container_table.specs.Logs.{container_in};
 
-use super::tables::Tables;
+use crate::tables::Tables;
 use container_table::Held;
 
 impl Tables {

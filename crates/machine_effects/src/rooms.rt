@@ -1,6 +1,6 @@
 // Room for the next op of a process, and for what may follow it.
 ghost use Rattle.std.specs.Prelude.{◌≡◌, ℕ, ◌<◌, ◌≤◌, OnOk};
-ghost use Rattle.machine_effects.specs.Ops.{HasEndRoom, HasEndRoomOf, HasOpRoom, HasRecordRoom};
+ghost use Rattle.machine_events.specs.Ops.{HasEndRoom, HasEndRoomOf, HasOpRoom, HasRecordRoom};
 
 use crate::tables::Tables;
 use engine_text::{NoMemory, Owner};

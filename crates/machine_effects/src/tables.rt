@@ -4,32 +4,27 @@ ghost use Rattle.engine_text.specs.declared.owner.Owner as owners;
 ghost use Rattle.proc_kernel.specs.Processes.{run_due, thaw, signal};
 ghost use Rattle.proc_kernel.specs.Tables.{due_at, effect_of, length_at, process_of};
 ghost use Rattle.proc_kernel.specs.Foretelling.{code_at};
-ghost use Rattle.container_table.specs.Ranks.{number_of};
 ghost use Rattle.container_table.specs.Reference.{container_by};
 ghost use Rattle.machine_model.specs.State.{initial_state, container_numbered, exec_numbered, running_execs, is_live, change_life, clear_timer, set_timer, drop_process};
 ghost use Rattle.machine_model.specs.Calls.Pause.{freeze_process};
 ghost use Rattle.machine_model.specs.Effects.Meet.{stepped, write_record};
 ghost use Rattle.machine_model.specs.Step.{counted};
-ghost use Rattle.machine_effects.specs.Fit.{AreFew, AreTimely};
-ghost use Rattle.machine_effects.specs.Effects.EndMain.{begun};
-ghost use Rattle.machine_effects.specs.Held.{container_in};
-ghost use Rattle.machine_effects.specs.Kits.{IsKitOf};
-ghost use Rattle.machine_effects.specs.Marks.{marked};
-ghost use Rattle.machine_effects.specs.Memory.{HasRoom, standing};
-ghost use Rattle.machine_effects.specs.Rooms.{FitsLog, FitsOutput};
+ghost use Rattle.machine_events.specs.Fit.{AreFew, AreTimely};
+ghost use Rattle.machine_events.specs.Effects.EndMain.{begun};
+ghost use Rattle.container_table.specs.Logs.{container_in};
+ghost use Rattle.machine_events.specs.EndMemories.{IsEndMemoryOf};
+ghost use Rattle.machine_events.specs.ChangedLives.{changed_life};
+ghost use Rattle.machine_events.specs.Memory.{HasRoom, standing};
+ghost use Rattle.machine_events.specs.Rooms.{FitsLog, FitsOutput};
 
-use super::kit::Kit;
-use super::moments::Moments;
-use super::processes::Processes;
-use super::removals::Removals;
-use super::tickets::Tickets;
-use super::{exec_lists, lives};
 use container_table::{Held, LifeChange, Rank, Table};
 use engine_text::{
     Bytes, Effect, Event, Exec, Found, LogRecord, NoMemory, OwnedLog, Owner, Script, Signal, Stream,
 };
 use exec_table::Execs;
+use machine_events::{EndMemory, exec_lists, lives};
 use machine_model::{GREATEST_MOMENT, KEPT_EVENTS};
+use machine_tables::{Moments, Processes, Removals, Tickets};
 use std::alloc::Global;
 use std::marker::Model;
 use volume_table::Volumes;
@@ -56,7 +51,7 @@ pub struct Tables {
 }
 
 impl Model for Tables {
-    ghost use Rattle.machine_effects.specs.Memory.{Memory};
+    ghost use Rattle.machine_events.specs.Memory.{Memory};
 
     ghost Value = { Memory };
 
@@ -95,7 +90,7 @@ impl Tables {
 
     /// That is noted in the container's life.
     pub fn renew(&mut self, number: u64, noted: LifeChange)
-        ensures state { self.new.state ≡ change_life number (marked noted) self.old.state }
+        ensures state { self.new.state ≡ change_life number (changed_life noted) self.old.state }
         ensures room { self.new.room ≡ self.old.room }
         ensures spare { self.new.spare ≡ self.old.spare }
     {
@@ -114,7 +109,7 @@ impl Tables {
 
     /// The timer of that rank and number is gone.
     pub fn clear_timer(&mut self, rank: Rank, number: u64)
-        ensures state { self.new.state ≡ clear_timer (number_of rank) number self.old.state }
+        ensures state { self.new.state ≡ clear_timer rank number self.old.state }
         ensures room { self.new.room ≡ self.old.room }
         ensures spare { self.new.spare ≡ self.old.spare }
     {
@@ -124,7 +119,7 @@ impl Tables {
     /// There is a timer of that rank and number at the moment, in the place of an earlier one.
     pub fn set_timer(&mut self, rank: Rank, number: u64, moment: u64)
         requires { length self.old.state.timers < self.old.room.timers }
-        ensures state { self.new.state ≡ set_timer (number_of rank) number moment self.old.state }
+        ensures state { self.new.state ≡ set_timer rank number moment self.old.state }
         ensures room { self.new.room ≡ self.old.room }
         ensures spare { self.new.spare ≡ self.old.spare }
     {
@@ -328,13 +323,18 @@ impl Tables {
     }
 
     /// The memory that the end of the container's main process may want, with the script of its launch.
-    pub fn kit(&self, alloc: Global, number: u64, script: Option<Script>) -> Result<Kit, NoMemory>
-        ensures { IfOk result (λ k. IsKitOf number script self.now.state k) }
+    pub fn end_memory(
+        &self,
+        alloc: Global,
+        number: u64,
+        script: Option<Script>,
+    ) -> Result<EndMemory, NoMemory>
+        ensures { IfOk result (λ k. IsEndMemoryOf number script self.now.state k) }
     {
         let execs = exec_lists::numbers_of(&self.execs, alloc, number)?;
         let outputs = self.execs.count_of(number);
         let logs = room_for(alloc, outputs)?;
-        Ok(Kit {
+        Ok(EndMemory {
             script,
             logs,
             execs,

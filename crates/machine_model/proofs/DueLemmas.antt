@@ -5,13 +5,15 @@ use Rattle.std.proofs.lemmas.Bool.Decides.{eqb_tells}
 use Rattle.std.specs.List.{AllByRecursion, filter_map, list_any, cons_option}
 use Rattle.api_json.specs.Status.{is_paused, is_restarting}
 use Rattle.container_table.specs.Timers.{is_timer, timer_in, is_before}
+use Rattle.container_table.specs.Ranks.{rank_numbered}
+use Rattle.container_table.specs.declared.rank.Rank.{Rank}
 use Rattle.engine_text.specs.Owner.{same_owner}
 use Rattle.proc_kernel.specs.Processes.{Process, run_due, next_due, due_of, is_frozen}
 use Rattle.proc_kernel.specs.Tables.{Entry, process_of}
 use Rattle.machine_model.specs.State.{State, container_numbered, exec_numbered, owner_number, clear_timer, timer_of}
 use Rattle.machine_model.specs.Chain.{Effect, change, with_found, with_container}
 use Rattle.machine_model.specs.EventTexts.{kill_event}
-use Rattle.machine_model.specs.Due.{action_at, due_actions, least_due, op_effect, stop_deadline, time_out, died, removal_deadline, restarted, restart_timer, due_effect}
+use Rattle.machine_model.specs.Due.{action_at, by_rank, due_actions, least_due, stop_deadline, time_out, died, removal_deadline, restarted, restart_timer, due_effect}
 use Rattle.machine_model.specs.Effects.Meet.{step_process}
 use Rattle.machine_model.specs.Consistency.{AreDistinct, is_there, HasOwner, IsFrozenAs, IsFrozenRight, TimerStands, HasTimer, HasRemoval, IsConsistent}
 use Rattle.machine_model.specs.Step.{at_moment}
@@ -155,12 +157,12 @@ awake_timer s d h stands there other c found =
     let is : c.number ≡ d.number = found_number d.number c s.containers found in
     elim (eqb_tells d.rank 3) [
       | inl e ↦
-          let timer : is_there (timer_of 3 c.number s) ≡ true = subst (λ m. is_there (timer_of 3 m s) ≡ true) (sym is) (subst (λ r. is_there (timer_in r d.number s.timers) ≡ true) e.1 there) in
+          let timer : is_there (timer_of Rank.RestartTimer c.number s) ≡ true = subst (λ m. is_there (timer_of Rank.RestartTimer m s) ≡ true) (sym is) (subst (λ r. is_there (timer_in r d.number s.timers) ≡ true) e.1 there) in
           let right : HasTimer s c = found_all (HasTimer s) (λ x. x.number == d.number) c s.containers found h.timers.restarts in
           restarting_calm c.life.status (sym right ∙ timer)
       | inr e ↦
           let two : d.rank ≡ 2 = omega (arith, e.1, other, stands.least, stands.greatest) in
-          let timer : is_there (timer_of 2 c.number s) ≡ true = subst (λ m. is_there (timer_of 2 m s) ≡ true) (sym is) (subst (λ r. is_there (timer_in r d.number s.timers) ≡ true) two there) in
+          let timer : is_there (timer_of Rank.RemovalDeadline c.number s) ≡ true = subst (λ m. is_there (timer_of Rank.RemovalDeadline m s) ≡ true) (sym is) (subst (λ r. is_there (timer_in r d.number s.timers) ≡ true) two there) in
           let right : HasRemoval s c = found_all (HasRemoval s) (λ x. x.number == d.number) c s.containers found h.timers.removals in
           ap is_paused (right timer)
     ]
@@ -243,34 +245,27 @@ op_by s n (Some x) e awake fit =
 
 tells_stop : (n : ℕ) → Tells n Same (stop_deadline n) Awake
 tells_stop n =
-    tells_then (tells_apart (clear_timer 1 n) (λ s. refl) (λ s fit. fit)) (tells_then (tells_quiet n (kill_event 9) (λ c t rs. refl)) (tells_meet 9 n (omega arith)))
+    tells_then (tells_apart (clear_timer Rank.StopDeadline n) (λ s. refl) (λ s fit. fit)) (tells_then (tells_quiet n (kill_event 9) (λ c t rs. refl)) (tells_meet 9 n (omega arith)))
 
 tells_removal : (n : ℕ) → Tells n Awake (removal_deadline n) Awake
 tells_removal n =
     let times : Tells n Awake (with_container n (λ c. change (time_out c))) Awake =
     tells_with (λ c. change (time_out c)) (λ c is. tells_from (λ r d id h. h.1) (tells_apart (time_out c) (λ s. refl) (λ s fit. fit))) in
-    tells_then (tells_apart (clear_timer 2 n) (λ s. refl) (λ s fit. fit)) (tells_then (awake_renew died (λ l h. h) (λ c. refl) (λ l. refl)) times)
+    tells_then (tells_apart (clear_timer Rank.RemovalDeadline n) (λ s. refl) (λ s fit. fit)) (tells_then (awake_renew died (λ l h. h) (λ c. refl) (λ l. refl)) times)
 
 tells_restart : (n : ℕ) → Tells n Awake (restart_timer n) Awake
 tells_restart n =
-    tells_then (tells_apart (clear_timer 3 n) (λ s. refl) (λ s fit. fit)) (tells_then (awake_mark restarted (λ l h. h) (λ c. refl) (λ l. refl)) (tells_launch n))
+    tells_then (tells_apart (clear_timer Rank.RestartTimer n) (λ s. refl) (λ s fit. fit)) (tells_then (awake_mark restarted (λ l h. h) (λ c. refl) (λ l. refl)) (tells_launch n))
 
-third : (s : State) (n : ℕ) (b : Bool) → IsAwakeAt s n → Fit s → Folded s ((if b then removal_deadline n else restart_timer n) s)
-third s n true awake fit = folded_awake s n (removal_deadline n) (tells_removal n) awake fit
-third s n false awake fit = folded_awake s n (restart_timer n) (tells_restart n) awake fit
-
-second : (s : State) (rank n : ℕ) (b : Bool) → (rank == 1) ≡ b → (rank ≢ 1 → IsAwakeAt s n) → Fit s
-    → Folded s ((if b then stop_deadline n else (if rank == 2 then removal_deadline n else restart_timer n)) s)
-second s rank n true e awake fit = folded_by n Awake (stop_deadline n) s awake_same (tells_stop n) fit
-second s rank n false e awake fit = third s n (rank == 2) (awake (λ is. absurd (cc (e, eq-eqb rank 1 is)))) fit
-
-first : (s : State) (rank n : ℕ) (b : Bool) → (rank == 0) ≡ b → (rank ≢ 1 → IsAwakeAt s n) → Fit s
-    → Folded s ((if b then op_effect n else (if rank == 1 then stop_deadline n else (if rank == 2 then removal_deadline n else restart_timer n))) s)
-first s rank n true e awake fit =
-    let none : rank ≢ 1 = λ is. let zero : rank ≡ 0 = eqb-true rank 0 e in omega (arith, is, zero) in
-    op_by s n (find (λ e. owner_number e.owner == n) s.processes) refl (awake none) fit
-first s rank n false e awake fit = second s rank n (rank == 1) refl awake fit
+by : (s : State) (rank n : ℕ) (r : Rank) → rank_numbered rank ≡ r → (rank ≢ 1 → IsAwakeAt s n) → Fit s → Folded s (by_rank r n s)
+by s rank n Rank.Op e awake fit =
+    op_by s n (find (λ e. owner_number e.owner == n) s.processes) refl (awake (λ is. absurd (cc (e, ap rank_numbered is)))) fit
+by s rank n Rank.StopDeadline e awake fit = folded_by n Awake (stop_deadline n) s awake_same (tells_stop n) fit
+by s rank n Rank.RemovalDeadline e awake fit =
+    folded_awake s n (removal_deadline n) (tells_removal n) (awake (λ is. absurd (cc (e, ap rank_numbered is)))) fit
+by s rank n Rank.RestartTimer e awake fit =
+    folded_awake s n (restart_timer n) (tells_restart n) (awake (λ is. absurd (cc (e, ap rank_numbered is)))) fit
 
 -- a due action, at its moment
 pub due_folds : (s : State) (d : DueAction) → FindsAwake s d → Fit s → Folded s (due_effect d (at_moment d.moment s))
-due_folds s d awake fit = first (at_moment d.moment s) d.rank d.number (d.rank == 0) refl awake fit
+due_folds s d awake fit = by (at_moment d.moment s) d.rank d.number (rank_numbered d.rank) refl awake fit

@@ -26,6 +26,7 @@ pub mod Effects
 pub mod ObeyLemmas
 pub mod Calls
 pub mod CallLemmas
+pub mod RankLemmas
 pub mod DueLemmas
 pub mod MomentLemmas
 pub mod ReplyLemmas
@@ -38,3 +39,6 @@ pub mod Consistent
 pub mod Laws
 pub mod StandingLemmas
 pub mod LawFacts
+pub mod ItemLemmas
+pub mod RemoveLemmas
+pub mod UpdateLemmas

@@ -1,5 +1,5 @@
 -- A ticket stands with its connection until it is ended, and each step adds one ticket at most.
-use Rattle.std.proofs.Common.{◌≡◌, ◌≢◌, ℕ, ◌+◌, ◌<◌, ◌≤◌, ◌==◌, Bool, true, false, List, [], ◌∷◌, ◌++◌, IsTrue, Option, Some, None, find, map, length, if◌then◌else◌, refl, ap, sym, ◌∙◌, subst, arith}
+use Rattle.std.proofs.Common.{◌≡◌, ℕ, ◌+◌, ◌<◌, ◌≤◌, ◌==◌, Bool, true, false, List, [], ◌∷◌, ◌++◌, IsTrue, Option, Some, None, find, map, length, if◌then◌else◌, refl, ap, sym, subst, arith}
 use Rattle.std.proofs.lemmas.Bool.{false≢true, eq-eqb}
 use Rattle.std.proofs.lemmas.Bool.Decides.{nat_tests}
 use Rattle.std.proofs.lemmas.List.{length-map}
@@ -10,7 +10,7 @@ use Rattle.container_table.specs.Lists.{remove_first}
 use Rattle.container_table.specs.Reference.{container_by}
 use Rattle.proc_kernel.specs.Tables.{process_of, effect_of}
 use Rattle.machine_model.specs.State.{State, container_numbered, is_live}
-use Rattle.machine_model.specs.Chain.{Effect, Died, still, change, and_then, tell_of}
+use Rattle.machine_model.specs.Chain.{Effect, Died, still, and_then, tell_of}
 use Rattle.machine_model.specs.Call.{outcome_of}
 use Rattle.machine_model.specs.Due.{least_due, due_effect, timed_out}
 use Rattle.machine_model.specs.Step.{at_moment, step_of}

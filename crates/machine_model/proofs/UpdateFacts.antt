@@ -1,5 +1,5 @@
 -- Worked runs: containers that are removed by themselves, and policies that are given anew.
-use Rattle.std.specs.Prelude.{◌≡◌, ℕ, ◌+◌, List, [], ◌∷◌, true, false, Option, Some, None, codes, refl, map}
+use Rattle.std.specs.Prelude.{◌≡◌, ℕ, List, [], ◌∷◌, true, Some, None, codes, refl, map}
 use Rattle.std.specs.Fmt.{digits}
 use Rattle.rand_chacha.specs.Block.{quarter_round, column_round, diagonal_round, double_rounds, block_word}
 use Rattle.rand_core.specs.Steps.{u32_at}

@@ -28,6 +28,7 @@ use Rattle.engine_text.specs.declared.ticket.Ticket.{Ticket}
 use Rattle.engine_text.specs.declared.step.DueAction.{DueAction}
 use Rattle.engine_text.specs.declared.status.Status.{Status}
 use Rattle.engine_text.specs.declared.status.Status.TheVariants.{Created, Running, Paused, Restarting, Removing, Exited, Dead}
+use Rattle.container_table.specs.declared.rank.Rank.{Rank}
 
 -- No two of these are one.
 abbrev pub AreDistinct : {A : Type 0} → List A → Type 0
@@ -140,11 +141,11 @@ pub record TimerStands (s : State) (d : DueAction) : Type 0 where
 
 -- A restart timer stands exactly in restarting.
 abbrev pub HasTimer : State → Container → Type 0
-HasTimer s c = is_there (timer_of 3 c.number s) ≡ is_restarting c.life.status
+HasTimer s c = is_there (timer_of Rank.RestartTimer c.number s) ≡ is_restarting c.life.status
 
 -- A removal deadline stands only in removing: else it would make a paused container dead and leave its pause untold.
 abbrev pub HasRemoval : State → Container → Type 0
-HasRemoval s c = IsTrue (is_there (timer_of 2 c.number s)) → c.life.status ≡ Removing
+HasRemoval s c = IsTrue (is_there (timer_of Rank.RemovalDeadline c.number s)) → c.life.status ≡ Removing
 
 -- Two timers differ in rank or number.
 abbrev pub AreOther : DueAction → DueAction → Type 0

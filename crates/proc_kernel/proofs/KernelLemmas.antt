@@ -26,8 +26,8 @@ stepped k o s new b i p e at placed keeps h =
     let low : i < length slots = (position-Some (is_of o) slots i s p).0 in
     let here : s ≡ get_or slots i s = lent s b k.slots.items i e at in
     record {
-      owners = rw (slots_set k.slots.items i b new) (owners_set k.seats.owners s new slots i h.owners low here keeps.owner);
-      seats = h.seats;
+      owners = rw (slots_set k.slots.items i b new) (owners_set k.entries.owners s new slots i h.owners low here keeps.owner);
+      entries = h.entries;
       places = h.places;
       slots = rw (slots_set k.slots.items i b new) (All-set (IsSoundSlot k.fed) slots i new (sound_kept k.fed s new (sound_at k.fed s slots i low here h.slots) placed keeps) h.slots);
       fed = h.fed;
@@ -51,8 +51,8 @@ fed k o s new b i pieces p e at placed owner len more some h =
     let here : s ≡ get_or slots i s = lent s b k.slots.items i e at in
     let old : IsSoundSlot k.fed s = sound_at k.fed s slots i low here h.slots in
     record {
-      owners = rw (slots_set k.slots.items i b new) (owners_set k.seats.owners s new slots i h.owners low here owner);
-      seats = omega (arith, h.seats);
+      owners = rw (slots_set k.slots.items i b new) (owners_set k.entries.owners s new slots i h.owners low here owner);
+      entries = omega (arith, h.entries);
       places = omega (arith, h.places);
       slots = rw (slots_set k.slots.items i b new) (All-set (IsSoundSlot (k.fed + 1)) slots i new (record { place = placed; input = omega (arith, old.input, len) }) (deeper_slots k.fed (k.fed + 1) slots (omega arith) h.slots));
       fed = omega (arith, h.fed, some);

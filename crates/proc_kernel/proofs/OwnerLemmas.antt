@@ -6,7 +6,7 @@ use Rattle.std.proofs.lemmas.List.{take-map, drop-map, map-append}
 use Rattle.engine_text.specs.declared.owner.Owner.{Owner}
 use Rattle.engine_text.specs.Owner.{same_owner}
 use Rattle.proc_kernel.specs.declared.slot.Slot.{Slot}
-use Rattle.proc_kernel.specs.Seats.{place_in}
+use Rattle.proc_kernel.specs.Entries.{place_in}
 use Rattle.proc_kernel.specs.Slots.{entry_in}
 use Rattle.proc_kernel.specs.Tables.{Entry, owners_of}
 use Rattle.proc_kernel.proofs.Places.{is_of}
@@ -24,7 +24,7 @@ place_of_slot o slots =
     ap (λ n. if nat_lt n (length (owners_of (map entry_in slots))) then Some n else None) (position_or_len_of o slots)
     ∙ ap (λ m. if nat_lt (position_or_len (is_of o) slots) m then Some (position_or_len (is_of o) slots) else None) (length_of slots)
 
--- Where the seats tell that it stands.
+-- Where the entries tell that it stands.
 pub found_in : (o : Owner) (owners : List Owner) (slots : List Slot) (place r : Option ℕ) → place ≡ place_in o owners → owners ≡ owners_of (map entry_in slots) → place ≡ r → position (is_of o) slots ≡ r
 found_in o owners slots place r e f g = sym (place_of_slot o slots) ∙ ap (place_in o) (sym f) ∙ sym e ∙ g
 

@@ -3,9 +3,9 @@ ghost use Rattle.proc_kernel.specs.Processes.{run_due, spawn, feed, feed_end, fr
 ghost use Rattle.proc_kernel.specs.Foretelling.{code_at};
 ghost use Rattle.proc_kernel.specs.Tables.{Table, is_there, change, process_of, after_step, effect_at, without, due_at, due_in, length_at, room_at, begun, OfProcess};
 
+use super::entries::Entries;
 use super::input::{Input, Place};
 use super::rooms::{fill_boxes, fill_pieces, refill};
-use super::seats::Seats;
 use super::slot::Slot;
 use engine_text::{Buffer, Bytes, Effect, NoMemory, Owner, Script, Signal};
 use std::alloc::Global;
@@ -18,7 +18,7 @@ const MOST_PIECES: usize = 0x8000_0000_0000_0000;
 /// milliseconds; an owner without a process is passed over by each call but `spawn`.
 #[derive(Drop)]
 pub struct Kernel {
-    seats: Seats,
+    entries: Entries,
     slots: Vec<Box<Slot>>,
     fed: usize,
     boxes: Vec<Box<Slot>>,
@@ -48,7 +48,7 @@ impl Kernel {
         ensures bytes { result.bytes ≡ 0 }
     {
         Kernel {
-            seats: Seats::new(alloc),
+            entries: Entries::new(alloc),
             slots: Vec::new(alloc),
             fed: 0,
             boxes: Vec::new(alloc),
@@ -73,7 +73,7 @@ impl Kernel {
         if MOST_PIECES - self.fed <= records {
             return Err(NoMemory);
         }
-        self.seats.reserve(records)?;
+        self.entries.reserve(records)?;
         if self.slots.reserve(records).is_err() {
             return Err(NoMemory);
         }
@@ -103,7 +103,7 @@ impl Kernel {
         ensures spare { self.new.spare ≡ self.old.spare }
         ensures bytes { self.new.bytes ≡ self.old.bytes }
     {
-        if let Some(i) = self.seats.place_of(owner) {
+        if let Some(i) = self.entries.place_of(owner) {
             self.slots[i].feed_end(moment);
         }
     }
@@ -114,7 +114,7 @@ impl Kernel {
         ensures spare { self.new.spare ≡ self.old.spare }
         ensures bytes { self.new.bytes ≡ self.old.bytes }
     {
-        if let Some(i) = self.seats.place_of(owner) {
+        if let Some(i) = self.entries.place_of(owner) {
             self.slots[i].freeze(moment);
         }
     }
@@ -128,7 +128,7 @@ impl Kernel {
         ensures spare { self.new.spare ≡ self.old.spare }
         ensures bytes { self.new.bytes ≡ self.old.bytes }
     {
-        match self.seats.place_of(owner) {
+        match self.entries.place_of(owner) {
             None => Effect::Lives,
             Some(i) => self.slots[i].thaw(moment),
         }
@@ -146,7 +146,7 @@ impl Kernel {
         ensures spare { self.new.spare ≡ self.old.spare }
         ensures bytes { self.new.bytes ≡ self.old.bytes }
     {
-        match self.seats.place_of(owner) {
+        match self.entries.place_of(owner) {
             None => Effect::Lives,
             Some(i) => self.slots[i].signal(sent.number, thaws, moment),
         }
@@ -161,7 +161,7 @@ impl Kernel {
         ensures bytes { self.new.bytes ≡ self.old.bytes }
     {
         self.spare -= 1;
-        let Some(i) = self.seats.place_of(owner) else {
+        let Some(i) = self.entries.place_of(owner) else {
             return;
         };
         let place = self.pieces.pop().unwrap();
@@ -182,7 +182,7 @@ impl Kernel {
         ensures bytes { self.new.bytes ≡ self.old.bytes }
     {
         let buffer = self.take_buffer();
-        match self.seats.place_of(owner) {
+        match self.entries.place_of(owner) {
             None => Effect::Lives,
             Some(i) => self.slots[i].run_due(buffer, moment),
         }
@@ -209,7 +209,7 @@ impl Kernel {
         let mut place = self.boxes.pop().unwrap();
         let input = Input::new(*self.slots.allocator());
         *place = Slot::begin(owner, script, moment, stdin, room, input);
-        self.seats.push_reserved(owner);
+        self.entries.push_reserved(owner);
         self.slots.push_reserved(place);
     }
 
@@ -219,8 +219,8 @@ impl Kernel {
         ensures spare { self.new.spare ≡ self.old.spare }
         ensures bytes { self.new.bytes ≡ self.old.bytes }
     {
-        if let Some(i) = self.seats.place_of(owner) {
-            self.seats.remove(i);
+        if let Some(i) = self.entries.place_of(owner) {
+            self.entries.remove(i);
             self.slots.remove(i);
         }
     }
@@ -229,7 +229,7 @@ impl Kernel {
     pub fn stands(&self, owner: Owner) -> bool
         ensures { result ≡ is_there (process_of owner self.now.processes) }
     {
-        match self.seats.place_of(owner) {
+        match self.entries.place_of(owner) {
             None => false,
             Some(i) => {
                 let _slot = &self.slots[i];
@@ -269,7 +269,7 @@ impl Kernel {
     pub fn next_due(&self, owner: Owner) -> Option<u64>
         ensures { result ≡ due_at (process_of owner self.now.processes) }
     {
-        match self.seats.place_of(owner) {
+        match self.entries.place_of(owner) {
             None => None,
             Some(i) => self.slots[i].next_due(),
         }
@@ -279,7 +279,7 @@ impl Kernel {
     pub fn input_room(&self, owner: Owner) -> u64
         ensures { result ≡ room_at (process_of owner self.now.processes) }
     {
-        match self.seats.place_of(owner) {
+        match self.entries.place_of(owner) {
             None => 0,
             Some(i) => self.slots[i].input_room(),
         }
@@ -289,7 +289,7 @@ impl Kernel {
     pub fn record_length(&self, owner: Owner) -> usize
         ensures { result ≡ length_at (process_of owner self.now.processes) }
     {
-        match self.seats.place_of(owner) {
+        match self.entries.place_of(owner) {
             None => 0,
             Some(i) => self.slots[i].record_length(),
         }
@@ -301,7 +301,7 @@ impl Kernel {
         ensures { (t : ℕ) → result
             ≡ code_at (signal sent.number thaws t) (process_of owner self.now.processes) }
     {
-        match self.seats.place_of(owner) {
+        match self.entries.place_of(owner) {
             None => None,
             Some(i) => self.slots[i].signal_code(sent.number, thaws),
         }
@@ -311,7 +311,7 @@ impl Kernel {
     pub fn thaw_code(&self, owner: Owner) -> Option<u8>
         ensures { (t : ℕ) → result ≡ code_at (thaw t) (process_of owner self.now.processes) }
     {
-        match self.seats.place_of(owner) {
+        match self.entries.place_of(owner) {
             None => None,
             Some(i) => self.slots[i].thaw_code(),
         }
@@ -321,7 +321,7 @@ impl Kernel {
     pub fn due_code(&self, owner: Owner) -> Option<u8>
         ensures { (t : ℕ) → result ≡ code_at (run_due t) (process_of owner self.now.processes) }
     {
-        match self.seats.place_of(owner) {
+        match self.entries.place_of(owner) {
             None => None,
             Some(i) => self.slots[i].due_code(),
         }

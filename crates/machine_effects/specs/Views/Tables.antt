@@ -1,8 +1,8 @@
 -- own: the tables as the state that they mean.
 use Rattle.std.specs.Prelude.{vec_capacity}
 use Rattle.machine_model.specs.State.{State}
-use Rattle.machine_effects.specs.Held.{tickets_in}
-use Rattle.machine_effects.specs.Memory.{Memory}
+use Rattle.machine_tables.specs.Held.{tickets_in}
+use Rattle.machine_events.specs.Memory.{Memory}
 use Rattle.machine_effects.specs.declared.tables.Tables.TheInside.{Inside}
 
 -- The state.

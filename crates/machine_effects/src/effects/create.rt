@@ -3,14 +3,14 @@ ghost use Rattle.std.specs.Prelude.{◌≡◌, ℕ, ◌+◌, ◌<◌, ◌≤◌,
 ghost use Rattle.engine_text.specs.Id.{id_of};
 ghost use Rattle.machine_model.specs.Calls.Create.{add};
 ghost use Rattle.machine_model.specs.Names.{chosen_name, holder};
-ghost use Rattle.machine_effects.specs.Held.{container_in};
-ghost use Rattle.machine_effects.specs.NewVolumes.{missing_volumes, CanAdd, HasAddRoom};
+ghost use Rattle.container_table.specs.Logs.{container_in};
+ghost use Rattle.machine_events.specs.NewVolumes.{missing_volumes, CanAdd, HasAddRoom};
 
-use crate::names::chosen_name;
-use crate::new_volumes::{make_volumes, missing_volumes, refer_to};
 use crate::tables::Tables;
 use container_table::Held;
 use engine_text::{Mounts, NoMemory, Text, Volume, id_of};
+use machine_events::{make_volumes, missing_volumes, refer_to};
+use machine_tables::chosen_name;
 use std::alloc::Global;
 
 impl Tables {

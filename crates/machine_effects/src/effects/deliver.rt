@@ -1,20 +1,26 @@
 // The signal of a kill.
 ghost use Rattle.std.specs.Prelude.{◌≡◌, ◌<◌, ◌≤◌, length};
 ghost use Rattle.machine_model.specs.Calls.Kill.{deliver};
-ghost use Rattle.machine_effects.specs.Fit.{AreTimely, CanEndBy, died_of};
+ghost use Rattle.machine_events.specs.Fit.{AreTimely, CanEndBy, died_of};
 
-use crate::kit::Kit;
 use crate::tables::Tables;
 use container_table::LifeChange;
 use engine_text::Signal;
+use machine_events::EndMemory;
 
 impl Tables {
     /// The signal of a kill, which may be a final one.
-    pub fn deliver(&mut self, last: bool, sent: Signal, number: u64, kit: Kit) -> Option<u8>
+    pub fn deliver(
+        &mut self,
+        last: bool,
+        sent: Signal,
+        number: u64,
+        brought: EndMemory,
+    ) -> Option<u8>
         requires signal { sent.number < 32 }
         requires timely { AreTimely self.old.state }
         requires room { length self.old.state.execs ≤ self.old.room.scratch }
-        requires end { CanEndBy (deliver last sent.number number) number kit self.old.room
+        requires end { CanEndBy (deliver last sent.number number) number brought self.old.room
             self.old.state }
         requires spare { 0 < self.old.spare }
         ensures state { self.new.state ≡ (deliver last sent.number number self.old.state).state }
@@ -24,9 +30,9 @@ impl Tables {
     {
         if last {
             self.renew(number, LifeChange::ByHand);
-            self.meet_signal(sent, number, kit)
+            self.meet_signal(sent, number, brought)
         } else {
-            self.send(sent, false, number, kit)
+            self.send(sent, false, number, brought)
         }
     }
 }

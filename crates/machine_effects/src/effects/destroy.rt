@@ -1,13 +1,13 @@
 // The removal of a container.
 ghost use Rattle.std.specs.Prelude.{◌≡◌, OnOk};
 ghost use Rattle.machine_model.specs.Effects.Destroy.{destroy};
-ghost use Rattle.machine_effects.specs.Fit.{CanRemove};
-ghost use Rattle.machine_effects.specs.Removing.{HasRemovalRoom};
+ghost use Rattle.machine_events.specs.Fit.{CanRemove};
+ghost use Rattle.machine_events.specs.Removing.{HasRemovalRoom};
 
-use crate::held::Fate;
-use crate::kit::Kit;
 use crate::tables::Tables;
 use engine_text::{KeptLogs, NoMemory, OwnedLog, OwnedLogs, Owner, Removed};
+use machine_events::EndMemory;
+use machine_tables::RemovalResult;
 
 impl Tables {
     /// Makes room for one removal more, and for what is kept of it.
@@ -19,9 +19,9 @@ impl Tables {
         self.removals.reserve()
     }
 
-    /// The container is gone; what is kept of it goes into the kit's lists.
-    pub fn destroy(&mut self, number: u64, kit: Kit)
-        requires { CanRemove number kit self.old.room self.old.state }
+    /// The container is gone; what is kept of it goes into the lists that are brought.
+    pub fn destroy(&mut self, number: u64, brought: EndMemory)
+        requires { CanRemove number brought self.old.room self.old.state }
         ensures state { self.new.state ≡ (destroy number self.old.state).state }
         ensures room { self.new.room ≡ self.old.room }
         ensures spare { self.new.spare ≡ self.old.spare }
@@ -30,18 +30,18 @@ impl Tables {
             return;
         };
         let code = h.container.life.code;
-        let Kit {
+        let EndMemory {
             script: _,
             mut logs,
             execs,
-        } = kit;
+        } = brought;
         logs.push_reserved(OwnedLog {
             owner: Owner::Container(number),
             log: h.log.close(),
         });
         self.execs.remove_container(number, &mut logs);
         self.volumes.release(number);
-        self.tickets.answer(number, Fate::Gone(code));
+        self.tickets.answer(number, RemovalResult::Gone(code));
         let removed = Removed { number, execs };
         let kept = KeptLogs {
             number,

@@ -3,28 +3,28 @@ ghost use Rattle.std.specs.Prelude.{◌≡◌, ◌<◌, ◌≤◌, length};
 ghost use Rattle.machine_model.specs.Due.{stop_deadline, removal_deadline, restart_timer, restarted};
 ghost use Rattle.machine_model.specs.Consistency.{is_there};
 ghost use Rattle.machine_model.specs.State.{change_life, container_numbered};
-ghost use Rattle.machine_effects.specs.Deadlines.{HasId, CanRestart, timed_out_at};
-ghost use Rattle.machine_effects.specs.Fit.{AreTimely, CanLaunch, CanEndBy, died_of};
+ghost use Rattle.machine_events.specs.Deadlines.{HasId, CanRestart, timed_out_at};
+ghost use Rattle.machine_events.specs.Fit.{AreTimely, CanLaunch, CanEndBy, died_of};
 
-use crate::held::Fate;
-use crate::kit::Kit;
 use crate::tables::Tables;
 use container_table::{LifeChange, Rank};
 use engine_text::{Script, Signal};
+use machine_events::EndMemory;
+use machine_tables::RemovalResult;
 
 impl Tables {
     /// The stop deadline has come: SIGKILL is met.
-    pub fn stop_deadline(&mut self, number: u64, kit: Kit) -> Option<u8>
+    pub fn stop_deadline(&mut self, number: u64, brought: EndMemory) -> Option<u8>
         requires timely { AreTimely self.old.state }
         requires room { length self.old.state.execs ≤ self.old.room.scratch }
-        requires end { CanEndBy (stop_deadline number) number kit self.old.room self.old.state }
+        requires end { CanEndBy (stop_deadline number) number brought self.old.room self.old.state }
         requires spare { 0 < self.old.spare }
         ensures state { self.new.state ≡ (stop_deadline number self.old.state).state }
         ensures died { died_of number result ≡ (stop_deadline number self.old.state).died }
         ensures room { self.new.room ≡ self.old.room }
     {
         self.clear_timer(Rank::StopDeadline, number);
-        self.meet_signal(Signal { number: 9 }, number, kit)
+        self.meet_signal(Signal { number: 9 }, number, brought)
     }
 
     // Whether there is a container with that number.
@@ -45,7 +45,7 @@ impl Tables {
         ensures spare { self.new.spare ≡ self.old.spare }
     {
         if self.has(number) {
-            self.tickets.answer(number, Fate::TimedOut);
+            self.tickets.answer(number, RemovalResult::TimedOut);
         }
     }
 

@@ -2,14 +2,13 @@
 ghost use Rattle.std.specs.Prelude.{◌≡◌, ◌+◌, ◌<◌, ◌≤◌, length};
 ghost use Rattle.machine_model.specs.Effects.EndMain.{end_exec, end_execs, die, clear_deadlines, end_main, wait_again};
 ghost use Rattle.machine_model.specs.History.{greatest_moment};
-ghost use Rattle.machine_effects.specs.Effects.EndMain.{followed, stayed, goal_effect, concluded};
-ghost use Rattle.machine_effects.specs.Fit.{CanRemove, CanSettle, HasGoal};
+ghost use Rattle.machine_events.specs.Effects.EndMain.{followed, stayed, goal_effect, concluded};
+ghost use Rattle.machine_events.specs.Fit.{CanRemove, CanSettle, HasGoal};
 
-use crate::kit::Kit;
-use crate::lives;
 use crate::tables::Tables;
 use container_table::{LifeChange, Rank};
 use engine_text::{Goal, Owner, Status};
+use machine_events::{EndMemory, lives};
 use restart_policy::Decision;
 
 impl Tables {
@@ -75,8 +74,8 @@ impl Tables {
     }
 
     // It stays exited, and is gone where it is removed by itself.
-    fn stay(&mut self, number: u64, kit: Kit)
-        requires { CanRemove number kit self.old.room self.old.state }
+    fn stay(&mut self, number: u64, brought: EndMemory)
+        requires { CanRemove number brought self.old.room self.old.state }
         ensures state { self.new.state ≡ (stayed number self.old.state).state }
         ensures room { self.new.room ≡ self.old.room }
     {
@@ -88,13 +87,13 @@ impl Tables {
         if !auto {
             return;
         }
-        self.destroy(number, kit);
+        self.destroy(number, brought);
     }
 
     /// It stays exited, and is gone where it is removed by itself, or waits for a restart.
-    pub fn follow(&mut self, number: u64, kit: Kit)
+    pub fn follow(&mut self, number: u64, brought: EndMemory)
         requires clock { self.old.state.clock ≤ greatest_moment }
-        requires remove { CanRemove number kit self.old.room self.old.state }
+        requires remove { CanRemove number brought self.old.room self.old.state }
         requires timers { length self.old.state.timers < self.old.room.timers }
         ensures state { self.new.state ≡ (followed number self.old.state).state }
         ensures room { self.new.room ≡ self.old.room }
@@ -103,30 +102,30 @@ impl Tables {
             return;
         };
         match lives::decision(h, self.clock()) {
-            Decision::Stay => self.stay(number, kit),
+            Decision::Stay => self.stay(number, brought),
             Decision::Again(delay) => self.wait(number, delay),
         }
     }
 
     // What the goal wants.
-    fn by_goal(&mut self, goal: Goal, number: u64, kit: Kit)
-        requires fit { CanSettle number kit self.old.room self.old.state }
+    fn by_goal(&mut self, goal: Goal, number: u64, brought: EndMemory)
+        requires fit { CanSettle number brought self.old.room self.old.state }
         requires goal { HasGoal goal number self.old.state }
         requires spare { 0 < self.old.spare }
         ensures state { self.new.state ≡ (goal_effect goal number self.old.state).state }
         ensures room { self.new.room ≡ self.old.room }
     {
         match goal {
-            Goal::Remove => self.destroy(number, kit),
-            Goal::Stop => self.stay(number, kit),
-            Goal::Restart => self.launch_by_call(number, kit.script),
-            Goal::None => self.follow(number, kit),
+            Goal::Remove => self.destroy(number, brought),
+            Goal::Stop => self.stay(number, brought),
+            Goal::Restart => self.launch_by_call(number, brought.script),
+            Goal::None => self.follow(number, brought),
         }
     }
 
     // What its status and its goal want after the end of the main process.
-    fn conclude(&mut self, number: u64, kit: Kit)
-        requires fit { CanSettle number kit self.old.room self.old.state }
+    fn conclude(&mut self, number: u64, brought: EndMemory)
+        requires fit { CanSettle number brought self.old.room self.old.state }
         requires spare { 0 < self.old.spare }
         ensures state { self.new.state ≡ (concluded number self.old.state).state }
         ensures room { self.new.room ≡ self.old.room }
@@ -137,13 +136,13 @@ impl Tables {
         let goal = h.container.life.goal;
         match h.container.life.status {
             Status::Dead => {}
-            _ => self.by_goal(goal, number, kit),
+            _ => self.by_goal(goal, number, brought),
         }
     }
 
     /// The main process of the container ends with that code.
-    pub fn end_main(&mut self, code: u8, number: u64, kit: Kit)
-        requires fit { CanSettle number kit self.old.room self.old.state }
+    pub fn end_main(&mut self, code: u8, number: u64, brought: EndMemory)
+        requires fit { CanSettle number brought self.old.room self.old.state }
         requires spare { 0 < self.old.spare }
         ensures state { self.new.state ≡ (end_main code number self.old.state).state }
         ensures room { self.new.room ≡ self.old.room }
@@ -151,7 +150,7 @@ impl Tables {
         self.end_execs(number);
         self.die(code, number);
         self.clear_deadlines(number);
-        self.conclude(number, kit);
+        self.conclude(number, brought);
         self.renew(number, LifeChange::NoGoal);
     }
 }

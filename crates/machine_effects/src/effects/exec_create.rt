@@ -2,7 +2,7 @@
 ghost use Rattle.std.specs.Prelude.{◌≡◌, OnOk, find, option_copied};
 ghost use Rattle.engine_text.specs.Texts.{same_bytes};
 ghost use Rattle.machine_model.specs.Calls.ExecCreate.{with_exec};
-ghost use Rattle.machine_effects.specs.NewExecs.{CanAddExec, HasExecRoom};
+ghost use Rattle.machine_events.specs.NewExecs.{CanAddExec, HasExecRoom};
 
 use crate::tables::Tables;
 use engine_text::{Exec, NoMemory};

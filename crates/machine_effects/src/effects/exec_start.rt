@@ -1,6 +1,6 @@
 // The start of an exec's process.
 ghost use Rattle.std.specs.Prelude.{◌≡◌, ◌<◌, ◌&&◌, not, OnOk};
-ghost use Rattle.machine_effects.specs.ExecStarts.{CanSpawn, exec_begun, start_effect};
+ghost use Rattle.machine_events.specs.ExecStarts.{CanSpawn, exec_begun, start_effect};
 
 use crate::tables::Tables;
 use engine_text::{Exec, NoMemory, Owner, Script};

@@ -2,22 +2,22 @@
 ghost use Rattle.std.specs.Prelude.{◌≡◌, ◌<◌, ◌≤◌, length, OnOk};
 ghost use Rattle.machine_model.specs.Effects.Halt.{lesser, set_deadline};
 ghost use Rattle.machine_model.specs.History.{greatest_moment};
+ghost use Rattle.container_table.specs.declared.rank.Rank.TheVariants.{StopDeadline};
 ghost use Rattle.machine_model.specs.State.{timer_of};
-ghost use Rattle.machine_effects.specs.Fit.{died_of};
-ghost use Rattle.machine_effects.specs.Halts.{CanHalt, HasHaltRoom, halted};
+ghost use Rattle.machine_events.specs.Fit.{died_of};
+ghost use Rattle.machine_events.specs.Halts.{CanHalt, HasHaltRoom, halted};
 
-use crate::halting::Halting;
-use crate::kit::Kit;
 use crate::tables::Tables;
 use container_table::Rank;
 use engine_text::{NoMemory, Signal};
+use machine_events::{EndMemory, Halting};
 use machine_model::SECOND;
 use std::alloc::Global;
 
 impl Tables {
     // The lesser of the stop deadline that stands and the moment.
     fn lesser_deadline(&self, number: u64, moment: u64) -> u64
-        ensures { result ≡ lesser (timer_of 1 number self.now.state) moment }
+        ensures { result ≡ lesser (timer_of StopDeadline number self.now.state) moment }
     {
         match self.table.timer(Rank::StopDeadline, number) {
             None => moment,
@@ -40,7 +40,7 @@ impl Tables {
         self.set_timer(Rank::StopDeadline, number, moment);
     }
 
-    /// The marks of the call, the stop deadline, and the signal; the code of the main process, if
+    /// What the call notes, the stop deadline, and the signal; the code of the main process, if
     /// that ended it. With -1 for the seconds no deadline is set.
     pub fn halt(
         &mut self,
@@ -48,19 +48,19 @@ impl Tables {
         seconds: i32,
         sent: Signal,
         number: u64,
-        kit: Kit,
+        brought: EndMemory,
     ) -> Option<u8>
         requires signal { sent.number < 32 }
-        requires may { CanHalt halting seconds sent.number number kit self.old }
+        requires may { CanHalt halting seconds sent.number number brought self.old }
         ensures state { self.new.state
             ≡ (halted halting seconds sent.number number self.old.state).state }
         ensures died { died_of number result
             ≡ (halted halting seconds sent.number number self.old.state).died }
         ensures room { self.new.room ≡ self.old.room }
     {
-        self.renew(number, halting.mark());
+        self.renew(number, halting.life_change());
         self.set_deadline(seconds, number);
-        self.meet_signal(sent, number, kit)
+        self.meet_signal(sent, number, brought)
     }
 
     /// Makes room for a ticket, for a deadline, and for the end of a main process with what may

@@ -1,7 +1,7 @@
 // The start of a main process.
 ghost use Rattle.std.specs.Prelude.{◌≡◌, ◌<◌};
 ghost use Rattle.machine_model.specs.Effects.Launch.{launch, launch_by_call};
-ghost use Rattle.machine_effects.specs.Fit.{CanLaunch};
+ghost use Rattle.machine_events.specs.Fit.{CanLaunch};
 
 use crate::tables::Tables;
 use container_table::LifeChange;

@@ -4,13 +4,12 @@ ghost use Rattle.engine_text.specs.declared.owner.Owner as owners;
 ghost use Rattle.proc_kernel.specs.Processes.{thaw};
 ghost use Rattle.machine_model.specs.Chain.{in_order};
 ghost use Rattle.machine_model.specs.Effects.Meet.{step_process, by_effect, thaw_execs, send, woken, wake_parts, thaw_container, meet_signal};
-ghost use Rattle.machine_effects.specs.Fit.{AreTimely, IsQuiet, CanEndBy, died_of};
+ghost use Rattle.machine_events.specs.Fit.{AreTimely, IsQuiet, CanEndBy, died_of};
 
-use crate::kit::Kit;
-use crate::ready::is_paused;
 use crate::tables::Tables;
 use container_table::LifeChange;
 use engine_text::{Effect, Owner, Signal, Status};
+use machine_events::{EndMemory, is_paused};
 
 impl Tables {
     // What a step of an exec's process does beyond the process; it has written nothing.
@@ -60,9 +59,9 @@ impl Tables {
     }
 
     // What a step of a main process does beyond the process, which wrote nothing; its code where it ended.
-    fn main_effect(&mut self, effect: Effect, number: u64, kit: Kit) -> Option<u8>
+    fn main_effect(&mut self, effect: Effect, number: u64, brought: EndMemory) -> Option<u8>
         requires quiet { IsQuiet effect }
-        requires end { CanEndBy (by_effect effect (owners.Owner.Container number)) number kit
+        requires end { CanEndBy (by_effect effect (owners.Owner.Container number)) number brought
             self.old.room self.old.state }
         requires spare { 0 < self.old.spare }
         ensures state { self.new.state
@@ -75,17 +74,17 @@ impl Tables {
             Effect::Lives => None,
             Effect::Wrote(_, _) => unreachable!(),
             Effect::Ended(code) => {
-                self.end_main(code, number, kit);
+                self.end_main(code, number, brought);
                 Some(code)
             }
         }
     }
 
     /// The signal comes to the main process.
-    pub fn send(&mut self, sent: Signal, thaws: bool, number: u64, kit: Kit) -> Option<u8>
+    pub fn send(&mut self, sent: Signal, thaws: bool, number: u64, brought: EndMemory) -> Option<u8>
         requires signal { sent.number < 32 }
         requires timely { AreTimely self.old.state }
-        requires end { CanEndBy (send thaws sent.number number) number kit self.old.room
+        requires end { CanEndBy (send thaws sent.number number) number brought self.old.room
             self.old.state }
         requires spare { 0 < self.old.spare }
         ensures state { self.new.state ≡ (send thaws sent.number number self.old.state).state }
@@ -93,7 +92,7 @@ impl Tables {
         ensures room { self.new.room ≡ self.old.room }
     {
         let effect = self.signal_process(Owner::Container(number), sent, thaws);
-        self.main_effect(effect, number, kit)
+        self.main_effect(effect, number, brought)
     }
 
     /// The end of a pause, but for the main process.
@@ -124,9 +123,9 @@ impl Tables {
     }
 
     // The container's main process goes on.
-    fn thaw_main(&mut self, number: u64, kit: Kit) -> Option<u8>
+    fn thaw_main(&mut self, number: u64, brought: EndMemory) -> Option<u8>
         requires timely { AreTimely self.old.state }
-        requires end { CanEndBy (step_process thaw (owners.Owner.Container number)) number kit
+        requires end { CanEndBy (step_process thaw (owners.Owner.Container number)) number brought
             self.old.room self.old.state }
         requires spare { 0 < self.old.spare }
         ensures state { self.new.state
@@ -136,29 +135,30 @@ impl Tables {
         ensures room { self.new.room ≡ self.old.room }
     {
         let effect = self.thaw_process(Owner::Container(number));
-        self.main_effect(effect, number, kit)
+        self.main_effect(effect, number, brought)
     }
 
     /// The end of a pause; the code of the main process, if what waited for it ended it.
-    pub fn thaw_container(&mut self, number: u64, kit: Kit) -> Option<u8>
+    pub fn thaw_container(&mut self, number: u64, brought: EndMemory) -> Option<u8>
         requires timely { AreTimely self.old.state }
         requires room { length self.old.state.execs ≤ self.old.room.scratch }
-        requires end { CanEndBy (thaw_container number) number kit self.old.room self.old.state }
+        requires end { CanEndBy (thaw_container number) number brought self.old.room
+            self.old.state }
         requires spare { 0 < self.old.spare }
         ensures state { self.new.state ≡ (thaw_container number self.old.state).state }
         ensures died { died_of number result ≡ (thaw_container number self.old.state).died }
         ensures room { self.new.room ≡ self.old.room }
     {
         self.wake(number);
-        self.thaw_main(number, kit)
+        self.thaw_main(number, brought)
     }
 
     /// The signal is met, by a frozen process with a thaw.
-    pub fn meet_signal(&mut self, sent: Signal, number: u64, kit: Kit) -> Option<u8>
+    pub fn meet_signal(&mut self, sent: Signal, number: u64, brought: EndMemory) -> Option<u8>
         requires signal { sent.number < 32 }
         requires timely { AreTimely self.old.state }
         requires room { length self.old.state.execs ≤ self.old.room.scratch }
-        requires end { CanEndBy (meet_signal sent.number number) number kit self.old.room
+        requires end { CanEndBy (meet_signal sent.number number) number brought self.old.room
             self.old.state }
         requires spare { 0 < self.old.spare }
         ensures state { self.new.state ≡ (meet_signal sent.number number self.old.state).state }
@@ -171,6 +171,6 @@ impl Tables {
         };
         let status = h.container.life.status;
         self.wake_paused(status, number);
-        self.send(sent, true, number, kit)
+        self.send(sent, true, number, brought)
     }
 }

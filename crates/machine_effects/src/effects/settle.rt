@@ -1,15 +1,15 @@
 // The tickets that become ready at the end of a step.
 ghost use Rattle.std.specs.Prelude.{◌≡◌, ℕ, ◌<◌, ◌==◌, length, find, slice_get};
 ghost use Rattle.machine_model.specs.Effects.Settle.{settle_tickets, is_at_rest, reply_of};
-ghost use Rattle.machine_effects.specs.Held.{container_in, replies_in};
-ghost use Rattle.machine_effects.specs.Settled.{deaths, settled_at, settled_place, replies_for};
+ghost use Rattle.container_table.specs.Logs.{container_in};
+ghost use Rattle.machine_tables.specs.Held.{replies_in};
+ghost use Rattle.machine_tables.specs.Settled.{deaths, settled_at, settled_place, replies_for};
 
-use crate::death::Death;
-use crate::held::Ready;
-use crate::ready::{code_of, death_of, has_died, is_restarting, ready_if};
 use crate::tables::Tables;
 use container_table::Held;
 use engine_text::{Asked, Owner, Until};
+use machine_events::is_restarting;
+use machine_tables::{Death, Ready, code_of, death_of, has_died, ready_if};
 
 impl Tables {
     /// Whether no process of the container lives and no restart is pending.

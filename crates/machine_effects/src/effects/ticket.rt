@@ -2,12 +2,12 @@
 ghost use Rattle.std.specs.Prelude.{◌≡◌, ◌<◌, length, option_copied, option_map, OnOk};
 ghost use Rattle.machine_model.specs.Calls.Take.{end_ticket};
 ghost use Rattle.machine_model.specs.Tickets.{begun, ticket_numbered};
-ghost use Rattle.machine_effects.specs.Held.{ticket_in};
-ghost use Rattle.machine_effects.specs.Tickets.{CanBegin};
+ghost use Rattle.machine_tables.specs.Held.{ticket_in};
+ghost use Rattle.machine_events.specs.Tickets.{CanBegin};
 
-use crate::held::HeldTicket;
 use crate::tables::Tables;
 use engine_text::{Asked, NoMemory};
+use machine_tables::HeldTicket;
 
 impl Tables {
     /// The number that the next ticket gets.

@@ -23,11 +23,12 @@ use Rattle.engine_text.specs.declared.reply.Reply.{Reply}
 use Rattle.engine_text.specs.declared.status.Status.{Status}
 use Rattle.engine_text.specs.declared.owner.Owner.TheVariants.{Container as OfContainer}
 use Rattle.engine_text.specs.declared.ticket.Asked.TheVariants as Asked
+use Rattle.container_table.specs.declared.rank.Rank.{Rank}
 
 tells_if_it_lives : (b : Bool) (n : ℕ) → Tells n Awake (if_it_lives b n) Awake
 tells_if_it_lives false n = tells_still
 tells_if_it_lives true n =
-    tells_then (awake_renew removing (λ l h. h) (λ c. refl) (λ l. refl)) (tells_apart (λ s. set_timer 2 n (s.clock + 10000) s) (λ s. refl) (λ s fit. fit))
+    tells_then (awake_renew removing (λ l h. h) (λ c. refl) (λ l. refl)) (tells_apart (λ s. set_timer Rank.RemovalDeadline n (s.clock + 10000) s) (λ s. refl) (λ s fit. fit))
 
 tells_to_remove : (n : ℕ) → Tells n Same (kill_to_remove n) Awake
 tells_to_remove n =

@@ -1,5 +1,5 @@
 -- What an update obeys.
-use Rattle.std.proofs.Common.{◌≡◌, ℕ, Bool, true, false, List, Option, Some, None, refl, sym, ◌∙◌}
+use Rattle.std.proofs.Common.{◌≡◌, ℕ, Bool, true, false, List, Option, Some, refl, sym, ◌∙◌}
 use Rattle.machine_model.specs.State.{State, container_numbered}
 use Rattle.machine_model.specs.Chain.{renew}
 use Rattle.machine_model.specs.Call.{outcome_of}

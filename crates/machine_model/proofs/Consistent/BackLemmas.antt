@@ -9,7 +9,7 @@ use Rattle.engine_text.specs.Owner.{same_owner}
 use Rattle.proc_kernel.specs.Processes.{Process, is_frozen, next_due}
 use Rattle.proc_kernel.specs.Tables.{Entry, process_of}
 use Rattle.proc_kernel.specs.Times as proc
-use Rattle.machine_model.specs.State.{State, container_numbered, exec_numbered, timer_of, is_live, owner_number}
+use Rattle.machine_model.specs.State.{State, container_numbered, exec_numbered, is_live, owner_number}
 use Rattle.machine_model.specs.Due.{action_at}
 use Rattle.machine_model.specs.Consistency.{AreDistinct, is_there, HasMain, IsFrozenAs, IsFrozenRight, IsFrozenLike, FollowsMain, HasOwner, HasPid, HasExecPid, HasGoal, TimerStands, HasTimer, HasRemoval, IsConsistent, live_execs, HasProgram, IsUnstarted, HasNoOutput, HasLogRoom, HasOutputRoom, room_left, HasStarted}
 use Rattle.machine_model.specs.Effects.Launch.{log_size}
@@ -119,10 +119,10 @@ no_container : (o : Option Container) → o ≡ None → is_there o ≡ true →
 no_container None e h = absurd (cc)
 no_container (Some x) e h = absurd (cc)
 
-no_timer : (s : State) (r m : ℕ) → container_numbered m s ≡ None → IsConsistent s → is_there (timer_of r m s) ≡ false
+no_timer : (s : State) (r m : ℕ) → container_numbered m s ≡ None → IsConsistent s → is_there (timer_in r m s.timers) ≡ false
 no_timer s r m e h =
-    off (is_there (timer_of r m s))
-    (λ there. let d = timer_at s r m (timer_of r m s) refl there h in no_container (container_numbered m s) e (subst (λ k. is_there (container_numbered k s) ≡ true) d.3 d.1.container))
+    off (is_there (timer_in r m s.timers))
+    (λ there. let d = timer_at s r m (timer_in r m s.timers) refl there h in no_container (container_numbered m s) e (subst (λ k. is_there (container_numbered k s) ≡ true) d.3 d.1.container))
 
 lives_then : (live b : Bool) → live ≡ true → (live || b) ≡ true
 lives_then true b e = refl
@@ -139,8 +139,8 @@ fine_at s c found h =
     let timer : HasTimer s c = found_all (HasTimer s) (λ d. d.number == n) c s.containers found h.timers.restarts in
     let program : HasProgram s c = found_all (HasProgram s) (λ d. d.number == n) c s.containers found h.going.programs in
     let removal : HasRemoval s c = found_all (HasRemoval s) (λ d. d.number == n) c s.containers found h.timers.removals in
-    let deadline : (r : ℕ) → r ≤ 2 → is_there (timer_of r n s) ≡ true → is_live (OfContainer n) s ≡ true =
-    λ r low there. let d = timer_at s r n (timer_of r n s) refl there h in subst (λ k. is_live (OfContainer k) s ≡ true) d.3 (d.1.deadline (omega (arith, d.2, low))) in (
+    let deadline : (r : ℕ) → r ≤ 2 → is_there (timer_in r n s.timers) ≡ true → is_live (OfContainer n) s ≡ true =
+    λ r low there. let d = timer_at s r n (timer_in r n s.timers) refl there h in subst (λ k. is_live (OfContainer k) s ≡ true) d.3 (d.1.deadline (omega (arith, d.2, low))) in (
       record {
         status = found_all (HasMain s) (λ d. d.number == n) c s.containers found h.processes.mains;
         frozen = found_all (IsFrozenRight s) (λ d. d.number == n) c s.containers found h.processes.frozen;

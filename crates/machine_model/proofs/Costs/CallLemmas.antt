@@ -18,6 +18,7 @@ use Rattle.machine_model.specs.Tickets.{begins}
 use Rattle.machine_model.specs.Names.{holder, chosen_name}
 use Rattle.machine_model.specs.Filters.{is_image}
 use Rattle.machine_model.specs.Ready.{is_ready, feed_is_ready}
+use Rattle.api_json.specs.Status.{is_paused}
 use Rattle.engine_text.specs.Soundness.{IsSound, is_create}
 use Rattle.machine_model.specs.Streams.{RunState, Coming, Live, Over, run_state}
 use Rattle.machine_model.specs.Calls.Create as create
@@ -228,7 +229,7 @@ call_costs R k (Call.Restart target wait signal) connection s sound ready ends =
     at R k s target (λ c. restart.by_status c.life.status connection wait signal c) (λ c found. restart_by R k connection wait signal c.life.status c s found)
 call_costs R k (Call.Kill target signal) connection s sound ready ends = at R k s target (λ c. kill.by_status c.life.status signal c) (λ c found. kill_by R k c.life.status signal c s)
 call_costs R k (Call.Pause target) connection s sound ready ends = at R k s target (λ c. pause.by_status c.life.status c) (λ c found. pause_by R k c.life.status c s)
-call_costs R k (Call.Unpause target) connection s sound ready ends = at R k s target (λ c. unpause.by_status c.life.status c) (λ c found. unpause_by R k c.life.status c s)
+call_costs R k (Call.Unpause target) connection s sound ready ends = at R k s target unpause.unpause_outcome (λ c found. unpause_by R k (is_paused c.life.status) c s)
 call_costs R k (Call.Rename target name) connection s sound ready ends = at R k s target (λ c. rename.by_status c.life.status (without_slash name) c) (λ c found. rename_by R k c.life.status (without_slash name) c s found)
 call_costs R k (Call.Update target policy) connection s sound ready ends = at R k s target (λ c. update.by_status c.life.status policy c) (λ c found. update_by R k c.life.status policy c s)
 call_costs R k (Call.Remove target force) connection s sound ready ends =

@@ -1,9 +1,11 @@
 -- What every effect costs.
-use Rattle.std.proofs.Common.{◌≡◌, ℕ, ◌+◌, ◌*◌, ◌≤◌, ◌==◌, Bool, true, false, List, [], ◌∷◌, Option, Some, None, find, ℤ, pos, negsuc, if◌then◌else◌, refl, ap, ◌∙◌, subst, arith}
+use Rattle.std.proofs.Common.{◌≡◌, ℕ, ◌+◌, ◌*◌, ◌≤◌, ◌==◌, Bool, true, false, List, [], ◌∷◌, Option, Some, None, find, ℤ, pos, negsuc, refl, ap, ◌∙◌, subst, arith}
 use Rattle.std.specs.Prelude.{option_map, unwrap_or}
 use Rattle.engine_text.specs.Scripts.{Program}
 use Rattle.container_table.specs.Timers.{is_timer, cleared, with_timer, is_listed_before}
 use Rattle.container_table.proofs.PlacedLemmas.{all_placed}
+use Rattle.container_table.specs.Ranks.{rank_numbered}
+use Rattle.container_table.specs.declared.rank.Rank.{Rank}
 use Rattle.proc_kernel.specs.Catalogue.{program_of}
 use Rattle.proc_kernel.specs.Processes.{Process, ProcessStep, run_due, signal, thaw}
 use Rattle.proc_kernel.specs.Tables.{Entry, process_of, effect_of}
@@ -18,7 +20,7 @@ use Rattle.machine_model.specs.Effects.EndMain.{end_execs, ended, die, exited, n
 use Rattle.machine_model.specs.Effects.Cancel.{cancelled, cancel_restart}
 use Rattle.machine_model.specs.Effects.Halt.{lesser, set_deadline, halt}
 use Rattle.machine_model.specs.Effects.Meet.{end_of, by_effect, stepped, step_process, running, thaw_execs, wake_parts, thaw_container, send, woken, meet_signal}
-use Rattle.machine_model.specs.Due.{op_effect, stop_deadline, died, removal_deadline, restarted, restart_timer, due_effect}
+use Rattle.machine_model.specs.Due.{by_rank, stop_deadline, died, removal_deadline, restarted, restart_timer, due_effect}
 use Rattle.machine_model.proofs.ChangeLemmas.{all_removed}
 use Rattle.machine_model.proofs.ObeyLemmas.{found_all}
 use Rattle.machine_model.proofs.Tables.ProcessLemmas.{changed_stands}
@@ -220,9 +222,9 @@ least_from t moment (Some d) low h = let other : t ≤ d.moment = h d refl in gr
 
 costs_deadline : {P : Type 0} {E : ℕ → Type 0} {R : Cost → State → Effect → Type 0} → IsPriced P E R → (z : ℤ) (n : ℕ) → Costs R none (change (set_deadline z n))
 costs_deadline k (pos seconds) n =
-    costs_timers k (λ s. with_timer (lesser (timer_of 1 n s) (s.clock + 1000 * seconds)) 1 n s.timers)
-    (λ s h. set_from (lesser (timer_of 1 n s) (s.clock + 1000 * seconds)) 1 n s.clock s.timers
-    (least_from s.clock (s.clock + 1000 * seconds) (timer_of 1 n s) (omega arith) (λ d e. found_all (λ d. s.clock ≤ d.moment) (is_timer 1 n) d s.timers e h)) h)
+    costs_timers k (λ s. with_timer (lesser (timer_of Rank.StopDeadline n s) (s.clock + 1000 * seconds)) 1 n s.timers)
+    (λ s h. set_from (lesser (timer_of Rank.StopDeadline n s) (s.clock + 1000 * seconds)) 1 n s.clock s.timers
+    (least_from s.clock (s.clock + 1000 * seconds) (timer_of Rank.StopDeadline n s) (omega arith) (λ d e. found_all (λ d. s.clock ≤ d.moment) (is_timer 1 n) d s.timers e h)) h)
 costs_deadline k (negsuc m) n = record { holds = k.on_still }
 
 abbrev pub halt_cost : Cost
@@ -263,15 +265,13 @@ costs_restart_timer {R} k n =
     let again : Costs R (record { told = 0; spawns = 0; makes = 0; asks = 0; retries = 1 }) (renew n restarted) = record { holds = λ s. k.on_retry s n } in
     costs_then k (costs_timers k (λ s. cleared 3 n s.timers) (λ s h. cleared_from 3 n s.clock s.timers h)) (costs_then k again (costs_launch k n))
 
-by_test : {R : Cost → State → Effect → Type 0} {x : Cost} {e f : State → Effect} (b : Bool) → Costs R x e → Costs R x f → Costs R x (if b then e else f)
-by_test true one other = one
-by_test false one other = other
+costs_rank : {P : Type 0} {E : ℕ → Type 0} {R : Cost → State → Effect → Type 0} → IsPriced P E R → (r : Rank) (n : ℕ) → Costs R due_cost (by_rank r n)
+costs_rank {R} k Rank.Op n =
+    costs_at (λ s. with_found (find (λ e. owner_number e.owner == n) s.processes) (λ (e : Entry). step_process run_due e.owner))
+    (λ s. op_costs R k s (find (λ e. owner_number e.owner == n) s.processes))
+costs_rank k Rank.StopDeadline n = costs_most k (costs_stop_deadline k n) refl
+costs_rank k Rank.RemovalDeadline n = costs_most k (costs_removal_deadline k n) refl
+costs_rank k Rank.RestartTimer n = costs_most k (costs_restart_timer k n) refl
 
 pub costs_due : {P : Type 0} {E : ℕ → Type 0} {R : Cost → State → Effect → Type 0} → IsPriced P E R → (d : DueAction) → Costs R due_cost (due_effect d)
-costs_due {R} k d =
-    let op : Costs R due_cost (op_effect d.number) =
-    costs_at (λ s. with_found (find (λ e. owner_number e.owner == d.number) s.processes) (λ (e : Entry). step_process run_due e.owner))
-    (λ s. op_costs R k s (find (λ e. owner_number e.owner == d.number) s.processes)) in
-    by_test (d.rank == 0) op
-    (by_test (d.rank == 1) (costs_most k (costs_stop_deadline k d.number) refl)
-    (by_test (d.rank == 2) (costs_most k (costs_removal_deadline k d.number) refl) (costs_most k (costs_restart_timer k d.number) refl)))
+costs_due k d = costs_rank k (rank_numbered d.rank) d.number

@@ -138,14 +138,9 @@ pause_by R k Status.Removing c s = idle R k s
 pause_by R k Status.Exited c s = idle R k s
 pause_by R k Status.Dead c s = idle R k s
 
-pub unpause_by : {P : Type 0} {E : ℕ → Type 0} (R : Cost → State → Effect → Type 0) → IsPriced P E R → (u : Status) (c : Container) (s : State) → R full s (unpause.by_status u c s).effect
-unpause_by R k Status.Paused c s = top R _ k _ s (costs_thaw k c.number) refl
-unpause_by R k Status.Created c s = idle R k s
-unpause_by R k Status.Running c s = idle R k s
-unpause_by R k Status.Restarting c s = idle R k s
-unpause_by R k Status.Removing c s = idle R k s
-unpause_by R k Status.Exited c s = idle R k s
-unpause_by R k Status.Dead c s = idle R k s
+pub unpause_by : {P : Type 0} {E : ℕ → Type 0} (R : Cost → State → Effect → Type 0) → IsPriced P E R → (b : Bool) (c : Container) (s : State) → R full s (unpause.if_paused b c s).effect
+unpause_by R k true c s = top R _ k _ s (costs_thaw k c.number) refl
+unpause_by R k false c s = idle R k s
 
 rename_holder : {P : Type 0} {E : ℕ → Type 0} (R : Cost → State → Effect → Type 0) → IsPriced P E R → (o : Option Container) (name : List ℕ) (c : Container) (s : State) → container_numbered c.number s ≡ Some c → holder name s.containers ≡ o → R full s (rename.by_holder o name c s).effect
 rename_holder R k (Some other) name c s found e = idle R k s

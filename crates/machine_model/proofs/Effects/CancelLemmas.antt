@@ -5,6 +5,7 @@ use Rattle.machine_model.specs.Effects.Cancel.{cancelled, cancel_restart}
 use Rattle.machine_model.proofs.Fold.TellLemmas.{Tells, tells_then, tells_apart}
 use Rattle.machine_model.proofs.Effects.LaunchLemmas.{Awake}
 use Rattle.machine_model.proofs.Effects.EndMainLemmas.{awake_renew}
+use Rattle.container_table.specs.declared.rank.Rank.{Rank}
 
 pub tells_cancel : (n : ℕ) → Tells n Awake (cancel_restart n) Awake
-tells_cancel n = tells_then (tells_apart (clear_timer 3 n) (λ s. refl) (λ s fit. fit)) (awake_renew cancelled (λ l h. h) (λ c. refl) (λ l. refl))
+tells_cancel n = tells_then (tells_apart (clear_timer Rank.RestartTimer n) (λ s. refl) (λ s fit. fit)) (awake_renew cancelled (λ l h. h) (λ c. refl) (λ l. refl))

@@ -24,6 +24,7 @@ use Rattle.engine_text.specs.declared.container.Life.{Life}
 use Rattle.engine_text.specs.declared.event.FoldRow.{FoldRow}
 use Rattle.engine_text.specs.declared.exec.Exec.{Exec}
 use Rattle.engine_text.specs.declared.status.Status.{Status}
+use Rattle.container_table.specs.declared.rank.Rank.{Rank}
 
 -- ---- execs
 
@@ -91,7 +92,7 @@ tells_removed_if false n = tells_still
 tells_follow : (d : Decision) (auto : Bool) (n : ℕ) → Tells n Awake (follow d auto n) Awake
 tells_follow Stay auto n = tells_then (awake_renew exited (λ l h. h) (λ c. refl) (λ l. refl)) (tells_removed_if auto n)
 tells_follow (Again delay) auto n =
-    tells_then (awake_renew (restarting delay) (λ l h. h) (λ c. refl) (λ l. refl)) (tells_apart (λ s. set_timer 3 n (s.clock + delay) s) (λ s. refl) (λ s fit. fit))
+    tells_then (awake_renew (restarting delay) (λ l h. h) (λ c. refl) (λ l. refl)) (tells_apart (λ s. set_timer Rank.RestartTimer n (s.clock + delay) s) (λ s. refl) (λ s fit. fit))
 
 tells_by_goal : (g : Goal) (c : Container) → Tells c.number Awake (by_goal g c) Awake
 tells_by_goal Goal.Remove c = tells_destroy c.number Awake Awake

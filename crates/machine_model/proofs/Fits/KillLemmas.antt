@@ -5,6 +5,7 @@ use Rattle.api_json.specs.Status.{is_paused}
 use Rattle.proc_kernel.specs.Processes.{Process, ProcessStep, is_frozen, lives, set_waiting, signal as signalled}
 use Rattle.proc_kernel.specs.Tables.{effect_of, process_of}
 use Rattle.machine_model.specs.State.{State, container_numbered, change_process}
+use Rattle.machine_model.specs.Outcome.{at_reference}
 use Rattle.machine_model.specs.Chain.{change, and_then, renew, tell_of}
 use Rattle.machine_model.specs.EventTexts.{kill_event}
 use Rattle.machine_model.specs.Consistency.{IsFrozenAs}
@@ -114,5 +115,5 @@ kill_by s signal c Status.Removing found is h = h
 kill_by s signal c Status.Exited found is h = h
 kill_by s signal c Status.Dead found is h = h
 
-pub kill_mains : (target : List ℕ) (signal : Signal) (s : State) → PartsFit s → PartsFit (kill.kill_outcome target signal s).effect.state
+pub kill_mains : (target : List ℕ) (signal : Signal) (s : State) → PartsFit s → PartsFit (at_reference target (kill.kill_outcome signal) s).effect.state
 kill_mains target signal s h = mains_at s target (λ c. kill.by_status c.life.status signal c) (λ c found. kill_by s signal c c.life.status found refl h) h

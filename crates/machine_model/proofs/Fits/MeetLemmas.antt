@@ -3,6 +3,7 @@ use Rattle.std.proofs.Common.{◌≡◌, ℕ, ◌+◌, ◌≤◌, ◌==◌, Bool
 use Rattle.std.specs.Prelude.{option_map, is_some, unwrap_or}
 use Rattle.api_json.specs.Status.{is_paused, is_restarting}
 use Rattle.container_table.specs.Timers.{cleared}
+use Rattle.container_table.specs.declared.rank.Rank.{Rank}
 use Rattle.proc_kernel.specs.Processes.{signal, thaw, Process, ProcessStep, is_frozen}
 use Rattle.proc_kernel.specs.Tables.{effect_of, process_of}
 use Rattle.machine_model.specs.State.{State, change_process, timer_of, change_life}
@@ -237,7 +238,7 @@ abbrev pub Alive : Life → Option Process → Bool → Bool → Bool → Type 0
 Alive l p a b c = Fine l p a b c × (is_some p ≡ true)
 
 leads_deadline : (z : ℤ) (n : ℕ) → Leads Local n (Here Alive) (change (set_deadline z n)) (Here Alive)
-leads_deadline (pos seconds) n = leads_set_1 (λ s. lesser (timer_of 1 n s) (s.clock + 1000 * seconds)) (λ v h. (
+leads_deadline (pos seconds) n = leads_set_1 (λ s. lesser (timer_of Rank.StopDeadline n s) (s.clock + 1000 * seconds)) (λ v h. (
   h.0,
   h.1,
   (

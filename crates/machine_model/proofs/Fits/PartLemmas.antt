@@ -6,6 +6,7 @@ use Rattle.std.specs.Prelude.{option_map, is_some}
 use Rattle.std.specs.List.{AllByRecursion}
 use Rattle.std.proofs.lemmas.Bool.Decides.{eqb_tells}
 use Rattle.container_table.specs.Lists.{update_first}
+use Rattle.container_table.specs.declared.rank.Rank.{Rank}
 use Rattle.proc_kernel.specs.Processes.{Process, is_frozen}
 use Rattle.proc_kernel.specs.Tables.{Entry, process_of}
 use Rattle.api_json.specs.Status.{is_paused}
@@ -37,9 +38,9 @@ abbrev pub parts_of : ℕ → State → Parts
 parts_of n s = record {
   life = life_of (container_numbered n s);
   main = process_of (OfContainer n) s.processes;
-  stop = is_there (timer_of 1 n s);
-  removal = is_there (timer_of 2 n s);
-  restart = is_there (timer_of 3 n s);
+  stop = is_there (timer_of Rank.StopDeadline n s);
+  removal = is_there (timer_of Rank.RemovalDeadline n s);
+  restart = is_there (timer_of Rank.RestartTimer n s);
 }
 
 pub record IsRanked (d : DueAction) : Type 0 where

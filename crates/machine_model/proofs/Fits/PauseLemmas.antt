@@ -4,6 +4,7 @@ use Rattle.std.specs.Prelude.{option_map, is_some}
 use Rattle.api_json.specs.Status.{is_paused, is_restarting}
 use Rattle.proc_kernel.specs.Processes.{Process, freeze, frozen_pace, is_frozen}
 use Rattle.machine_model.specs.State.{State, container_numbered, change_process, change_life}
+use Rattle.machine_model.specs.Outcome.{at_reference}
 use Rattle.machine_model.specs.Chain.{change, tell_of}
 use Rattle.machine_model.specs.EventTexts.{plain_event}
 use Rattle.machine_model.specs.Consistency.{FitsStatus, IsFrozenAs}
@@ -96,5 +97,5 @@ pause_by s c Status.Removing found is h = h
 pause_by s c Status.Exited found is h = h
 pause_by s c Status.Dead found is h = h
 
-pub pause_mains : (target : List ℕ) (s : State) → PartsFit s → PartsFit (pause.pause_outcome target s).effect.state
+pub pause_mains : (target : List ℕ) (s : State) → PartsFit s → PartsFit (at_reference target pause.pause_outcome s).effect.state
 pause_mains target s h = mains_at s target (λ c. pause.by_status c.life.status c) (λ c found. pause_by s c c.life.status found refl h) h

@@ -5,6 +5,7 @@ use Rattle.api_json.specs.Status.{is_restarting}
 use Rattle.container_table.specs.Timers.{with_timer}
 use Rattle.proc_kernel.specs.Processes.{Process}
 use Rattle.machine_model.specs.State.{State, container_numbered, is_live}
+use Rattle.machine_model.specs.Outcome.{at_reference}
 use Rattle.machine_model.specs.Chain.{change, and_then, renew}
 use Rattle.machine_model.specs.EventTexts.{kill_event}
 use Rattle.machine_model.specs.Tickets.{begun}
@@ -104,6 +105,6 @@ remove_by s force connection c Status.Removing found is h = h
 remove_by s force connection c Status.Exited found is h = remove_gone s c Status.Exited found is (λ v same fits. fits) refl h
 remove_by s force connection c Status.Dead found is h = remove_by_dead s c (is_live (OfContainer c.number) s) refl found is h
 
-pub remove_mains : (connection : ℕ) (target : List ℕ) (force : Bool) (s : State) → PartsFit s → PartsFit (remove.remove_outcome connection target force s).effect.state
+pub remove_mains : (connection : ℕ) (target : List ℕ) (force : Bool) (s : State) → PartsFit s → PartsFit (at_reference target (remove.remove_outcome connection force) s).effect.state
 remove_mains connection target force s h =
     mains_at s target (λ c. remove.by_status c.life.status force connection c) (λ c found. remove_by s force connection c c.life.status found refl h) h

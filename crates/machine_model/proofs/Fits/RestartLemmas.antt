@@ -7,7 +7,7 @@ use Rattle.engine_text.specs.Scripts.{Program}
 use Rattle.machine_model.specs.State.{State, container_numbered}
 use Rattle.machine_model.specs.Chain.{and_then}
 use Rattle.machine_model.specs.EventTexts.{plain_event}
-use Rattle.machine_model.specs.Outcome.{done}
+use Rattle.machine_model.specs.Outcome.{at_reference, done}
 use Rattle.machine_model.specs.Tickets.{begins, begun}
 use Rattle.machine_model.specs.Consistency.{is_there, FitsStatus}
 use Rattle.machine_model.specs.Effects.Cancel.{cancel_restart}
@@ -55,6 +55,6 @@ restart_by s connection seconds signal c Status.Restarting found is h =
 restart_by s connection seconds signal c Status.Removing found is h = h
 restart_by s connection seconds signal c Status.Dead found is h = h
 
-pub restart_mains : (connection : ℕ) (target : List ℕ) (seconds : Option ℤ) (signal : Option Signal) (s : State) → PartsFit s → PartsFit (restart.restart_outcome connection target seconds signal s).effect.state
+pub restart_mains : (connection : ℕ) (target : List ℕ) (seconds : Option ℤ) (signal : Option Signal) (s : State) → PartsFit s → PartsFit (at_reference target (restart.restart_outcome connection seconds signal) s).effect.state
 restart_mains connection target seconds signal s h =
     mains_at s target (λ c. restart.by_status c.life.status connection seconds signal c) (λ c found. restart_by s connection seconds signal c c.life.status found refl h) h

@@ -5,7 +5,7 @@ use Rattle.api_json.specs.Status.{is_paused, is_restarting}
 use Rattle.proc_kernel.specs.Catalogue.{program_of}
 use Rattle.engine_text.specs.Scripts.{Program}
 use Rattle.machine_model.specs.State.{State, container_numbered}
-use Rattle.machine_model.specs.Outcome.{done}
+use Rattle.machine_model.specs.Outcome.{at_reference, done}
 use Rattle.machine_model.specs.Consistency.{is_there, FitsStatus}
 use Rattle.machine_model.specs.Effects.Launch.{launch_by_call}
 use Rattle.machine_model.specs.Calls.Start as start
@@ -32,5 +32,5 @@ start_by s c Status.Restarting found is h = h
 start_by s c Status.Removing found is h = h
 start_by s c Status.Dead found is h = h
 
-pub start_mains : (target : List ℕ) (s : State) → PartsFit s → PartsFit (start.start_outcome target s).effect.state
+pub start_mains : (target : List ℕ) (s : State) → PartsFit s → PartsFit (at_reference target start.start_outcome s).effect.state
 start_mains target s h = mains_at s target (λ c. start.by_status c.life.status c) (λ c found. start_by s c c.life.status found refl h) h

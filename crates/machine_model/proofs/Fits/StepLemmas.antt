@@ -5,6 +5,9 @@ use Rattle.std.proofs.lemmas.Bool.{eqb-true, eq-eqb}
 use Rattle.std.proofs.lemmas.Bool.Decides.{eqb_tells}
 use Rattle.std.specs.List.{AllByRecursion, filter_map, list_any, cons_option}
 use Rattle.container_table.specs.Timers.{timer_in, is_before}
+use Rattle.container_table.specs.Ranks.{rank_numbered}
+use Rattle.container_table.specs.declared.rank.Rank.{Rank}
+use Rattle.machine_model.proofs.RankLemmas.{op_rank, removal_rank, restart_rank}
 use Rattle.engine_text.specs.Texts.{same_bytes, without_slash}
 use Rattle.proc_kernel.specs.Processes.{run_due, next_due}
 use Rattle.proc_kernel.specs.Tables.{Entry}
@@ -14,7 +17,7 @@ use Rattle.machine_model.specs.EventTexts.{exec_event, plain_event}
 use Rattle.machine_model.specs.Call.{outcome_of}
 use Rattle.machine_model.specs.Filters.{is_image}
 use Rattle.machine_model.specs.Consistency.{AreDistinct, is_there, HasMain, IsFrozenRight, HasPid, HasGoal, TimerStands, HasTimer, HasRemoval, HasTimers, IsConsistent}
-use Rattle.machine_model.specs.Due.{action_at, due_actions, least_due, op_effect, stop_deadline, removal_deadline, restart_timer, due_effect}
+use Rattle.machine_model.specs.Due.{action_at, by_rank, due_actions, least_due, stop_deadline, removal_deadline, restart_timer, due_effect}
 use Rattle.machine_model.specs.Effects.Meet.{step_process}
 use Rattle.machine_model.specs.Calls.Create.{volume_named}
 use Rattle.machine_model.specs.Calls.ExecCreate as exec_create
@@ -115,7 +118,7 @@ mains_call (Call.Drop ticket) connection s fresh h = h
 
 -- a timer that is due stands
 abbrev IsTimer : State → DueAction → Type 0
-IsTimer s d = 1 ≤ d.rank → is_there (timer_of d.rank d.number s) ≡ true
+IsTimer s d = 1 ≤ d.rank → is_there (timer_in d.rank d.number s.timers) ≡ true
 
 processes_no_timer : (s : State) (es : List Entry) → AllByRecursion (IsTimer s) (filter_map (λ e. action_at (owner_number e.owner) (next_due e.process)) es)
 processes_no_timer s [] = tt
@@ -155,29 +158,19 @@ op_by s n (Some x) e awake goes h =
     let is : owner_number x.owner ≡ n = eqb-true (owner_number x.owner) n (passes (λ (e : Entry). owner_number e.owner == n) x s.processes e) in
     op_of s x.owner (subst (IsAwakeAt s) (sym is) awake) (subst (Goes s) (sym is) goes) h
 
-third : (s : State) (rank n : ℕ) (b : Bool) → (rank == 2) ≡ b → (rank == 1) ≡ false → (rank == 0) ≡ false → rank ≤ 3 → (1 ≤ rank → is_there (timer_of rank n s) ≡ true) → PartsFit s
-    → PartsFit ((if b then removal_deadline n else restart_timer n) s).state
-third s rank n true e f g top there h =
-    let is : rank ≡ 2 = eqb-true rank 2 e in
-    mains_leads s n (λ v. v.removal ≡ true) (removal_deadline n) (leads_removal_deadline n) (subst (λ r. is_there (timer_of r n s) ≡ true) is (there (omega (arith, is)))) h
-third s rank n false e f g top there h =
-    let two : rank ≢ 2 = λ is. never (rank == 2) e (eq-eqb rank 2 is) in
-    let one : rank ≢ 1 = λ is. never (rank == 1) f (eq-eqb rank 1 is) in
-    let zero : rank ≢ 0 = λ is. never (rank == 0) g (eq-eqb rank 0 is) in
-    let is : rank ≡ 3 = omega (arith, two, one, zero, top) in
-    mains_leads s n (λ v. v.restart ≡ true) (restart_timer n) (leads_restart_timer n) (subst (λ r. is_there (timer_of r n s) ≡ true) is (there (omega (arith, is)))) h
-
-second : (s : State) (rank n : ℕ) (b : Bool) → (rank == 1) ≡ b → (rank == 0) ≡ false → rank ≤ 3 → (1 ≤ rank → is_there (timer_of rank n s) ≡ true) → PartsFit s
-    → PartsFit ((if b then stop_deadline n else (if rank == 2 then removal_deadline n else restart_timer n)) s).state
-second s rank n true e f top there h = whole n (stop_deadline n s).state ((leads_stop_deadline n).holds s (h.0, λ m other. h.1 m, h.1 n))
-second s rank n false e f top there h = third s rank n (rank == 2) refl e f top there h
-
-first : (s : State) (rank n : ℕ) (b : Bool) → (rank == 0) ≡ b → rank ≤ 3 → (rank ≢ 1 → IsAwakeAt s n) → (rank ≡ 0 → Goes s n) → (1 ≤ rank → is_there (timer_of rank n s) ≡ true) → PartsFit s
-    → PartsFit ((if b then op_effect n else (if rank == 1 then stop_deadline n else (if rank == 2 then removal_deadline n else restart_timer n))) s).state
-first s rank n true e top awake goes there h =
-    let none : rank ≢ 1 = λ is. let zero : rank ≡ 0 = eqb-true rank 0 e in omega (arith, is, zero) in
-    op_by s n (find (λ e. owner_number e.owner == n) s.processes) refl (awake none) (goes (eqb-true rank 0 e)) h
-first s rank n false e top awake goes there h = second s rank n (rank == 1) refl e top there h
+by : (s : State) (rank n : ℕ) (r : Rank) → rank_numbered rank ≡ r → rank ≤ 3 → (rank ≢ 1 → IsAwakeAt s n) → (rank ≡ 0 → Goes s n) → (1 ≤ rank → is_there (timer_in rank n s.timers) ≡ true) → PartsFit s
+    → PartsFit (by_rank r n s).state
+by s rank n Rank.Op e top awake goes there h =
+    let is : rank ≡ 0 = op_rank rank e in
+    op_by s n (find (λ e. owner_number e.owner == n) s.processes) refl (awake (λ other. omega (arith, is, other))) (goes is) h
+by s rank n Rank.StopDeadline e top awake goes there h = whole n (stop_deadline n s).state ((leads_stop_deadline n).holds s (h.0, λ m other. h.1 m, h.1 n))
+by s rank n Rank.RemovalDeadline e top awake goes there h =
+    let is : rank ≡ 2 = removal_rank rank e in
+    mains_leads s n (λ v. v.removal ≡ true) (removal_deadline n) (leads_removal_deadline n) (subst (λ r. is_there (timer_in r n s.timers) ≡ true) is (there (omega (arith, is)))) h
+by s rank n Rank.RestartTimer e top awake goes there h =
+    let others = restart_rank rank e in
+    let is : rank ≡ 3 = omega (arith, others.0, others.1, others.2, top) in
+    mains_leads s n (λ v. v.restart ≡ true) (restart_timer n) (leads_restart_timer n) (subst (λ r. is_there (timer_in r n s.timers) ≡ true) is (there (omega (arith, is)))) h
 
 abbrev IsLow : DueAction → Type 0
 IsLow d = d.rank ≤ 3
@@ -196,7 +189,7 @@ mains_due s d e awake goes h =
     let low : IsLow d = found_all IsLow (λ d. not (list_any (λ e. is_before e d) (due_actions s))) d (due_actions s) e
     (all_append IsLow (filter_map (λ e. action_at (owner_number e.owner) (next_due e.process)) s.processes) s.timers (low_processes s.processes)
     (all_weaken IsRanked IsLow (λ d ranked. ranked.greatest) s.timers h.0.3)) in
-    first (at_moment d.moment s) d.rank d.number (d.rank == 0) refl low awake goes (least_there s d e) h
+    by (at_moment d.moment s) d.rank d.number (rank_numbered d.rank) refl low awake goes (least_there s d e) h
 
 -- ---- every step
 
@@ -237,12 +230,12 @@ stands_by s d (Some c) e ranked there h = refl
 stands_by s d None e ranked there h =
     let absent = subst (λ o. OnBy Fine (life_of o) (parts_of d.number s).main (parts_of d.number s).stop (parts_of d.number s).removal (parts_of d.number s).restart) e (h.1 d.number) in
     elim (eqb_tells d.rank 1) [
-      | inl f ↦ never (is_there (timer_of 1 d.number s)) absent.1 (subst (λ r. is_there (timer_in r d.number s.timers) ≡ true) f.1 there)
+      | inl f ↦ never (is_there (timer_of Rank.StopDeadline d.number s)) absent.1 (subst (λ r. is_there (timer_in r d.number s.timers) ≡ true) f.1 there)
       | inr f ↦ elim (eqb_tells d.rank 2) [
-        | inl g ↦ never (is_there (timer_of 2 d.number s)) absent.2 (subst (λ r. is_there (timer_in r d.number s.timers) ≡ true) g.1 there)
+        | inl g ↦ never (is_there (timer_of Rank.RemovalDeadline d.number s)) absent.2 (subst (λ r. is_there (timer_in r d.number s.timers) ≡ true) g.1 there)
         | inr g ↦
             let three : d.rank ≡ 3 = omega (arith, f.1, g.1, ranked.least, ranked.greatest) in
-            never (is_there (timer_of 3 d.number s)) absent.3 (subst (λ r. is_there (timer_in r d.number s.timers) ≡ true) three there)
+            never (is_there (timer_of Rank.RestartTimer d.number s)) absent.3 (subst (λ r. is_there (timer_in r d.number s.timers) ≡ true) three there)
       ]
     ]
 

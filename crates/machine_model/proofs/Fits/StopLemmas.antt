@@ -2,6 +2,7 @@
 use Rattle.std.specs.Option.{is_some}
 use Rattle.std.proofs.Common.{◌≡◌, ℕ, Bool, true, List, Option, Some, refl, ℤ}
 use Rattle.machine_model.specs.State.{State, container_numbered}
+use Rattle.machine_model.specs.Outcome.{at_reference}
 use Rattle.machine_model.specs.Chain.{and_then, tell_of}
 use Rattle.machine_model.specs.EventTexts.{plain_event}
 use Rattle.machine_model.specs.Tickets.{begins, begun}
@@ -39,6 +40,6 @@ stop_by s connection seconds signal c Status.Removing found is h = h
 stop_by s connection seconds signal c Status.Exited found is h = h
 stop_by s connection seconds signal c Status.Dead found is h = h
 
-pub stop_mains : (connection : ℕ) (target : List ℕ) (seconds : Option ℤ) (signal : Option Signal) (s : State) → PartsFit s → PartsFit (stop.stop_outcome connection target seconds signal s).effect.state
+pub stop_mains : (connection : ℕ) (target : List ℕ) (seconds : Option ℤ) (signal : Option Signal) (s : State) → PartsFit s → PartsFit (at_reference target (stop.stop_outcome connection seconds signal) s).effect.state
 stop_mains connection target seconds signal s h =
     mains_at s target (λ c. stop.by_status c.life.status connection seconds signal c) (λ c found. stop_by s connection seconds signal c c.life.status found refl h) h

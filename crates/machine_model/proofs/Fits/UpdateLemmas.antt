@@ -1,13 +1,13 @@
 -- What fits still fits behind an update.
 use Rattle.std.proofs.Common.{◌≡◌, ℕ, Bool, true, false, List, Option, Some, refl}
-use Rattle.api_json.specs.Status.{is_paused}
 use Rattle.proc_kernel.specs.Processes.{Process}
 use Rattle.machine_model.specs.State.{State, container_numbered}
+use Rattle.machine_model.specs.Outcome.{at_reference}
 use Rattle.machine_model.specs.EventTexts.{plain_event}
 use Rattle.machine_model.specs.Calls.Update as update
 use Rattle.machine_model.specs.Calls.Update.{governed}
 use Rattle.machine_model.proofs.Fits.PartLemmas.{leads_then, leads_from, leads_tell}
-use Rattle.machine_model.proofs.Fits.LaunchLemmas.{Fine, On, on_here, on_renew}
+use Rattle.machine_model.proofs.Fits.LaunchLemmas.{Fine, on_here, on_renew}
 use Rattle.machine_model.proofs.Fits.CallLemmas.{PartsFit, mains_found, mains_at, fine_of}
 use Rattle.engine_text.specs.declared.container.Container.{Container}
 use Rattle.engine_text.specs.declared.container.Life.{Life}
@@ -51,5 +51,5 @@ update_by s policy c Status.Removing found h = h
 update_by s policy c Status.Exited found h = stands_fit s policy c found h
 update_by s policy c Status.Dead found h = h
 
-pub update_mains : (target : List ℕ) (policy : Option Policy) (s : State) → PartsFit s → PartsFit (update.update_outcome target policy s).effect.state
+pub update_mains : (target : List ℕ) (policy : Option Policy) (s : State) → PartsFit s → PartsFit (at_reference target (update.update_outcome policy) s).effect.state
 update_mains target policy s h = mains_at s target (λ c. update.by_status c.life.status policy c) (λ c found. update_by s policy c c.life.status found h) h

@@ -4,14 +4,14 @@ use Rattle.engine_text.specs.Soundness.{allows_auto_remove}
 use Rattle.machine_model.specs.State.{State}
 use Rattle.machine_model.specs.Chain.{Effect, and_then, renew, tell_of}
 use Rattle.machine_model.specs.EventTexts.{plain_event}
-use Rattle.machine_model.specs.Outcome.{Outcome, replies, conflicts, at_reference}
+use Rattle.machine_model.specs.Outcome.{Outcome, replies, conflicts}
 use Rattle.machine_model.specs.Refusals.{being_removed, dead, auto_remove_excludes}
 use Rattle.engine_text.specs.declared.container.Container.{Container}
 use Rattle.engine_text.specs.declared.event.Action.TheVariants.{Update}
 use Rattle.engine_text.specs.declared.policy.Policy.{Policy}
 use Rattle.engine_text.specs.declared.reply.Reply.TheVariants.{Answer}
 use Rattle.engine_text.specs.declared.status.Status.{Status}
-use Rattle.engine_text.specs.declared.status.Status.TheVariants.{Created, Running, Paused, Restarting, Removing, Exited, Dead}
+use Rattle.engine_text.specs.declared.status.Status.TheVariants.{Removing, Dead}
 pub use Rattle.container_table.specs.LifeChanges.{governed}
 
 -- The answer of an update.
@@ -38,14 +38,10 @@ update_standing policy c = by_excluded (is_excluded c.life.auto_remove policy) p
 
 -- The answer by state.
 abbrev pub by_status : Status → Option Policy → Container → State → Outcome
-by_status Created policy c = update_standing policy c
-by_status Running policy c = update_standing policy c
-by_status Paused policy c = update_standing policy c
-by_status Restarting policy c = update_standing policy c
 by_status Removing policy c = conflicts (being_removed c.id)
-by_status Exited policy c = update_standing policy c
 by_status Dead policy c = conflicts (dead c.id)
+by_status _ policy c = update_standing policy c
 
--- The container is found first.
-abbrev pub update_outcome : List ℕ → Option Policy → State → Outcome
-update_outcome target policy = at_reference target (λ c. by_status c.life.status policy c)
+-- By its status.
+abbrev pub update_outcome : Option Policy → Container → State → Outcome
+update_outcome policy c = by_status c.life.status policy c

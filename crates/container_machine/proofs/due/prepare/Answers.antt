@@ -1,6 +1,6 @@
 use Rattle.std.proofs.Common.{sym, ◌∙◌}
 use Rattle.container_machine.proofs.DueFoundLemmas.{last_rank}
-use Rattle.container_machine.proofs.RankLemmas.{op_rank, removal_rank, restart_rank, stop_rank}
+use Rattle.machine_model.proofs.RankLemmas.{op_rank, removal_rank, restart_rank, stop_rank}
 use Rattle.container_machine.proofs.due.prepare.Goals as goal
 
 pub prepare_op-requires-clause-rank : goal.prepare_op-requires-clause-rank

@@ -1,9 +1,9 @@
 use Rattle.std.proofs.Common.{◌<◌, ◌^◌, refl, arith}
-use Rattle.machine_effects.specs.Held.{container_in}
+use Rattle.container_table.specs.Logs.{container_in}
 use Rattle.container_machine.proofs.DueFoundLemmas.{container_stands}
 use Rattle.container_machine.proofs.DueMakeLemmas.{makes_restart_timer}
-use Rattle.container_machine.proofs.MakeLemmas.{few_found}
-use Rattle.container_machine.proofs.ReadyLemmas.{few}
+use Rattle.call_plans.proofs.MakeLemmas.{few_found}
+use Rattle.call_plans.proofs.ReadyLemmas.{few}
 use Rattle.container_machine.proofs.due.prepare_restart_timer.Goals as goal
 
 pub overflow_add-life : goal.overflow_add-life

@@ -2,7 +2,7 @@ use Rattle.std.proofs.Common.{◌∙◌, ap}
 use Rattle.engine_text.specs.declared.step.Step.{Step}
 use Rattle.machine_model.specs.State.{State}
 use Rattle.machine_model.specs.History.{after_step, reply_of}
-use Rattle.container_machine.specs.Prepared.{asked_by}
+use Rattle.call_plans.specs.Prepared.{asked_by}
 use Rattle.history_replay.proofs.making.ask.Goals as goal
 
 pub returns-clause-reply : goal.returns-clause-reply

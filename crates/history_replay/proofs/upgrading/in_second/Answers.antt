@@ -1,4 +1,3 @@
-use Rattle.std.proofs.Common.{subst}
 use Rattle.history_replay.specs.Checking.{charter_of}
 use Rattle.history_replay.proofs.UpgradeLemmas.{as_it_stands}
 use Rattle.history_replay.proofs.upgrading.in_second.Goals as goal

@@ -1,10 +1,10 @@
 use Rattle.std.proofs.Common.{◌≤◌, arith, refl, ap, sym, subst, ◌∙◌}
 use Rattle.machine_model.specs.declared.limits.TheConstants.{KEPT_EVENTS}
-use Rattle.machine_effects.specs.Memory.{Memory, Room, standing}
-use Rattle.container_machine.specs.Needs.{Fits}
-use Rattle.container_machine.specs.Plans.{need_of}
+use Rattle.machine_events.specs.Memory.{Memory, Room, standing}
+use Rattle.call_plans.specs.Needs.{Fits}
+use Rattle.call_plans.specs.Plans.{need_of}
 use Rattle.machine_model.specs.Step.{at_moment, counted}
-use Rattle.container_machine.specs.Parts.{MachineParts}
+use Rattle.call_plans.specs.Parts.{MachineParts}
 use Rattle.container_machine.proofs.CommitLemmas.{commit_parts, kept_parts, count_fits}
 use Rattle.container_machine.proofs.machine.Machine.commit.Goals as goal
 

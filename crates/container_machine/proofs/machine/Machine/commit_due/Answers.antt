@@ -1,9 +1,9 @@
 use Rattle.std.proofs.Common.{◌≤◌, arith, refl, ap, sym, subst, ◌∙◌}
 use Rattle.machine_model.specs.declared.limits.TheConstants.{KEPT_EVENTS}
-use Rattle.machine_effects.specs.Memory.{Memory, Room, standing}
+use Rattle.machine_events.specs.Memory.{Memory, Room, standing}
 use Rattle.container_machine.specs.DuePlans.{FitsDue}
 use Rattle.machine_model.specs.Step.{at_moment, counted}
-use Rattle.container_machine.specs.Parts.{MachineParts}
+use Rattle.call_plans.specs.Parts.{MachineParts}
 use Rattle.container_machine.proofs.CommitLemmas.{due_parts, kept_due_parts, count_fits}
 use Rattle.container_machine.proofs.machine.Machine.commit_due.Goals as goal
 

@@ -5,12 +5,12 @@ use Rattle.machine_model.specs.Call.{outcome_of}
 use Rattle.machine_model.proofs.Laws.{timely_call}
 use Rattle.machine_model.specs.History.{IsLawful}
 use Rattle.engine_text.specs.declared.step.Step.{Step}
-use Rattle.container_machine.specs.Making.{Makes}
-use Rattle.container_machine.specs.Needs.{HasSpace}
-use Rattle.container_machine.specs.Prepared.{IsFor, asked_by}
+use Rattle.call_plans.specs.Making.{Makes}
+use Rattle.call_plans.specs.Needs.{HasSpace}
+use Rattle.call_plans.specs.Prepared.{IsFor, asked_by}
 use Rattle.machine_model.specs.Consistency.{IsConsistent}
-use Rattle.container_machine.proofs.ReadyLemmas.{ready}
-use Rattle.container_machine.proofs.TakeLemmas.{not_drop, on_err, ready_drop}
+use Rattle.call_plans.proofs.ReadyLemmas.{ready}
+use Rattle.reading_calls.proofs.TakeLemmas.{not_drop, on_err, ready_drop}
 use Rattle.container_machine.proofs.machine.Machine.prepare.Goals as goal
 
 pub returns-in-Drop-clause-ready : goal.returns-in-Drop-clause-ready

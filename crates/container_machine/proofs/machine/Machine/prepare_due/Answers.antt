@@ -5,7 +5,7 @@ use Rattle.machine_model.specs.Due.{least_due}
 use Rattle.machine_model.specs.History.{IsLawful}
 use Rattle.machine_model.specs.State.{State}
 use Rattle.container_machine.specs.Dues.{MakesDue}
-use Rattle.container_machine.specs.Parts.{MachineParts}
+use Rattle.call_plans.specs.Parts.{MachineParts}
 use Rattle.container_machine.proofs.DueMakeLemmas.{ready_due}
 use Rattle.container_machine.proofs.machine.Machine.prepare_due.Goals as goal
 

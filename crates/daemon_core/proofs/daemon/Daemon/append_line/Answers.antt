@@ -1,4 +1,4 @@
-use Rattle.std.proofs.Common.{arith, ◌≡◌, ◌∙◌, ◌++◌, ◌-◌, ℕ, List, ap, sym, subst}
+use Rattle.std.proofs.Common.{arith, ◌∙◌, ◌-◌, ℕ, ap, sym}
 use Rattle.std.specs.Option.{option_copied}
 use Rattle.daemon_core.specs.Keeping.{history_of}
 use Rattle.daemon_core.specs.Passing.{charter}

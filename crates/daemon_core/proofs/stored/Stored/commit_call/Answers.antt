@@ -4,7 +4,7 @@ use Rattle.engine_text.specs.declared.step.Step.{Step}
 use Rattle.machine_model.specs.State.{State}
 use Rattle.machine_model.specs.History.{after_step, reply_of}
 use Rattle.machine_model.specs.Step.{at_moment, step_effect}
-use Rattle.container_machine.specs.Prepared.{asked_by}
+use Rattle.call_plans.specs.Prepared.{asked_by}
 use Rattle.daemon_core.specs.Telling.{AreTimed}
 use Rattle.daemon_core.proofs.TellLemmas.{played, room_for, some_replied, some_told, timed_step}
 use Rattle.daemon_core.proofs.WrittenLemmas.{on_err}

@@ -4,7 +4,7 @@ use Rattle.engine_text.specs.declared.step.Step.{Step}
 use Rattle.journal_lines.specs.KeptJournal.{KeptJournal, ends_behind, ends_of}
 use Rattle.machine_model.specs.State.{State}
 use Rattle.machine_model.specs.History.{IsLawful, after_step, reply_of}
-use Rattle.container_machine.specs.Parts.{MachineParts}
+use Rattle.call_plans.specs.Parts.{MachineParts}
 use Rattle.daemon_core.specs.Keeping.{history_of}
 use Rattle.daemon_core.specs.Telling.{IsLike}
 use Rattle.daemon_core.specs.declared.stored.Stored.{Stored}

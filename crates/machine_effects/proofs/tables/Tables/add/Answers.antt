@@ -11,11 +11,11 @@ use Rattle.volume_table.specs.Volumes.{use_of}
 use Rattle.machine_model.specs.Calls.Create.{add}
 use Rattle.machine_model.specs.Consistency.{is_there}
 use Rattle.machine_model.specs.State.{State}
-use Rattle.machine_effects.specs.Held.{container_in}
-use Rattle.machine_effects.specs.Memory.{Memory}
-use Rattle.machine_effects.specs.NewVolumes.{AreMissing, missing_volumes, with_volumes}
+use Rattle.container_table.specs.Logs.{container_in}
+use Rattle.machine_events.specs.Memory.{Memory}
+use Rattle.machine_events.specs.NewVolumes.{AreMissing, missing_volumes, with_volumes}
 use Rattle.machine_effects.specs.Views.Tables.{state_of}
-use Rattle.machine_effects.proofs.CreateLemmas.{added_parts, all_stand, are_missing, few_missing, new_volumes}
+use Rattle.machine_events.proofs.CreateLemmas.{added_parts, all_stand, are_missing, few_missing, new_volumes}
 use Rattle.machine_effects.proofs.tables.Tables.add.Goals as goal
 
 pub make_volumes-requires-clause-missing : goal.make_volumes-requires-clause-missing

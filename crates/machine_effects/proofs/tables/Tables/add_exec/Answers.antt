@@ -3,9 +3,9 @@ use Rattle.std.specs.List.{AllByRecursion}
 use Rattle.exec_table.specs.Execs.{empty_output, exec_with_id}
 use Rattle.machine_model.specs.Calls.ExecCreate.{with_exec}
 use Rattle.machine_model.specs.State.{State}
-use Rattle.machine_effects.specs.Memory.{Memory}
+use Rattle.machine_events.specs.Memory.{Memory}
 use Rattle.machine_effects.specs.Views.Tables.{state_of}
-use Rattle.machine_effects.proofs.NewExecLemmas.{added_exec}
+use Rattle.machine_events.proofs.NewExecLemmas.{added_exec}
 use Rattle.machine_effects.proofs.tables.Tables.add_exec.Goals as goal
 
 pub create-requires-clause-above : goal.create-requires-clause-above

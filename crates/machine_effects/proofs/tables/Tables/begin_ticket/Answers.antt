@@ -2,11 +2,11 @@ use Rattle.std.proofs.Common.{◌+◌, List, None, ap, ◌∙◌}
 use Rattle.engine_text.specs.declared.ticket.Ticket.{Ticket}
 use Rattle.machine_model.specs.State.{State}
 use Rattle.machine_model.specs.Tickets.{begun}
-use Rattle.machine_effects.specs.Held.{tickets_in}
-use Rattle.machine_effects.specs.Memory.{Memory}
+use Rattle.machine_tables.specs.Held.{tickets_in}
+use Rattle.machine_events.specs.Memory.{Memory}
 use Rattle.machine_effects.specs.Views.Tables.{state_of}
-use Rattle.machine_effects.specs.declared.held.HeldTicket.{HeldTicket}
-use Rattle.machine_effects.proofs.TicketLemmas.{one_more}
+use Rattle.machine_tables.specs.declared.held.HeldTicket.{HeldTicket}
+use Rattle.machine_tables.proofs.TicketLemmas.{one_more}
 use Rattle.machine_effects.proofs.tables.Tables.begin_ticket.Goals as goal
 
 pub returns-clause-state : goal.returns-clause-state

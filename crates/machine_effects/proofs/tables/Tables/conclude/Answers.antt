@@ -1,6 +1,6 @@
 use Rattle.std.proofs.Common.{sym}
-use Rattle.machine_effects.specs.Held.{container_in}
-use Rattle.machine_effects.proofs.SettleLemmas.{concluded_is, has_goal}
+use Rattle.container_table.specs.Logs.{container_in}
+use Rattle.machine_events.proofs.SettleLemmas.{concluded_is, has_goal}
 use Rattle.machine_effects.proofs.tables.Tables.conclude.Goals as goal
 
 pub by_goal-requires-clause-goal : goal.by_goal-requires-clause-goal

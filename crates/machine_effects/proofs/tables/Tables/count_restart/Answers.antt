@@ -1,5 +1,5 @@
 use Rattle.std.proofs.Common.{sym, ◌∙◌, ◌<◌, ◌^◌, arith}
-use Rattle.machine_effects.specs.Held.{container_in}
+use Rattle.container_table.specs.Logs.{container_in}
 use Rattle.machine_effects.proofs.DueLemmas.{restarts_counted, none_counted}
 use Rattle.machine_effects.proofs.tables.Tables.count_restart.Goals as goal
 

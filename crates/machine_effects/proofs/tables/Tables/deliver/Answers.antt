@@ -1,7 +1,7 @@
 use Rattle.std.proofs.Common.{◌≤◌, length, subst, sym}
 use Rattle.machine_model.specs.State.{State}
-use Rattle.machine_effects.specs.Memory.{Room}
-use Rattle.machine_effects.proofs.DiedLemmas.{end_last, end_other}
+use Rattle.machine_events.specs.Memory.{Room}
+use Rattle.machine_events.proofs.DiedLemmas.{end_last, end_other}
 use Rattle.machine_effects.proofs.tables.Tables.deliver.Goals as goal
 
 pub meet_signal-requires-clause-room : goal.meet_signal-requires-clause-room
@@ -11,8 +11,8 @@ meet_signal-requires-clause-room c =
 
 pub meet_signal-requires-clause-end : goal.meet_signal-requires-clause-end
 meet_signal-requires-clause-end c =
-    end_last c.args.last c.args.sent.number c.args.number c.args.kit c.args.self.now.room c.renew.new.self.room c.args.self.now.state c.renew.new.self.state
+    end_last c.args.last c.args.sent.number c.args.number c.args.brought c.args.self.now.room c.renew.new.self.room c.args.self.now.state c.renew.new.self.state
     c.if-last.true c.renew.ensures.state c.renew.ensures.room c.requires.end
 
 pub send-requires-clause-end : goal.send-requires-clause-end
-send-requires-clause-end c = end_other c.args.last c.args.sent.number c.args.number c.args.kit c.args.self.now.room c.args.self.now.state c.if-last.false c.requires.end
+send-requires-clause-end c = end_other c.args.last c.args.sent.number c.args.number c.args.brought c.args.self.now.room c.args.self.now.state c.if-last.false c.requires.end

@@ -8,12 +8,13 @@ use Rattle.engine_text.specs.declared.owner.Owner.{Owner}
 use Rattle.engine_text.specs.declared.step.DueAction.{DueAction}
 use Rattle.machine_model.specs.State.{State, container_numbered}
 use Rattle.machine_model.specs.Effects.Destroy.{destroy}
-use Rattle.machine_effects.specs.Fit.{exec_numbers, outputs_of}
-use Rattle.machine_effects.specs.Held.{container_in, tickets_in}
-use Rattle.machine_effects.specs.Memory.{Memory}
+use Rattle.machine_events.specs.Fit.{exec_numbers, outputs_of}
+use Rattle.container_table.specs.Logs.{container_in}
+use Rattle.machine_tables.specs.Held.{tickets_in}
+use Rattle.machine_events.specs.Memory.{Memory}
 use Rattle.machine_effects.specs.Views.Tables.{state_of}
 use Rattle.machine_effects.proofs.DestroyLemmas.{IsWithout, without_parts, destroyed, destroyed_none, tickets_last}
-use Rattle.machine_effects.proofs.RemoveLemmas.{removed_none}
+use Rattle.machine_model.proofs.RemoveLemmas.{removed_none}
 use Rattle.machine_effects.proofs.tables.Tables.destroy.Goals as goal
 
 pub returns-in_default-clause-state : goal.returns-in_default-clause-state
@@ -30,7 +31,7 @@ returns-clause-state c =
     let n : ℕ = c.args.number in
     let d : Container = container_in c.in-Some.h in
     let found : container_numbered n s ≡ Some d = sym c.remove.ensures.value ∙ ap (option_map container_in) c.in-Some.is in
-    let numbers : c.args.kit.execs ≡ exec_numbers n s = c.requires.numbers ∙ sym (ap (λ (m : Memory). exec_numbers n m.state) c.self.view_is) in
+    let numbers : c.args.brought.execs ≡ exec_numbers n s = c.requires.numbers ∙ sym (ap (λ (m : Memory). exec_numbers n m.state) c.self.view_is) in
     let first : c.push_reserved.new.self.items ≡ record { owner = Owner.Container n; log = c.in-Some.h.log.records } ∷ [] =
     c.push_reserved.ensures.items ∙ (ap (λ (l : List OwnedLog). l ++ record { owner = Owner.Container n; log = c.close.result } ∷ []) c.requires.empty
     ∙ ap (λ (l : List LogRecord). record { owner = Owner.Container n; log = l } ∷ []) c.close.ensures) in

@@ -1,6 +1,6 @@
 use Rattle.std.proofs.Common.{◌≡◌, take}
 use Rattle.machine_model.specs.Chain.{each}
-use Rattle.machine_effects.specs.Fit.{end_number}
+use Rattle.machine_events.specs.Fit.{end_number}
 use Rattle.machine_effects.proofs.tables.Tables.end_execs.Given as goal
 
 abbrev pub invariant-loop-i : goal.invariant-loop-i

@@ -2,11 +2,11 @@ use Rattle.std.proofs.Common.{◌==◌, List, ap, ◌∙◌}
 use Rattle.engine_text.specs.declared.ticket.Ticket.{Ticket}
 use Rattle.machine_model.specs.State.{State}
 use Rattle.machine_model.specs.Calls.Take.{end_ticket}
-use Rattle.machine_effects.specs.Held.{ticket_in, tickets_in}
-use Rattle.machine_effects.specs.Memory.{Memory}
+use Rattle.machine_tables.specs.Held.{ticket_in, tickets_in}
+use Rattle.machine_events.specs.Memory.{Memory}
 use Rattle.machine_effects.specs.Views.Tables.{state_of}
-use Rattle.machine_effects.specs.declared.held.HeldTicket.{HeldTicket}
-use Rattle.machine_effects.proofs.RemoveLemmas.{removed_mapped}
+use Rattle.machine_tables.specs.declared.held.HeldTicket.{HeldTicket}
+use Rattle.machine_model.proofs.RemoveLemmas.{removed_mapped}
 use Rattle.machine_effects.proofs.tables.Tables.end_ticket.Goals as goal
 
 pub returns-clause-state : goal.returns-clause-state

@@ -1,7 +1,7 @@
 use Rattle.std.proofs.Common.{◌≤◌, length, ◌∙◌, sym, subst}
 use Rattle.machine_model.specs.State.{State}
-use Rattle.machine_effects.specs.Memory.{Room}
-use Rattle.machine_effects.proofs.ForceLemmas.{clock_after, end_forced, forced_died, forced_state, timers_after}
+use Rattle.machine_events.specs.Memory.{Room}
+use Rattle.machine_events.proofs.ForceLemmas.{clock_after, end_forced, forced_died, forced_state, timers_after}
 use Rattle.machine_effects.proofs.tables.Tables.kill_to_remove.Goals as goal
 
 pub meet_signal-code-requires-clause-room : goal.meet_signal-code-requires-clause-room
@@ -11,7 +11,7 @@ meet_signal-code-requires-clause-room c =
 
 pub meet_signal-code-requires-clause-end : goal.meet_signal-code-requires-clause-end
 meet_signal-code-requires-clause-end c =
-    end_forced c.args.number c.args.kit c.args.self.now.room c.renew.new.self.room c.args.self.now.state c.renew.new.self.state c.renew.ensures.state c.renew.ensures.room c.requires.end
+    end_forced c.args.number c.args.brought c.args.self.now.room c.renew.new.self.room c.args.self.now.state c.renew.new.self.state c.renew.ensures.state c.renew.ensures.room c.requires.end
 
 pub await_end-requires-clause-timers : goal.await_end-requires-clause-timers
 await_end-requires-clause-timers c =

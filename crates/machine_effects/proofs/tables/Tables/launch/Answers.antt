@@ -1,7 +1,7 @@
 use Rattle.std.proofs.Common.{sym, ◌∙◌, ap}
-use Rattle.machine_effects.specs.Held.{container_in}
-use Rattle.machine_effects.specs.Effects.EndMain.{begun}
-use Rattle.machine_effects.proofs.SettleLemmas.{launch_none, launch_some}
+use Rattle.container_table.specs.Logs.{container_in}
+use Rattle.machine_events.specs.Effects.EndMain.{begun}
+use Rattle.machine_events.proofs.SettleLemmas.{launch_none, launch_some}
 use Rattle.machine_effects.proofs.tables.Tables.launch.Goals as goal
 
 pub returns-in_default-script-clause-state : goal.returns-in_default-script-clause-state

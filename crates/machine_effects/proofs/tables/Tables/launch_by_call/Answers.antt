@@ -1,8 +1,8 @@
 use Rattle.std.proofs.Common.{subst, sym}
 use Rattle.machine_model.specs.State.{State}
-use Rattle.machine_effects.specs.Fit.{CanLaunch}
+use Rattle.machine_events.specs.Fit.{CanLaunch}
 use Rattle.container_table.specs.declared.life_change.LifeChange.{LifeChange}
-use Rattle.machine_effects.proofs.SettleLemmas.{launch_renew}
+use Rattle.machine_events.proofs.SettleLemmas.{launch_renew}
 use Rattle.machine_effects.proofs.tables.Tables.launch_by_call.Goals as goal
 
 pub launch-requires-clause-fit : goal.launch-requires-clause-fit

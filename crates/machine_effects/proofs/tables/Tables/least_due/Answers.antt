@@ -1,9 +1,9 @@
 use Rattle.std.proofs.Common.{ap, ◌∙◌}
 use Rattle.container_table.specs.Timers.{least}
 use Rattle.machine_model.specs.Due.{least_due}
-use Rattle.machine_effects.specs.LeastDue.{actions_of, lesser}
-use Rattle.machine_effects.specs.Memory.{Memory}
-use Rattle.machine_effects.proofs.LeastDueLemmas.{least_both}
+use Rattle.machine_tables.specs.LeastDue.{actions_of, lesser}
+use Rattle.machine_events.specs.Memory.{Memory}
+use Rattle.machine_tables.proofs.LeastDueLemmas.{least_both}
 use Rattle.machine_effects.proofs.tables.Tables.least_due.Goals as goal
 
 pub returns : goal.returns

@@ -2,7 +2,7 @@ use Rattle.std.proofs.Common.{sym, ap, ◌∙◌}
 use Rattle.engine_text.specs.declared.owner.Owner.{Owner}
 use Rattle.engine_text.specs.declared.script.Effect.{Effect}
 use Rattle.machine_model.specs.Effects.Meet.{by_effect}
-use Rattle.machine_effects.proofs.DiedLemmas.{died_end_main, main_ended}
+use Rattle.machine_events.proofs.DiedLemmas.{died_end_main, main_ended}
 use Rattle.machine_effects.proofs.tables.Tables.main_effect.Goals as goal
 
 pub returns-in-Ended-clause-died : goal.returns-in-Ended-clause-died

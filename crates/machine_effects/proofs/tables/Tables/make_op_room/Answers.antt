@@ -1,8 +1,8 @@
 use Rattle.std.proofs.Common.{List, ap, ◌∙◌}
 use Rattle.proc_kernel.specs.Tables.{Entry, length_at, process_of}
-use Rattle.machine_effects.specs.Memory.{Memory}
+use Rattle.machine_events.specs.Memory.{Memory}
 use Rattle.machine_effects.specs.Views.Tables.{memory_of}
-use Rattle.machine_effects.proofs.RoomLemmas.{op_room}
+use Rattle.machine_events.proofs.RoomLemmas.{op_room}
 use Rattle.machine_effects.proofs.tables.Tables.make_op_room.Goals as goal
 
 pub returns-clause-room : goal.returns-clause-room

@@ -3,9 +3,9 @@ use Rattle.engine_text.specs.Texts.{same_bytes}
 use Rattle.engine_text.specs.declared.volume.Volume.{Volume}
 use Rattle.machine_model.specs.Calls.Create.{make_volume, new_volume, volume_named}
 use Rattle.machine_model.specs.State.{State}
-use Rattle.machine_effects.specs.Memory.{Memory}
+use Rattle.machine_events.specs.Memory.{Memory}
 use Rattle.machine_effects.specs.Views.Tables.{state_of}
-use Rattle.machine_effects.proofs.VolumeLemmas.{made_new, made_state}
+use Rattle.machine_events.proofs.VolumeLemmas.{made_new, made_state}
 use Rattle.machine_effects.proofs.tables.Tables.make_volume.Goals as goal
 
 pub create-requires : goal.create-requires

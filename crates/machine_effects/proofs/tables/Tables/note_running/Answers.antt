@@ -2,9 +2,9 @@ use Rattle.std.proofs.Common.{List, ap, ◌∙◌, map, filter}
 use Rattle.engine_text.specs.declared.exec.Exec.{Exec}
 use Rattle.proc_kernel.specs.Tables.{Entry}
 use Rattle.machine_model.specs.State.{running_execs}
-use Rattle.machine_effects.specs.Running.{is_running}
-use Rattle.machine_effects.proofs.EachLemmas.{running_is}
-use Rattle.machine_effects.specs.Memory.{Memory}
+use Rattle.machine_events.specs.Running.{is_running}
+use Rattle.machine_events.proofs.EachLemmas.{running_is}
+use Rattle.machine_events.specs.Memory.{Memory}
 use Rattle.machine_effects.specs.Views.Tables.{state_of}
 use Rattle.machine_effects.proofs.tables.Tables.note_running.Goals as goal
 

@@ -3,9 +3,9 @@ use Rattle.std.specs.Prelude.{IsSome}
 use Rattle.machine_model.specs.Calls.Create.{volume_named}
 use Rattle.machine_model.specs.Calls.Volumes.{is_in_use, without_volume}
 use Rattle.machine_model.specs.State.{State}
-use Rattle.machine_effects.specs.Memory.{Memory}
+use Rattle.machine_events.specs.Memory.{Memory}
 use Rattle.machine_effects.specs.Views.Tables.{state_of}
-use Rattle.machine_effects.proofs.VolumeLemmas.{taken, taken_state}
+use Rattle.machine_events.proofs.VolumeLemmas.{taken, taken_state}
 use Rattle.machine_effects.proofs.tables.Tables.remove_volume.Goals as goal
 
 pub returns-clause-state : goal.returns-clause-state

@@ -1,6 +1,6 @@
 use Rattle.std.proofs.Common.{subst, sym}
 use Rattle.machine_model.specs.State.{State}
-use Rattle.machine_effects.specs.Deadlines.{CanRestart}
+use Rattle.machine_events.specs.Deadlines.{CanRestart}
 use Rattle.machine_effects.proofs.DueLemmas.{launch_timed}
 use Rattle.machine_effects.proofs.tables.Tables.restart_timer.Goals as goal
 

@@ -1,6 +1,6 @@
 use Rattle.std.proofs.Common.{◌≡◌, filter, take}
 use Rattle.machine_model.specs.Step.{at_moment}
-use Rattle.machine_effects.specs.ToldMeet.{lives_on}
+use Rattle.machine_events.specs.ToldMeet.{lives_on}
 use Rattle.machine_effects.proofs.tables.Tables.running_after.Given as goal
 
 abbrev pub invariant-loop-n : goal.invariant-loop-n

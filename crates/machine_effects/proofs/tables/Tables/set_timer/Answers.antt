@@ -1,7 +1,7 @@
 use Rattle.std.proofs.Common.{◌<◌, length, sym, subst}
 use Rattle.container_table.specs.Ranks.{number_of}
 use Rattle.container_table.proofs.TimerLemmas.{one_more}
-use Rattle.machine_effects.specs.Memory.{Memory}
+use Rattle.machine_events.specs.Memory.{Memory}
 use Rattle.machine_effects.proofs.tables.Tables.set_timer.Goals as goal
 
 pub set-requires : goal.set-requires

@@ -1,6 +1,6 @@
 use Rattle.std.proofs.Common.{◌∙◌, arith}
-use Rattle.machine_effects.specs.Settled.{deaths}
-use Rattle.machine_effects.proofs.TicketLemmas.{upto_low, upto_next, upto_end}
+use Rattle.machine_tables.specs.Settled.{deaths}
+use Rattle.machine_tables.proofs.TicketLemmas.{upto_low, upto_next, upto_end}
 use Rattle.machine_effects.proofs.tables.Tables.settle.Goals as goal
 
 pub settle_at-requires : goal.settle_at-requires

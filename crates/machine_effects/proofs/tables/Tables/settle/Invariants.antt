@@ -1,6 +1,6 @@
 use Rattle.std.proofs.Common.{◌≡◌}
-use Rattle.machine_effects.specs.Settled.{deaths}
-use Rattle.machine_effects.proofs.TicketLemmas.{upto}
+use Rattle.machine_tables.specs.Settled.{deaths}
+use Rattle.machine_tables.proofs.TicketLemmas.{upto}
 use Rattle.machine_effects.proofs.tables.Tables.settle.Given as goal
 
 abbrev pub invariant-loop-i : goal.invariant-loop-i

@@ -4,12 +4,12 @@ use Rattle.std.proofs.lemmas.List.{length-map}
 use Rattle.engine_text.specs.declared.ticket.Asked.{Asked}
 use Rattle.engine_text.specs.declared.ticket.Ticket.{Ticket}
 use Rattle.machine_model.specs.State.{State}
-use Rattle.machine_effects.specs.Held.{tickets_in}
+use Rattle.machine_tables.specs.Held.{tickets_in}
 use Rattle.machine_effects.specs.Views.Tables.{state_of}
-use Rattle.machine_effects.specs.Memory.{Memory}
-use Rattle.machine_effects.specs.Settled.{deaths, settled_at, settled_place, replies_for}
-use Rattle.machine_effects.specs.declared.held.HeldTicket.{HeldTicket}
-use Rattle.machine_effects.proofs.TicketLemmas.{settled_here}
+use Rattle.machine_events.specs.Memory.{Memory}
+use Rattle.machine_tables.specs.Settled.{deaths, settled_at, settled_place, replies_for}
+use Rattle.machine_tables.specs.declared.held.HeldTicket.{HeldTicket}
+use Rattle.machine_tables.proofs.TicketLemmas.{settled_here}
 use Rattle.machine_effects.proofs.tables.Tables.settle_at.Goals as goal
 
 nothing : HeldTicket

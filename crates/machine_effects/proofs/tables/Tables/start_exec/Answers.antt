@@ -1,6 +1,6 @@
 use Rattle.std.proofs.Common.{sym, ◌∙◌, ap}
-use Rattle.machine_effects.specs.ExecStarts.{exec_begun}
-use Rattle.machine_effects.proofs.ExecStartLemmas.{start_none, start_some}
+use Rattle.machine_events.specs.ExecStarts.{exec_begun}
+use Rattle.machine_events.proofs.ExecStartLemmas.{start_none, start_some}
 use Rattle.machine_effects.proofs.tables.Tables.start_exec.Goals as goal
 
 pub returns-in_default-clause-state : goal.returns-in_default-clause-state

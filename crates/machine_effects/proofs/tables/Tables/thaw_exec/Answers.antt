@@ -1,6 +1,6 @@
 use Rattle.proc_kernel.specs.Processes.{thaw}
 use Rattle.proc_kernel.proofs.TimeLemmas.{thaw_timely}
-use Rattle.machine_effects.proofs.TimeLemmas.{timely_parts}
+use Rattle.machine_events.proofs.TimeLemmas.{timely_parts}
 use Rattle.machine_effects.proofs.tables.Tables.thaw_exec.Goals as goal
 
 pub returns-clause-timely : goal.returns-clause-timely

@@ -1,6 +1,6 @@
 use Rattle.std.proofs.Common.{◌∙◌, arith, length, ap}
-use Rattle.machine_effects.specs.Fit.{thaw_number}
-use Rattle.machine_effects.proofs.EachLemmas.{loop_more, loop_end}
+use Rattle.machine_events.specs.Fit.{thaw_number}
+use Rattle.machine_events.proofs.EachLemmas.{loop_more, loop_end}
 use Rattle.machine_effects.proofs.tables.Tables.thaw_execs.Goals as goal
 
 pub loop-i-preserved : goal.loop-i-preserved

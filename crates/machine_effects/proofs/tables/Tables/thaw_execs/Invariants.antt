@@ -1,6 +1,6 @@
 use Rattle.std.proofs.Common.{◌≡◌, take}
 use Rattle.machine_model.specs.Chain.{each}
-use Rattle.machine_effects.specs.Fit.{thaw_number, AreTimely}
+use Rattle.machine_events.specs.Fit.{thaw_number, AreTimely}
 use Rattle.machine_effects.proofs.tables.Tables.thaw_execs.Given as goal
 
 abbrev pub invariant-loop-i : goal.invariant-loop-i

@@ -1,8 +1,8 @@
 use Rattle.std.proofs.Common.{subst, sym}
-use Rattle.machine_effects.specs.Fit.{AreTimely}
-use Rattle.machine_effects.specs.Memory.{Memory}
+use Rattle.machine_events.specs.Fit.{AreTimely}
+use Rattle.machine_events.specs.Memory.{Memory}
 use Rattle.machine_effects.specs.Views.Tables.{state_of}
-use Rattle.machine_effects.proofs.TimeLemmas.{can_thaw}
+use Rattle.machine_events.proofs.TimeLemmas.{can_thaw}
 use Rattle.machine_effects.proofs.tables.Tables.thaw_process.Goals as goal
 
 pub thaw-requires : goal.thaw-requires

@@ -2,9 +2,9 @@ use Rattle.std.proofs.Common.{◌≡◌, ◌==◌, ap, ◌∙◌, subst}
 use Rattle.std.specs.Prelude.{option_map, option_copied}
 use Rattle.engine_text.specs.declared.ticket.Ticket.{Ticket}
 use Rattle.machine_model.specs.Tickets.{ticket_numbered}
-use Rattle.machine_effects.specs.Held.{ticket_in}
-use Rattle.machine_effects.specs.Memory.{Memory}
-use Rattle.machine_effects.proofs.ListLemmas.{find_in_map}
+use Rattle.machine_tables.specs.Held.{ticket_in}
+use Rattle.machine_events.specs.Memory.{Memory}
+use Rattle.machine_model.proofs.ItemLemmas.{find_in_map}
 use Rattle.machine_effects.proofs.tables.Tables.ticket.Goals as goal
 
 pub returns : goal.returns

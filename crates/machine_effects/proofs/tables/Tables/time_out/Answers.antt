@@ -1,11 +1,11 @@
 use Rattle.std.proofs.Common.{ℕ, List, refl, ap, sym, subst, ◌∙◌}
 use Rattle.machine_model.specs.Consistency.{is_there}
 use Rattle.machine_model.specs.State.{State, container_numbered}
-use Rattle.machine_effects.specs.Deadlines.{HasId, timed_out_at}
-use Rattle.machine_effects.specs.Held.{tickets_in}
-use Rattle.machine_effects.specs.Memory.{Memory}
+use Rattle.machine_events.specs.Deadlines.{HasId, timed_out_at}
+use Rattle.machine_tables.specs.Held.{tickets_in}
+use Rattle.machine_events.specs.Memory.{Memory}
 use Rattle.machine_effects.specs.Views.Tables.{state_of}
-use Rattle.machine_effects.specs.declared.held.HeldTicket.{HeldTicket}
+use Rattle.machine_tables.specs.declared.held.HeldTicket.{HeldTicket}
 use Rattle.machine_effects.proofs.DueLemmas.{timed_out_found, some_there}
 use Rattle.machine_effects.proofs.tables.Tables.time_out.Goals as goal
 

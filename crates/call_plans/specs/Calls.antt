@@ -1,0 +1,11 @@
+pub mod Attach
+pub mod Create
+pub mod Execs
+pub mod Kill
+pub mod Remove
+pub mod Rename
+pub mod Restart
+pub mod Stop
+pub mod Update
+pub mod Volumes
+pub mod Wait

@@ -1,0 +1,11 @@
+pub mod ExecLemmas
+pub mod ExecStartLemmas
+pub mod FeedLemmas
+pub mod RemoveLemmas
+pub mod RenameLemmas
+pub mod RestartLemmas
+pub mod StartLemmas
+pub mod StopLemmas
+pub mod UnpauseLemmas
+pub mod UpdateLemmas
+pub mod VolumesChangedLemmas

@@ -1,0 +1,2 @@
+pub mod ExecRefusals
+pub mod Feed

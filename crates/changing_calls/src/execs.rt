@@ -1,0 +1,4 @@
+// The calls of execs, one by one.
+pub mod create;
+mod refusal;
+pub mod start;

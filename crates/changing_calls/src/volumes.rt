@@ -1,0 +1,3 @@
+// The calls of volumes, one by one.
+pub mod create;
+pub mod remove;

@@ -1,9 +1,0 @@
-use Rattle.std.proofs.Common.{refl, ap}
-use Rattle.engine_text.specs.declared.reply.Reply.TheVariants.{Answer}
-use Rattle.machine_effects.specs.Held.{container_in}
-use Rattle.container_machine.proofs.RemoveLemmas.{makes_given_up}
-use Rattle.container_machine.proofs.calls.remove.prepare_given_up.Goals as goal
-
-pub returns : goal.returns
-returns c = makes_given_up _ c.args.moment c.args.tables.now.state (container_in c.args.h.now) c.in_ok-kit.kit c.new-events.result.items c.in_ok-event.event
-    c.requires refl refl c.in_ok-kit.ensures (ap (λ b. Answer 204 b) c.new-body.ensures) c.new-events.ensures.items c.in_ok-add.ensures c.in_ok-event.ensures

@@ -1,9 +1,0 @@
-use Rattle.std.proofs.Common.{refl, ap}
-use Rattle.engine_text.specs.declared.reply.Reply.TheVariants.{Answer}
-use Rattle.machine_effects.specs.Held.{container_in}
-use Rattle.container_machine.proofs.RenameLemmas.{makes_rename}
-use Rattle.container_machine.proofs.calls.rename.prepare_free.Goals as goal
-
-pub returns : goal.returns
-returns c = makes_rename _ c.args.moment c.args.tables.now.state (container_in c.args.h.now) c.args.name c.as_str.result.now c.new-events.result.items c.in_ok-event.event
-    c.requires.stands c.requires.free c.as_str.ensures refl refl (ap (λ b. Answer 204 b) c.new-body.ensures) c.new-events.ensures.items c.in_ok-add.ensures c.in_ok-event.ensures

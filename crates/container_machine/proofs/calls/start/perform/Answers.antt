@@ -1,5 +1,0 @@
-use Rattle.container_machine.proofs.StartLemmas.{none_start}
-use Rattle.container_machine.proofs.calls.start.perform.Goals as goal
-
-pub returns-clause-died : goal.returns-clause-died
-returns-clause-died c = none_start c.args.number c.args.tables.now.state

@@ -1,9 +1,0 @@
-use Rattle.std.proofs.Common.{refl, ap}
-use Rattle.engine_text.specs.declared.reply.Reply.TheVariants.{Answer}
-use Rattle.machine_effects.specs.Held.{container_in}
-use Rattle.container_machine.proofs.StartLemmas.{makes_start}
-use Rattle.container_machine.proofs.calls.start.prepare_launch.Goals as goal
-
-pub returns : goal.returns
-returns c = makes_start _ c.args.moment c.args.tables.now.state (container_in c.args.h.now) c.args.script c.new-events.result.items
-    c.requires.stands c.requires.named refl refl (ap (λ b. Answer 204 b) c.new-body.ensures) c.new-events.ensures.items c.in_ok-tell_launch.ensures

@@ -1,6 +1,0 @@
-use Rattle.std.proofs.Common.{◌∙◌}
-use Rattle.machine_effects.proofs.TicketLemmas.{put_answered}
-use Rattle.machine_effects.proofs.tickets.Tickets.answer_at.Goals as goal
-
-pub returns-clause-tickets : goal.returns-clause-tickets
-returns-clause-tickets c = c.put.ensures.tickets ∙ put_answered c.args.fate c.args.number c.answered_at-ready.result c.args.self.now.tickets c.args.place c.requires c.answered_at-ready.ensures

@@ -1,5 +1,0 @@
-use Rattle.machine_effects.proofs.RisingLemmas.{rises_none}
-use Rattle.machine_effects.proofs.tickets.Tickets.new.Goals as goal
-
-pub invariant_of-result : goal.invariant_of-result
-invariant_of-result c = λ _. rises_none _ c.new.ensures.items

@@ -1,0 +1,9 @@
+pub mod LastLemmas
+pub mod LeastDueLemmas
+pub mod LogLemmas
+pub mod MomentPlaceLemmas
+pub mod NameLemmas
+pub mod PlaceLemmas
+pub mod ProcessLemmas
+pub mod RisingLemmas
+pub mod TicketLemmas

@@ -1,0 +1,2 @@
+// The calls of execs, one by one.
+pub mod inspect;

@@ -1,0 +1,3 @@
+// The calls of volumes, one by one.
+pub mod inspect;
+pub mod list;
