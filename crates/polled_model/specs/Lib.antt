@@ -1,5 +1,5 @@
 pub mod Progress
 pub mod Stages
 pub mod Steps
-pub mod Polls
 pub mod Takeovers
+pub mod Polls
