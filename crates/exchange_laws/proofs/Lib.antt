@@ -1,0 +1,9 @@
+pub mod TurnLemmas
+pub mod AnswerLemmas
+pub mod WaitLemmas
+pub mod EarlyLemmas
+pub mod ClassLemmas
+pub mod CallLemmas
+pub mod OpenLemmas
+pub mod ReplyLemmas
+pub mod AttachLemmas

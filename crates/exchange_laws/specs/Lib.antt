@@ -1,0 +1,4 @@
+pub mod Kinds
+pub mod Turns
+pub mod Answers
+pub mod Laws
