@@ -81,6 +81,14 @@ impl<'a, R, D: Door> ManualDoor<'a, R, D> {
     {
         ManualDoor { rt, time, door }
     }
+
+    /// The door below.
+    pub fn into_door(self) -> D
+        ensures { result ≡ self.entry.door }
+    {
+        let ManualDoor { door, .. } = self;
+        door
+    }
 }
 
 impl<'a, R: Wait + time::Clock + Sync, D: Door> Door for ManualDoor<'a, R, D> {
