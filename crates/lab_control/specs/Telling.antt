@@ -6,7 +6,7 @@ use Rattle.manual_clock.specs.declared.moving.MoveFault.TheVariants.{Backwards, 
 use Rattle.lab_control.specs.declared.asking.Move.{Move}
 use Rattle.lab_control.specs.declared.asking.Move.TheVariants.{To, By}
 use Rattle.lab_control.specs.declared.telling.Told.{Told}
-use Rattle.lab_control.specs.declared.telling.Told.TheVariants.{Moment, Refused, NoMove, Stopping, Other}
+use Rattle.lab_control.specs.declared.telling.Told.TheVariants.{Moment, Refused, NoMove, Fixed, NoJournal, Stopping, Other}
 
 -- ---- moves
 
@@ -39,6 +39,12 @@ refusal_text PastGreatest = codes "{\"message\":\"the clock goes up to 900000000
 abbrev pub no_move_text : List ℕ
 no_move_text = codes "{\"message\":\"a move is to=MS or by=MS, and MS has one to 13 decimal digits\"}"
 
+abbrev pub fixed_text : List ℕ
+fixed_text = codes "{\"message\":\"the clock is the system's, and can't be moved\"}"
+
+abbrev pub no_journal_text : List ℕ
+no_journal_text = codes "{\"message\":\"the daemon can't be asked for its journal\"}"
+
 -- what control answers
 abbrev pub list_text : List ℕ
 list_text = codes "{\"message\":\"control answers GET /clock, POST /clock?to=MS, POST /clock?by=MS, GET /journal, GET /openapi.yaml and POST /stop\"}"
@@ -48,6 +54,8 @@ abbrev pub status_of : Told → ℕ
 status_of (Moment moment) = 200
 status_of (Refused fault) = 400
 status_of NoMove = 400
+status_of Fixed = 400
+status_of NoJournal = 500
 status_of Stopping = 200
 status_of Other = 404
 
@@ -55,5 +63,7 @@ abbrev pub text_of : Told → List ℕ
 text_of (Moment moment) = moment_text moment
 text_of (Refused fault) = refusal_text fault
 text_of NoMove = no_move_text
+text_of Fixed = fixed_text
+text_of NoJournal = no_journal_text
 text_of Stopping = codes "{}"
 text_of Other = list_text

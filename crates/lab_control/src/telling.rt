@@ -19,6 +19,10 @@ pub enum Told {
     Refused(MoveFault),
     /// A move isn't told by one number.
     NoMove,
+    /// The clock is the system's.
+    Fixed,
+    /// The daemon can't be asked for its journal.
+    NoJournal,
     /// The program ends.
     Stopping,
     /// Control doesn't answer this.
@@ -55,6 +59,20 @@ fn no_move_text() -> &'static str
     "{\"message\":\"a move is to=MS or by=MS, and MS has one to 13 decimal digits\"}"
 }
 
+/// Tells that the clock is the system's.
+fn fixed_text() -> &'static str
+    ensures { result.now ≡ spec.fixed_text }
+{
+    "{\"message\":\"the clock is the system's, and can't be moved\"}"
+}
+
+/// Tells that the daemon can't be asked for its journal.
+fn no_journal_text() -> &'static str
+    ensures { result.now ≡ spec.no_journal_text }
+{
+    "{\"message\":\"the daemon can't be asked for its journal\"}"
+}
+
 /// Tells what control answers.
 fn list_text() -> &'static str
     ensures { result.now ≡ spec.list_text }
@@ -74,6 +92,8 @@ pub fn write_told<K: Sink>(sink: &mut K, terms: Terms, told: Told) -> Result<(),
         }
         Told::Refused(fault) => write_json(sink, terms, 400, refusal_text(fault).as_bytes()),
         Told::NoMove => write_json(sink, terms, 400, no_move_text().as_bytes()),
+        Told::Fixed => write_json(sink, terms, 400, fixed_text().as_bytes()),
+        Told::NoJournal => write_json(sink, terms, 500, no_journal_text().as_bytes()),
         Told::Stopping => write_json(sink, terms, 200, b"{}"),
         Told::Other => write_json(sink, terms, 404, list_text().as_bytes()),
     }
