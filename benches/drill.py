@@ -6,17 +6,15 @@ Usage: benches/drill.py PATH_OF_ENGINED [PATH_OF_DOCKC]
 The requests of a drill are made here again, so that what a drill takes more than a session of them is its check. With the path of
 dockc, its `replay` of those journals is measured too. It isn't part of the gate.
 """
-import collections
 import functools
-import re
 import struct
 import subprocess
 import sys
 import tempfile
-import threading
 import time
 
-from servers import Client, engined
+from rates import fetch, pour, request, statuses
+from servers import engined
 
 SIZES = (10_000, 100_000)
 OPENING = 1_700_000_000_000
@@ -46,10 +44,6 @@ def block(count, stream):
     return [(one + other) & MASK for one, other in zip(x, begun)]
 
 
-def request(method, path, body=""):
-    return f"{method} {path} HTTP/1.1\r\nHost: x\r\nContent-Length: {len(body)}\r\n\r\n{body}".encode()
-
-
 def drilled(word):
     """The request that a word of the keystream asks for."""
     kind, place = word % 16, word // 16 % 32
@@ -71,10 +65,6 @@ def drilled(word):
 def drill_of(count):
     words = (word for at in range((count + 15) // 16) for word in block(at, STREAM))
     return [drilled(word) for word, _ in zip(words, range(count))]
-
-
-def statuses(text):
-    return collections.Counter(re.findall(rb"HTTP/1.1 (\d{3})", text))
 
 
 def run(line, given=None):
@@ -117,30 +107,14 @@ def drills(path):
     told("the same over --stdio, unchecked,", alone)
 
 
-def pour(server, requests):
-    """Makes requests over a connection of its own, without waiting for answers; gives the count of answers."""
-    client = Client(server.port)
-    text = b"".join(requests) + request("GET", "/_ping").replace(b"Host: x", b"Host: x\r\nConnection: close")
-    sends = threading.Thread(target=client.link.sendall, args=(text,))
-    sends.start()
-    came = []
-    while got := client.link.recv(1 << 20):
-        came.append(got)
-    sends.join()
-    client.link.close()
-    return sum(statuses(b"".join(came)).values()) - 1
-
-
 def journals(path, client_path):
     """A journal of each size, as a listening daemon hands it out, and as `replay` checks it."""
     handed, checked = [], []
     for count in SIZES:
         server = engined(path, *CLOCK)
         pour(server, drill_of(count))
-        client = Client(server.port)
-        begun = time.perf_counter()
-        text = client.ask("GET", "/engine/journal")
-        took, lines = time.perf_counter() - begun, text.count(b"\n")
+        took, text = fetch(server.port, "/engine/journal")
+        lines = text.count(b"\n")
         server.stop()
         print(f"a journal of {lines} lines, {len(text)} bytes: {took:.2f} s, {len(text) / took / 1e6:.1f} MB/s")
         handed.append((lines, took))
@@ -167,7 +141,7 @@ def entries(path):
     ]
     before = server.resident()
     for name, requests in kinds:
-        made = pour(server, requests)
+        made = sum(pour(server, requests).values())
         held = server.resident()
         print(f"{name:44} {(held - before) * 1024 / made:10,.0f} bytes an entry ({made:,} of them)")
         before = held

@@ -12,8 +12,9 @@ import sys
 import tempfile
 import time
 
-from drill import CLOCK, OPENING, drill_of, pour
-from servers import Client, engined
+from drill import CLOCK, OPENING, drill_of
+from rates import fetch, pour
+from servers import engined
 
 LISTS = b"GET /containers/json"
 
@@ -62,13 +63,10 @@ def written(path, count):
         rest = server.resident()
         asked = requests(count)
         begun = time.perf_counter()
-        made = pour(server, asked)
+        made = sum(pour(server, asked).values())
         print(f"{made:,} requests answered: {time.perf_counter() - begun:.2f} s")
         held = server.resident()
-        client = Client(server.port)
-        begun = time.perf_counter()
-        text = client.ask("GET", "/engine/journal")
-        took = time.perf_counter() - begun
+        took, text = fetch(server.port, "/engine/journal")
         lines = text.count(b"\n")
         print(f"a journal of {lines:,} lines, {len(text):,} bytes; its daemon holds {(held - rest) * 1024 / lines:,.0f} bytes a line")
         told("written, by the daemon", lines, took, f"{server.resident() - held} KB more")

@@ -1,29 +1,51 @@
 """What the scripts here share: a client of one kept connection, and the daemons that a script starts, or finds at an address.
 
-Wherever a script takes WHERE, it is the path of engined, or the address of one that listens.
+Wherever a script takes WHERE, it is the path of engined, or the address of one that listens; a name may stand before it, as in
+NAME=127.0.0.1:2375. How often they are asked stands in rates.py, what goes through attaches and to followers in streams.py.
 """
 import io
 import json
 import os
-import re
 import resource
 import shutil
 import socket
 import subprocess
+import sys
 import tarfile
 import tempfile
 import time
 
 
-# A thousand connections and more, of this process and of those that it starts.
-resource.setrlimit(resource.RLIMIT_NOFILE, (min(4096, resource.getrlimit(resource.RLIMIT_NOFILE)[1]),) * 2)
+# Some thousand connections, of this process and of those that it starts.
+resource.setrlimit(resource.RLIMIT_NOFILE, (min(8192, resource.getrlimit(resource.RLIMIT_NOFILE)[1]),) * 2)
+
+NOISE = 4 << 20  # bytes: what a log has room for
+
+TICK = 100  # milliseconds
+
+# The words of the programs that are run, of ours and of an image of busybox.
+OURS = {
+    "line": ["echo", "hi"],
+    "end": ["exit", "0"],
+    "last": ["deaf"],
+    "copy": ["cat"],
+    "noise": ["noise", str(NOISE)],
+    "ticks": ["tick", "0", str(TICK)],
+}
+BUSYBOX = {
+    "line": ["/busybox", "echo", "hi"],
+    "end": ["/busybox", "true"],
+    "last": ["/busybox", "sleep", "100000"],
+    "copy": ["/busybox", "cat"],
+    "noise": ["/busybox", "sh", "-c", f"/busybox yes {'x' * 127} | /busybox head -c {NOISE}"],
+}
 
 
 class Client:
     """One kept connection. A request is sent whole, and its answer read to the end."""
 
     def __init__(self, port):
-        self.link = socket.create_connection(("127.0.0.1", port))
+        self.port, self.link = port, socket.create_connection(("127.0.0.1", port))
         self.link.setsockopt(socket.IPPROTO_TCP, socket.TCP_NODELAY, 1)
         self.ahead = b""
 
@@ -75,9 +97,9 @@ class Client:
             raise SystemExit(f"{method} {path}: {status} {found[:200]!r}")
         return found
 
-    def take_over(self, path):
+    def take_over(self, path, body=b""):
         """A request for the connection itself: from here on it is the peer's stream."""
-        self.send("POST", path, fields=("Connection: Upgrade", "Upgrade: tcp"))
+        self.send("POST", path, body, ("Connection: Upgrade", "Upgrade: tcp"))
         status, _ = self.head()
         if status != 101:
             raise SystemExit(f"{path}: {status}")
@@ -86,20 +108,26 @@ class Client:
 class Server:
     """What answers at a port of this machine."""
 
-    def __init__(self, name, port, started=None, image="engine/tools", room=None):
-        self.name, self.port, self.started, self.image, self.room = name, port, started, image, room
+    def __init__(self, name, port, started=None, words=None, image="", room=None):
+        self.name, self.port, self.started, self.words, self.image, self.room = name, port, started, words, image, room
         self.process = started.pid if started else listener_at(port)
+        self.is_ours = words is OURS
 
     def spec(self, words, **fields):
         """The body of a create."""
         return json.dumps({"Image": self.image, "Cmd": words, **fields})
 
-    def create(self, client, name, words, **fields):
-        client.ask("POST", f"/containers/create?name={name}", self.spec(words, **fields).encode())
+    def create(self, client, name, kind, **fields):
+        """A container of that program."""
+        client.ask("POST", f"/containers/create?name={name}", self.spec(self.words[kind], **fields).encode())
 
     def resident(self):
         """The memory of the process and of those that it started, in KB."""
         return sum(map(resident, family(self.process)))
+
+    def ticks(self):
+        """Seconds of processor time, of the process and of those that it started."""
+        return sum(map(ticks, family(self.process)))
 
     def stop(self):
         if self.started:
@@ -116,12 +144,15 @@ def resident(process):
 
 
 def family(process):
-    """A process and all below it. Threads start processes too."""
+    """A process and all below it. Threads start processes too, and end while one looks."""
     found = [process]
     for thread in os.listdir(f"/proc/{process}/task"):
-        with open(f"/proc/{process}/task/{thread}/children", encoding="ascii") as children:
-            for child in children.read().split():
-                found += family(int(child))
+        try:
+            with open(f"/proc/{process}/task/{thread}/children", encoding="ascii") as children:
+                for child in children.read().split():
+                    found += family(int(child))
+        except OSError:
+            continue
     return found
 
 
@@ -130,6 +161,13 @@ def ticks(process):
     with open(f"/proc/{process}/stat", encoding="ascii") as text:
         fields = text.read().rpartition(")")[2].split()
     return (int(fields[11]) + int(fields[12])) / os.sysconf("SC_CLK_TCK")
+
+
+def used(process, seconds):
+    """The share of one processor over so many seconds."""
+    begun, at = ticks(process), time.monotonic()
+    time.sleep(seconds)
+    return (ticks(process) - begun) / (time.monotonic() - at)
 
 
 def listener_at(port):
@@ -163,16 +201,23 @@ def wait_for(port, tries=100):
     return False
 
 
+def named(where):
+    """A name for what is at WHERE, and the WHERE without one: it is that which was given, or the program's."""
+    name, _, place = where.rpartition("=")
+    return name or (os.path.basename(place) if os.path.exists(place) else "engined"), place
+
+
 def engined(where, *words):
     """The daemon at an address, or a new one of that program."""
-    if not os.path.exists(where):
-        return Server("engined", int(where.rpartition(":")[2]))
+    name, place = named(where)
+    if not os.path.exists(place):
+        return Server(name, int(place.rpartition(":")[2]), None, OURS, "engine/tools")
     port = free_port()
-    line = [os.path.abspath(where), "--listen", f"127.0.0.1:{port}", *words]
+    line = [os.path.abspath(place), "--listen", f"127.0.0.1:{port}", *words]
     started = subprocess.Popen(line, stdin=subprocess.DEVNULL, stdout=subprocess.DEVNULL)
     if not wait_for(port):
-        raise SystemExit("engined didn't come up")
-    return Server("engined", port, started)
+        raise SystemExit(f"{name} didn't come up")
+    return Server(name, port, started, OURS, "engine/tools")
 
 
 def busybox():
@@ -186,17 +231,17 @@ def busybox():
 def docker():
     """Debian's dockerd with an image of busybox; or nothing, and it says why."""
     if not shutil.which("dockerd") or not shutil.which("busybox"):
-        print("no figures of docker.io: dockerd or busybox isn't here (apt-get install docker.io busybox-static)")
+        told("no figures of docker.io: dockerd or busybox isn't here (apt-get install docker.io busybox-static)")
         return None
     room, port = tempfile.mkdtemp(), free_port()
     line = ["dockerd", "-H", f"tcp://127.0.0.1:{port}", "--tls=false", "--data-root", f"{room}/docker", "--exec-root"]
     line += [f"{room}/exec", "--pidfile", f"{room}/docker.pid", "--iptables=false", "--bridge=none"]
     with open(f"{room}/docker.log", "wb") as log:
         started = subprocess.Popen(line, stdin=subprocess.DEVNULL, stdout=log, stderr=log)
-    server = Server("dockerd", port, started, "bench", room)
+    server = Server("dockerd", port, started, BUSYBOX, "bench", room)
     if not wait_for(port, 300):
         with open(f"{room}/docker.log", encoding="utf-8") as log:
-            print(f"no figures of docker.io: dockerd didn't come up: {log.read().splitlines()[-1:]}")
+            told(f"no figures of docker.io: dockerd didn't come up: {log.read().splitlines()[-1:]}")
         server.stop()
         return None
     Client(port).ask("POST", "/images/create?fromSrc=-&repo=bench", busybox())
@@ -204,26 +249,33 @@ def docker():
 
 
 NGINX = """
-worker_processes 1;
+worker_processes auto;
 pid {room}/nginx.pid;
 error_log {room}/nginx.err;
 daemon off;
-events {{ worker_connections 64; }}
+events {{ worker_connections 4096; }}
 http {{
     access_log off;
+    sendfile on;
     keepalive_requests 10000000;
-    server {{ listen 127.0.0.1:{port}; location / {{ default_type text/plain; return 200 "OK"; }} }}
+    server {{
+        listen 127.0.0.1:{port};
+        location / {{ default_type text/plain; return 200 "OK"; }}
+        location = /noise {{ root {room}; }}
+    }}
 }}
 """
 
 
 def nginx():
-    """nginx with a static answer; or nothing, and it says why."""
+    """nginx with a static answer, and with a file as large as a log; or nothing, and it says why."""
     if not shutil.which("nginx"):
-        print("no figures of nginx: it isn't here (apt-get install nginx-light)")
+        told("no figures of nginx: it isn't here (apt-get install nginx-light)")
         return None
     room, port = tempfile.mkdtemp(), free_port()
     os.chmod(room, 0o755)
+    with open(f"{room}/noise", "wb") as file:
+        file.write(b"x" * NOISE)
     with open(f"{room}/nginx.conf", "w", encoding="ascii") as conf:
         conf.write(NGINX.format(room=room, port=port))
     started = subprocess.Popen(["nginx", "-c", f"{room}/nginx.conf"], stderr=subprocess.DEVNULL)
@@ -232,36 +284,6 @@ def nginx():
     return Server("nginx", port, started, room=room)
 
 
-def rate(port, path, seconds, script=None):
-    """Requests a second over one kept connection, by wrk. Each answer has to be one of success."""
-    line = ["wrk", "-t1", "-c1", f"-d{seconds}s", "--timeout", "60s", f"http://127.0.0.1:{port}{path}"]
-    with tempfile.NamedTemporaryFile("w", suffix=".lua") as file:
-        file.write(script or "")
-        file.flush()
-        told = subprocess.run(line + ["-s", file.name], check=True, capture_output=True, text=True).stdout
-    if "Non-2xx" in told or "Socket errors" in told:
-        raise SystemExit(f"{path}: {told}")
-    found = float(re.search(r"Requests/sec: *([\d.]+)", told)[1])
-    if not found:
-        raise SystemExit(f"{path}: no answer in {seconds} s")
-    return found
-
-
-# Requests in a circle, with the number of the round in their paths. The first that is made is one that wrk only looks at.
-CIRCLE = """
-local steps = {{ {steps} }}
-local count, looked = 0, false
-function request()
-   local method, path, body = unpack(steps[count % #steps + 1])
-   path = string.format(path, math.floor(count / #steps))
-   if looked then count = count + 1 end
-   looked = true
-   return wrk.format(method, path, {{ ["Content-Type"] = "application/json" }}, body)
-end
-"""
-
-
-def rounds(port, seconds, *steps):
-    """Rounds a second of requests in a circle: each a method, a path, and a body or none."""
-    told = ", ".join(f"{{ {json.dumps(method)}, {json.dumps(path)}, [==[{body}]==] }}" for method, path, body in steps)
-    return rate(port, "/", seconds, CIRCLE.format(steps=told)) / len(steps)
+def told(line):
+    """What a reader of the figures needn't see."""
+    print(line, file=sys.stderr, flush=True)
