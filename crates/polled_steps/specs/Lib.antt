@@ -1,0 +1,5 @@
+pub mod Room
+pub mod Bytes
+pub mod Answers
+pub mod Turning
+pub mod Sending
