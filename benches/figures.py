@@ -25,7 +25,8 @@ import time
 from asked import SECONDS, Asked
 from rates import fetch, in_turn, pour, rate, request
 from servers import TICK, docker, engined, named, nginx, told
-from streams import arrivals, attached, delays, exec_attached, exec_detached, followed, idle, payload, there_and_back, through, waiters
+from streams import arrivals, attached, delays, exec_attached, exec_detached, followed, idle, pauses, payload
+from streams import there_and_back, through, waiters
 from tables import ROWS, Figures
 
 QUIET = 5  # seconds in which what waits is looked at
@@ -151,7 +152,7 @@ def follow(figures, asks, size):
     for name, asked in asks.items():
         feed = attached(asked.server, asked.mark + "feed", "stdin")
         follower = followed(asked.server.port, asked.box("feed", "/logs?follow=1&stdout=1"))
-        took = delays(feed, follower, size.writes, 0.03)
+        took = delays(feed, follower, size.writes)
         figures.note("follower", name, statistics.median(took))
         figures.note("follower_most", name, max(took))
         held += [feed, follower.link]
@@ -180,9 +181,9 @@ def events(figures, name, asked, size):
     renames = [("POST", asked.box(f"e{at}", f"/rename?name={asked.mark}e{at + 1}")) for at in range(alone + count)]
     links = [followed(asked.server.port, "/events").link for _ in range(size.followers)]
     took = []
-    for rename in renames[:alone]:
+    for at in pauses(alone):
         begun = time.monotonic()
-        asked.client.ask(*rename)
+        asked.client.ask(*renames[at])
         took.append(arrivals(links, RENAMED, 1, begun)[1])
     figures.note("event", name, statistics.median(took))
     begun, sends = time.monotonic(), threading.Thread(target=pour, args=(asked.server, [request(*rename) for rename in renames[alone:]]))

@@ -101,11 +101,17 @@ def followed(port, path):
     return client
 
 
-def delays(feed, follower, count, pause):
-    """The milliseconds from each of so many writes to its line at the follower, each behind another pause."""
-    took = []
+def pauses(count, seconds=0.05):
+    """So many pauses one behind the other, of one to two times as long, spread evenly: so what looks every 50 ms isn't always met alike."""
     for number in range(count):
-        time.sleep(pause * (1 + number * 7 % 10 / 10))
+        time.sleep(seconds * (1 + number * 7 % count / count))
+        yield number
+
+
+def delays(feed, follower, count):
+    """The milliseconds from each of so many writes to its line at the follower."""
+    took = []
+    for number in pauses(count):
         line = b"line %d\n" % number
         begun = time.perf_counter()
         feed.sendall(line)

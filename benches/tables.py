@@ -46,7 +46,7 @@ ROWS = {
     "exec_memory": ("memory of an exec, with its event and entry", "bytes"),
     "event_memory": ("memory of an event", "bytes"),
     "entry": ("memory of an entry of the journal", "bytes"),
-    "record": ("memory of a log's record of 5 bytes, with its step", "bytes"),
+    "record": ("memory of a log's record of 5 bytes", "bytes"),
     "idle": ("memory of an idle connection", "KB"),
 }
 
@@ -115,7 +115,7 @@ def line(cells):
 
 
 def shown(figure):
-    """A figure with three digits or more, or nothing."""
+    """A figure with three digits or more, of small ones with two; or nothing."""
     if figure is None:
         return ""
-    return f"{figure:,.0f}" if figure >= 100 else f"{figure:.1f}" if figure >= 10 else f"{figure:.2f}"
+    return f"{figure:,.0f}" if figure >= 100 else f"{figure:.1f}" if figure >= 10 else f"{figure:.2f}" if figure >= 0.1 else f"{figure:.2g}"
