@@ -6,6 +6,7 @@ mod table;
 mod texts;
 mod writing;
 
+pub use path::path_of;
 pub use table::{Network, Row, row_of};
 pub use texts::{status_of, text_of};
 pub use writing::write_row;

@@ -62,7 +62,7 @@ fn behind_version(path: &str) -> &str
 }
 
 /// The path without its first slash and its version.
-pub(crate) fn path_of(target: &str) -> Option<&str>
+pub fn path_of(target: &str) -> Option<&str>
     ensures { option_map (λ p. p.now) result ≡ spec.path_of target.now }
 {
     let (path, _) = cut_at(target, '?');

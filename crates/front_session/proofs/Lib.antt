@@ -1,0 +1,6 @@
+mod ProgressLemmas
+mod BytesLemmas
+mod LookLemmas
+mod HandLemmas
+mod ReadLemmas
+mod LawLemmas

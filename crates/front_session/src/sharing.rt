@@ -1,0 +1,94 @@
+// A connection's sink, which its front and its session share.
+ghost use Rattle.std.specs.Prelude.{◌≡◌, IfOk};
+ghost use Rattle.engine_ports.specs.Sink.{untold_sink};
+ghost use Rattle.front_session.specs.Sharing.{sink_over};
+
+use engine_ports::{Failed, NoMemory, Sink};
+use std::alloc::Global;
+use std::sync::{Arc, Mutex, Wait};
+
+/// A sink behind a lock, as one of those who share it sees it: it tells no bytes, and counts the faults of its own
+/// calls.
+#[derive(Drop)]
+pub struct SharedSink<'a, R, K> {
+    rt: &'a R,
+    sink: Arc<Mutex<Option<K>>, Global>,
+    pub(crate) faults: u64,
+}
+
+impl<'a, R: Wait, K: Drop> SharedSink<'a, R, K> {
+    /// Two that share the place of a sink.
+    pub fn pair(
+        rt: &'a R,
+        alloc: Global,
+    ) -> Result<(SharedSink<'a, R, K>, SharedSink<'a, R, K>), NoMemory>
+        ensures { IfOk result (λ r. (sink_over r.0 ≡ untold_sink)
+            × (sink_over r.1 ≡ untold_sink)) }
+    {
+        let sink = Arc::new(alloc, Mutex::new(None))?;
+        let again = Arc::try_clone(&sink)?;
+        Ok((
+            SharedSink {
+                rt,
+                sink,
+                faults: 0,
+            },
+            SharedSink {
+                rt,
+                sink: again,
+                faults: 0,
+            },
+        ))
+    }
+
+    /// Puts a sink into the place. It takes no memory.
+    pub fn put(&self, sink: K) {
+        let mut held = self.sink.lock(self.rt);
+        *held = Some(sink);
+    }
+
+    /// Takes the sink out of it.
+    pub fn take(&self) -> Option<K> {
+        self.sink.lock(self.rt).take()
+    }
+}
+
+impl<R: Wait + Sync, K: Sink + Drop> Sink for SharedSink<'_, R, K> {
+    ghost use Rattle.front_session.specs.Sharing.{sink_over};
+
+    ghost takes = { sink_over };
+
+    // It may wait.
+    fn write(&mut self, piece: &[u8]) -> Result<(), Failed> {
+        let written = match &mut *self.sink.lock(self.rt) {
+            Some(sink) => sink.write(piece),
+            None => Err(Failed),
+        };
+        if written.is_err() {
+            self.faults = self.faults.saturating_add(1);
+        }
+        written
+    }
+
+    fn probe(&mut self) -> Result<(), Failed> {
+        let there = match &mut *self.sink.lock(self.rt) {
+            Some(sink) => sink.probe(),
+            None => Err(Failed),
+        };
+        if there.is_err() {
+            self.faults = self.faults.saturating_add(1);
+        }
+        there
+    }
+
+    fn finish(&mut self) -> Result<(), Failed> {
+        let finished = match &mut *self.sink.lock(self.rt) {
+            Some(sink) => sink.finish(),
+            None => Err(Failed),
+        };
+        if finished.is_err() {
+            self.faults = self.faults.saturating_add(1);
+        }
+        finished
+    }
+}
