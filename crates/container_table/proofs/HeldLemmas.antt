@@ -1,6 +1,6 @@
 -- Containers by number, and the indexes of a table.
 use Rattle.std.proofs.Common.{◌≡◌, ℕ, suc, zero, ◌<◌, ◌≤◌, Bool, true, false, if◌then◌else◌, List, [], ◌∷◌, ◌++◌, length, get_or, take, drop, map, Option, Some, None, Result, Ok, Err, find, refl, sym, ◌∙◌, subst, ap, arith, Ordering, MatchResult}
-use Rattle.std.specs.Prelude.{◌==◌, ◌-◌, ◌&&◌, nat_lt, slice_get}
+use Rattle.std.specs.Prelude.{◌==◌, ◌&&◌, nat_lt}
 use Rattle.std.specs.List.{AllByRecursion, AllWithin, remove}
 use Rattle.std.proofs.Math.ListN.{set}
 use Rattle.std.specs.List.Sorted.{IsBinarySearchResult, IsNonDecreasingBy, IsSearchInRange}
@@ -10,7 +10,6 @@ use Rattle.std.proofs.lemmas.Cmp.{nat_cmp_total, nat_list_cmp_total}
 use Rattle.std.proofs.lemmas.List.{length-map}
 use Rattle.std.proofs.lemmas.List.Sorted.{ranks_by, IsStrictWeakOrder-by_number}
 use Rattle.std.proofs.lemmas.Bool.Decides.{nat_tests}
-use Rattle.std.proofs.lemmas.Option.{slice_get_within, get_or_from_slice_get}
 use Rattle.std.specs.declared.boxed.Box.{Box}
 use Rattle.std.specs.declared.cmp.Ordering.TheVariants.{Less, Equal, Greater}
 use Rattle.engine_text.specs.declared.container.Container.{Container}
@@ -275,10 +274,9 @@ above_at n (x ∷ y ∷ bs) zero b h e = absurd (omega (arith, e))
 above_at n (x ∷ y ∷ bs) (suc i) b h e = below_more n (container_in x.value) (container_in y.value) (contents bs) h.0.0 ∙ above_at n (y ∷ bs) i b h.1 (omega (arith, e))
 
 -- Of containers in order of number the last tells it for all.
-pub above_last : {Z : Type 0} (n : ℕ) (bs : List (Box Held Z)) (b : Box Held Z) → IsInOrder is_numbered_before (contents bs) → Some b ≡ slice_get bs (length bs - 1) → is_above n (contents bs) ≡ nat_lt b.value.container.number n
-above_last n bs b h e =
-    let within : length bs - 1 < length bs = slice_get_within bs (length bs - 1) b (sym e) in
-    above_at n bs (length bs - 1) b h (omega (arith, within)) ∙ ap (λ x. nat_lt x.value.container.number n) (get_or_from_slice_get bs (length bs - 1) b b (sym e))
+pub above_last : {Z : Type 0} (n : ℕ) (bs : List (Box Held Z)) (i : ℕ) (b : Box Held Z) → IsInOrder is_numbered_before (contents bs) → length bs ≡ suc i → b ≡ get_or bs i b
+    → is_above n (contents bs) ≡ nat_lt b.value.container.number n
+above_last n bs i b h last is = above_at n bs i b h last ∙ ap (λ x. nat_lt x.value.container.number n) (sym is)
 
 pub all_above : (n : ℕ) (cs : List Container) → is_above n cs ≡ true → AllByRecursion (λ c. c.number < n) cs
 all_above n [] e = tt

@@ -1,5 +1,5 @@
 -- Items in rows of one length (own: so that a change moves few of them).
-use Rattle.std.specs.Prelude.{◌≡◌, ℕ, ◌<◌, ◌≤◌, List, [], ◌∷◌, ◌++◌, length}
+use Rattle.std.specs.Prelude.{◌≡◌, ℕ, ◌<◌, ◌≤◌, List, [], ◌∷◌, ◌++◌, length, slice_set}
 use Rattle.std.specs.VecDeque.{deque_capacity}
 use Rattle.std.specs.declared.collections.VecDeque.{VecDeque}
 
@@ -7,6 +7,10 @@ use Rattle.std.specs.declared.collections.VecDeque.{VecDeque}
 pub record Listed (T : Type 0) : Type 0 where
   pub items : List T
   pub places : ℕ
+
+-- With that item at i, in the place of the one that stands there.
+abbrev pub with_item_at : {T : Type 0} → Listed T → ℕ → T → Listed T
+with_item_at l i x = record l { items = slice_set l.items i x }
 
 -- How many items a row holds.
 abbrev pub row_length : ℕ

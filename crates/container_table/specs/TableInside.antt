@@ -7,7 +7,7 @@ use Rattle.container_table.specs.declared.table.Table.TheInside.{Inside}
 
 -- For how many containers there are boxes.
 abbrev pub boxes : Inside → ℕ
-boxes a = vec_len a.boxes.list + vec_len a.spare
+boxes a = length a.boxes.list.items + vec_len a.spare
 
 -- The containers with the room of their logs, the timers, and for how many of each there is memory.
 abbrev pub holdings_of : Inside → Holdings
@@ -24,10 +24,10 @@ pub record IsKept (a : Inside) : Type 0 where
   pub boxed : IsBoxed a.boxes
   pub ids : IsIndex Id (contents a.boxes.list.items) a.ids.items
   pub names : IsIndex Name (contents a.boxes.list.items) a.names.items
-  pub numbers_len : length a.boxes.numbers.items ≡ vec_len a.boxes.list
-  pub ids_len : length a.ids.items ≡ vec_len a.boxes.list
-  pub names_len : length a.names.items ≡ vec_len a.boxes.list
-  pub list_room : boxes a ≤ vec_capacity a.boxes.list
+  pub numbers_len : length a.boxes.numbers.items ≡ length a.boxes.list.items
+  pub ids_len : length a.ids.items ≡ length a.boxes.list.items
+  pub names_len : length a.names.items ≡ length a.boxes.list.items
+  pub list_room : boxes a ≤ a.boxes.list.places
   pub numbers_room : boxes a ≤ a.boxes.numbers.places
   pub spare_room : boxes a ≤ vec_capacity a.spare
   pub ids_room : boxes a ≤ a.ids.places

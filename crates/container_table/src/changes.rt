@@ -140,7 +140,7 @@ impl Table {
         ensures timer_places { self.new.timer_places ≡ self.old.timer_places }
     {
         match entries::place_of(&self.boxes, number) {
-            Ok(i) => boxes::reserve_record(&mut self.boxes, i, number),
+            Ok(i) => boxes::reserve_record(&mut self.boxes, *self.spare.allocator(), i, number),
             Err(_) => Ok(()),
         }
     }

@@ -139,10 +139,11 @@ pub fn is_above(held: &Boxes, number: u64) -> bool
     ensures all { IsTrue result → AllByRecursion (λ c. c.number < number)
         (contents held.now.list.items) }
 {
-    match held.list.as_slice().last() {
-        None => true,
-        Some(last) => last.container.number < number,
+    let count = held.list.len();
+    if count == 0 {
+        return true;
     }
+    held.list.at(count - 1).container.number < number
 }
 
 /// The container of that number, which stands at i.
@@ -154,7 +155,7 @@ pub fn held_at(held: &Boxes, i: usize, number: u64) -> &Held
         ≡ Some (container_in result.now) }
     ensures number { result.now.container.number ≡ number }
 {
-    &held.list[i]
+    held.list.at(i)
 }
 
 /// The container of that number.

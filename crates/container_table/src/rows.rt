@@ -1,7 +1,8 @@
 // Items in rows of one length: a change moves what stands behind in its row, and one of each row behind.
-ghost use Rattle.std.specs.Prelude.{◌≡◌, ◌+◌, ◌*◌, ◌^◌, ◌<◌, ◌≤◌, [], ◌∷◌, length, MatchOption, OnOk, slice_index_or, vec_len};
+ghost use Rattle.std.specs.Prelude.{◌≡◌, ◌+◌, ◌*◌, ◌^◌, ◌<◌, ◌≤◌, [], ◌∷◌, ◌++◌, length, MatchOption, OnOk, slice_get, slice_index_or, vec_len};
 ghost use Rattle.std.specs.List.{insert, remove};
-ghost use Rattle.container_table.specs.Rows.{joined, AreRows};
+ghost use Rattle.std.specs.Borrow.{Lends, sem};
+ghost use Rattle.container_table.specs.Rows.{joined, AreRows, with_item_at};
 
 use engine_text::NoMemory;
 use std::alloc::Global;
@@ -56,7 +57,7 @@ fn put<T: Copy>(rows: &mut [VecDeque<T>], i: usize, item: T)
 }
 
 // Takes the first item out; that of each row behind goes to the end of the row before.
-fn take_first<T: Copy>(rows: &mut [VecDeque<T>]) -> Option<T>
+fn take_first<T>(rows: &mut [VecDeque<T>]) -> Option<T>
     requires { AreRows rows.old }
     ensures rows { AreRows rows.new }
     ensures items { MatchOption result ((joined rows.old ≡ []) × (joined rows.new ≡ []))
@@ -71,31 +72,26 @@ fn take_first<T: Copy>(rows: &mut [VecDeque<T>]) -> Option<T>
 }
 
 // Takes the item at that place out; the first of each row behind goes to the end of the row before.
-fn take_out<T: Copy>(rows: &mut [VecDeque<T>], i: usize)
+fn take_out<T>(rows: &mut [VecDeque<T>], i: usize) -> Option<T>
     requires rows { AreRows rows.old }
     requires place { i < length (joined rows.old) }
+    ensures value { result ≡ slice_get (joined rows.old) i }
     ensures rows { AreRows rows.new }
     ensures items { joined rows.new ≡ remove (joined rows.old) i }
 {
-    let Some((row, rest)) = rows.split_first_mut() else {
-        return;
-    };
+    let (row, rest) = rows.split_first_mut()?;
     if ROW <= i {
-        take_out(rest, i - ROW);
-        return;
+        return take_out(rest, i - ROW);
     }
-    let _ = row.remove(i);
+    let item = row.remove(i)?;
     if let Some(next) = take_first(rest) {
         row.push_back_reserved(next);
     }
+    Some(item)
 }
 
 // Makes empty rows, up to so many.
-fn add_rows<T: Copy>(
-    rows: &mut Vec<VecDeque<T>>,
-    alloc: Global,
-    count: usize,
-) -> Result<(), NoMemory>
+fn add_rows<T>(rows: &mut Vec<VecDeque<T>>, alloc: Global, count: usize) -> Result<(), NoMemory>
     requires rows { AreRows rows.old.items }
     requires few { vec_len rows.old < 2 ^ 52 }
     requires count { count < 2 ^ 52 }
@@ -106,14 +102,16 @@ fn add_rows<T: Copy>(
     ensures ok { OnOk result (count ≤ vec_len rows.new) }
 {
     while rows.len() < count {
-        let row = VecDeque::with_capacity(alloc, ROW)?;
         rows.reserve(1)?;
+        let row = VecDeque::with_capacity(alloc, ROW)?;
         rows.push_reserved(row);
     }
     Ok(())
 }
 
-impl<T: Copy> Rows<T> {
+impl<T> Rows<T> {
+    ghost use Rattle.container_table.specs.contracts.rows.Rows.{the_row};
+
     /// No item; it takes no memory.
     pub fn new(alloc: Global) -> Rows<T>
         ensures items { result.items ≡ [] }
@@ -140,6 +138,17 @@ impl<T: Copy> Rows<T> {
         &self.rows[i / ROW][i % ROW]
     }
 
+    /// The item at that place, to be changed.
+    pub fn at_mut(&mut self, i: usize) -> &mut T
+        requires { i < length self.old.items }
+        ensures* lends { sem 𝓛
+            (Lends (the_row T.row) T.row self.entry result (with_item_at self.old i)) }
+        ensures value { result.now ≡ slice_index_or self.old.items i result.now }
+    {
+        let row = &mut self.rows[i / ROW];
+        &mut row[i % ROW]
+    }
+
     /// Makes room for n items more.
     pub fn reserve(&mut self, alloc: Global, n: usize) -> Result<(), NoMemory>
         ensures items { self.new.items ≡ self.old.items }
@@ -153,6 +162,29 @@ impl<T: Copy> Rows<T> {
         add_rows(&mut self.rows, alloc, wanted / ROW + 1)
     }
 
+    /// Adds an item at the end; it takes no memory.
+    pub fn push(&mut self, item: T)
+        requires { length self.old.items < self.old.places }
+        ensures items { self.new.items ≡ self.old.items ++ item ∷ [] }
+        ensures places { self.new.places ≡ self.old.places }
+    {
+        self.rows[self.len / ROW].push_back_reserved(item);
+        self.len += 1;
+    }
+
+    /// Takes the item at that place out.
+    pub fn remove(&mut self, i: usize) -> T
+        requires { i < length self.old.items }
+        ensures value { result ≡ slice_index_or self.old.items i result }
+        ensures items { self.new.items ≡ remove self.old.items i }
+        ensures places { self.new.places ≡ self.old.places }
+    {
+        self.len -= 1;
+        take_out(self.rows.as_mut_slice(), i).unwrap()
+    }
+}
+
+impl<T: Copy> Rows<T> {
     /// Puts an item at that place; it takes no memory.
     pub fn insert(&mut self, i: usize, item: T)
         requires place { i ≤ length self.old.items }
@@ -162,15 +194,5 @@ impl<T: Copy> Rows<T> {
     {
         put(self.rows.as_mut_slice(), i, item);
         self.len += 1;
-    }
-
-    /// Takes the item at that place out.
-    pub fn remove(&mut self, i: usize)
-        requires { i < length self.old.items }
-        ensures items { self.new.items ≡ remove self.old.items i }
-        ensures places { self.new.places ≡ self.old.places }
-    {
-        take_out(self.rows.as_mut_slice(), i);
-        self.len -= 1;
     }
 }

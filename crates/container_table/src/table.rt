@@ -48,7 +48,7 @@ impl Table {
     {
         Table {
             boxes: Boxes {
-                list: Vec::new(alloc),
+                list: Rows::new(alloc),
                 numbers: Rows::new(alloc),
             },
             spare: Vec::new(alloc),
@@ -94,7 +94,7 @@ impl Table {
         requires { place < length self.now.containers }
         ensures { slice_get self.now.containers place ≡ Some (container_in result.now) }
     {
-        &self.boxes.list[place]
+        self.boxes.list.at(place)
     }
 
     /// Whether a container of that number, id and name can be added: the number is above the others,

@@ -31,6 +31,10 @@ returns-clause-numbers c =
     ∙ ap numbers_of (sym (contents_removed (λ d. d.number == c.args.number) c.args.boxes.now.list.items c.args.i (numbers_alone c.args.number (contents c.args.boxes.now.list.items) c.requires.boxed.order) c.requires.place))
     ∙ ap (λ bs. numbers_of (contents bs)) (sym c.remove-place.ensures.items)
 
+pub returns-clause-len : goal.returns-clause-len
+returns-clause-len c =
+    ap (λ bs. length bs + 1) c.remove-place.ensures.items ∙ length-remove c.args.boxes.now.list.items c.args.i c.requires.bound
+
 pub returns-clause-numbers_len : goal.returns-clause-numbers_len
 returns-clause-numbers_len c =
     ap (λ (ns : List ℕ). length ns + 1) c.remove.ensures.items ∙ length-remove c.args.boxes.now.numbers.items c.args.i (omega (arith, c.requires.len, c.requires.bound))

@@ -1,5 +1,4 @@
-use Rattle.std.proofs.Common.{◌≡◌, ◌<◌, List, Option, Some, ◌∙◌, sym, ap, subst, arith, length}
-use Rattle.std.specs.Prelude.{OnSome}
+use Rattle.std.proofs.Common.{◌≡◌, ◌<◌, List, ◌∙◌, sym, ap, subst, arith, length}
 use Rattle.std.specs.List.{remove}
 use Rattle.std.specs.VecDeque.{deque_len}
 use Rattle.engine_text.specs.declared.step.DueAction.{DueAction}
