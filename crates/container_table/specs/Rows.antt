@@ -14,7 +14,7 @@ with_item_at l i x = record l { items = slice_set l.items i x }
 
 -- How many items a row holds.
 abbrev pub row_length : ℕ
-row_length = 4096
+row_length = 2048
 
 -- The items of these rows, in order.
 abbrev pub joined : {T Z : Type 0} → List (VecDeque T Z) → List T

@@ -10,5 +10,5 @@ listed_of a = record { items = joined a.rows.items; places = row_length * vec_le
 -- The rows are such rows, their items are counted, and all places have numbers.
 pub record IsFilled {T : Type 0} (a : Inside T) : Type 0 where
   pub rows : AreRows a.rows.items
-  pub few : vec_len a.rows < 2 ^ 52
+  pub few : vec_len a.rows < 2 ^ 53
   pub counted : a.len ≡ length (joined a.rows.items)

@@ -10,7 +10,7 @@ use std::collections::VecDeque;
 use std::marker::Model;
 
 // How many items a row holds.
-const ROW: usize = 4_096;
+const ROW: usize = 2_048;
 
 /// Items in rows, which are full but for the last one that isn't empty.
 #[derive(Drop)]
@@ -35,7 +35,7 @@ impl<T> Model for Rows<T> {
 fn put<T: Copy>(rows: &mut [VecDeque<T>], i: usize, item: T)
     requires rows { AreRows rows.old }
     requires place { i ≤ length (joined rows.old) }
-    requires room { length (joined rows.old) < 4096 * length rows.old }
+    requires room { length (joined rows.old) < 2048 * length rows.old }
     ensures rows { AreRows rows.new }
     ensures items { joined rows.new ≡ insert (joined rows.old) i item }
 {
@@ -93,11 +93,11 @@ fn take_out<T>(rows: &mut [VecDeque<T>], i: usize) -> Option<T>
 // Makes empty rows, up to so many.
 fn add_rows<T>(rows: &mut Vec<VecDeque<T>>, alloc: Global, count: usize) -> Result<(), NoMemory>
     requires rows { AreRows rows.old.items }
-    requires few { vec_len rows.old < 2 ^ 52 }
-    requires count { count < 2 ^ 52 }
+    requires few { vec_len rows.old < 2 ^ 53 }
+    requires count { count < 2 ^ 53 }
     ensures rows { AreRows rows.new.items }
     ensures items { joined rows.new.items ≡ joined rows.old.items }
-    ensures few { vec_len rows.new < 2 ^ 52 }
+    ensures few { vec_len rows.new < 2 ^ 53 }
     ensures len { vec_len rows.old ≤ vec_len rows.new }
     ensures ok { OnOk result (count ≤ vec_len rows.new) }
 {

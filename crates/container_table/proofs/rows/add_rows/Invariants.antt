@@ -7,7 +7,7 @@ invariant-loop-alloc g l =
     record {
       rows : AreRows l.rows.items;
       items : joined l.rows.items ≡ joined l.initial.rows.items;
-      few : vec_len l.rows < 2 ^ 52;
+      few : vec_len l.rows < 2 ^ 53;
       len : vec_len l.initial.rows ≤ vec_len l.rows;
     }
 

@@ -15,7 +15,7 @@ index-requires-2 g c =
     let rows = c.self.inside.rows.items in
     let within : c.args.i < length (joined rows) = subst (λ l. c.args.i < length l) (sym (ap (λ l. l.items) c.self.view_is)) c.requires in
     let there = item_there rows c.args.i c.index.result.now c.self.invariant.rows within in
-    let low : c.args.i % 4096 < length c.index.result.now.items = subst (λ q. c.args.i % 4096 < length q.items) (sym c.index.ensures) there.0 in
+    let low : c.args.i % 2048 < length c.index.result.now.items = subst (λ q. c.args.i % 2048 < length q.items) (sym c.index.ensures) there.0 in
     omega (arith, low, c.index.result.now.ok)
 
 pub returns : goal.returns
@@ -25,4 +25,4 @@ returns g c =
     let within : c.args.i < length (joined rows) = subst (λ l. c.args.i < length l) (sym is) c.requires in
     let there = item_there rows c.args.i c.index.result.now c.self.invariant.rows within in
     let d = c.index-2.result.now in
-    c.index-2.ensures ∙ ap (λ q. slice_index_or q.items (c.args.i % 4096) d) c.index.ensures ∙ sym (there.1 d) ∙ ap (λ l. slice_index_or l c.args.i d) is
+    c.index-2.ensures ∙ ap (λ q. slice_index_or q.items (c.args.i % 2048) d) c.index.ensures ∙ sym (there.1 d) ∙ ap (λ l. slice_index_or l c.args.i d) is
