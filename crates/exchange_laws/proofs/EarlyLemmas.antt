@@ -1,5 +1,5 @@
 -- A request whose call gave a ticket, and whose head came before the wait for it was over.
-use Rattle.std.proofs.Common.{◌≡◌, ◌<◌, length, ℕ, List, [], ◌∷◌, ◌++◌, append-nil, append_assoc, refl, sym, ◌∙◌, subst, arith, if◌then◌else◌, None}
+use Rattle.std.proofs.Common.{◌≡◌, ◌<◌, length, ℕ, List, [], ◌∷◌, ◌++◌, append-nil, append_assoc, refl, sym, ◌∙◌, subst, arith, if◌then◌else◌}
 use Rattle.std.specs.Prelude.{IsTrue}
 use Rattle.std.proofs.lemmas.Bool.{false≢true}
 use Rattle.std.proofs.lemmas.List.Elements.{All-nil, All-cons}
@@ -17,16 +17,17 @@ use Rattle.session_model.specs.declared.followed.Followed.{Followed}
 use Rattle.session_model.specs.declared.followed.Followed.TheVariants as F
 use Rattle.session_model.specs.declared.turned.Awaited.{Awaited}
 use Rattle.session_model.specs.declared.turned.Turned.TheVariants as T
-use Rattle.session_model.specs.Exchange.{Leaves, flow_behind, is_early, is_whole, BreaksWait, IsMade, IsAnswered, IsSentInChunks, InChunks, OfWait, OfBrokenWait}
+use Rattle.session_model.specs.Exchange.{flow_behind, is_early, is_whole, BreaksWait, IsMade, IsAnswered, IsSentInChunks, InChunks, OfWait, OfBrokenWait}
 use Rattle.session_model.specs.Pass.{PassView}
 use Rattle.session_model.specs.Progress.{Moves}
 use Rattle.session_model.specs.Responses.{terms_of, early_head}
 use Rattle.session_model.proofs.TurnLemmas.{moves_on}
 use Rattle.attach_hub.specs.Waiting.{AwaitSays, IsDropped}
 use Rattle.attach_hub.proofs.StatusLemmas.{wait_status}
-use Rattle.exchange_laws.specs.Answers.{Answers, one_chunk}
+use Rattle.exchange_laws.specs.Answers.{Answers, broken_flow, one_chunk}
 use Rattle.exchange_laws.specs.Laws.{law_early_waits}
 use Rattle.exchange_laws.specs.Turns.{TurnComes}
+use Rattle.exchange_laws.proofs.AnswerLemmas.{as_told}
 use Rattle.exchange_laws.proofs.WaitLemmas.{wait_dropped, wait_taken}
 
 -- ---- its body
@@ -59,7 +60,7 @@ in_chunks : (ch : Charter) (k : ℕ) (r : Request) (behind : List ℕ) (a b : Li
     → w ≡ head ++ chunks ++ (if is_whole f then last_chunk else []) → IsSentInChunks ch k r behind a b f head body ms → IsChunked body chunks
     → IsAnswered ch k r behind a b (flow_behind (terms_of r) f) w ms
 in_chunks ch k r behind a b f head body chunks w ms is row cut =
-    subst (λ x. IsAnswered ch k r behind a b (flow_behind (terms_of r) f) x ms) (sym is) (InChunks f head body chunks ms row cut)
+    as_told ch k r behind a b _ _ w _ ms ms refl is refl (InChunks f head body chunks ms row cut)
 
 -- nothing but the head
 bare : (head : List ℕ) → head ≡ head ++ [] ++ []
@@ -67,7 +68,7 @@ bare head = sym (append-nil (head ++ []) ∙ append-nil head)
 
 -- a wait that was broken off isn't whole, and has no body
 broken_row : (ch : Charter) (k : ℕ) (r : Request) (behind : List ℕ) (a b : List Step) (f : Followed) (head ms : List ℕ) → BreaksWait f
-    → IsSentInChunks ch k r behind a b f head [] ms → IsAnswered ch k r behind a b (Leaves f None) head ms
+    → IsSentInChunks ch k r behind a b f head [] ms → IsAnswered ch k r behind a b (broken_flow f) head ms
 broken_row ch k r behind a b F.Stopped head ms broke row = in_chunks ch k r behind a b F.Stopped head [] [] head ms (bare head) row (is_chunked [])
 broken_row ch k r behind a b F.WriteFault head ms broke row = in_chunks ch k r behind a b F.WriteFault head [] [] head ms (bare head) row (is_chunked [])
 broken_row ch k r behind a b F.NoMemory head ms broke row = in_chunks ch k r behind a b F.NoMemory head [] [] head ms (bare head) row (is_chunked [])
@@ -78,11 +79,11 @@ broken_row ch k r behind a b (F.Lagged next first) head ms broke row = absurd br
 pub broke_off : (k handed n : ℕ) (r : Request) (c : Call) (f : Followed) (whole : List ℕ) (p q s : PassView) (u v w : ClockView)
     → class_of r ≡ Ask c → IsTrue (is_early r c) → TurnComes k handed c (T.Begun n) p q u v → Moves k q s v w
     → IsDropped p.charter k n q.seen s.seen → BreaksWait f → whole ≡ early_head (terms_of r)
-    → Answers k r (Leaves f None) whole p s u w
+    → Answers k r (broken_flow f) whole p s u w
 unfolding moves_on
 broke_off k handed n r c f whole p q s u v w class early first last dropped breaks bytes = record {
   moves = moves_on k p q s u v w first.moves last;
-  answer = λ behind. subst (λ x. IsAnswered p.charter k r behind p.seen s.seen (Leaves f None) x (first.moves.handed ++ last.handed)) (sym bytes)
+  answer = λ behind. as_told p.charter k r behind p.seen s.seen _ _ whole _ _ _ refl bytes refl
       (broken_row p.charter k r behind p.seen s.seen f (early_head (terms_of r)) (first.moves.handed ++ last.handed) breaks
       (OfBrokenWait c f (first.moves.handed ++ last.handed) class early breaks (wait_dropped k handed n c p q s u v last.handed first dropped)));
 }

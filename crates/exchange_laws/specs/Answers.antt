@@ -4,6 +4,7 @@ use Rattle.engine_ports.specs.Clock.{ClockView}
 use Rattle.engine_text.specs.declared.reply.Reply.TheVariants.{Answer}
 use Rattle.http_edge.specs.Chunks.{chunk_text, last_chunk}
 use Rattle.http_edge.specs.Message.{Request}
+use Rattle.session_model.specs.declared.followed.Followed.{Followed}
 use Rattle.session_model.specs.declared.followed.Followed.TheVariants as F
 use Rattle.session_model.specs.declared.terms.Terms.{Terms}
 use Rattle.session_model.specs.declared.turned.Awaited.{Awaited}
@@ -17,11 +18,15 @@ pub record Answers (k : ℕ) (r : Request) (flow : Flow) (whole : List ℕ) (p q
   pub moves : Moves k p q v w
   pub answer : (behind : List ℕ) → IsAnswered p.charter k r behind p.seen q.seen flow whole moves.handed
 
+-- behind what was broken off the session ends
+abbrev pub broken_flow : Followed → Flow
+broken_flow f = Leaves f None
+
 -- ---- a wait whose head didn't come early
 
 -- how the connection goes on behind it
 abbrev pub waited_flow : Terms → Awaited → Flow
-waited_flow terms Awaited.Stopped = Leaves F.Stopped None
+waited_flow terms Awaited.Stopped = broken_flow F.Stopped
 waited_flow terms awaited = flow_of terms
 
 -- these bytes are its answer: that of its reply, that it was stopped, or else that memory was refused, of which nothing is written
@@ -42,9 +47,9 @@ one_chunk (b ∷ bytes) = chunk_text (b ∷ bytes)
 -- how the connection goes on behind it
 abbrev pub early_flow : Terms → Awaited → Flow
 early_flow terms (Awaited.Replied x) = flow_of terms
-early_flow terms Awaited.Stopped = Leaves F.Stopped None
-early_flow terms Awaited.WriteFault = Leaves F.WriteFault None
-early_flow terms Awaited.NoMemory = Leaves F.NoMemory None
+early_flow terms Awaited.Stopped = broken_flow F.Stopped
+early_flow terms Awaited.WriteFault = broken_flow F.WriteFault
+early_flow terms Awaited.NoMemory = broken_flow F.NoMemory
 
 -- these bytes are its answer: the head, and behind it the body of its reply; or nothing more, where the wait was broken off
 abbrev pub IsOfEarlyWait : Terms → Awaited → List ℕ → Type 0
