@@ -7,3 +7,4 @@ pub mod CallLemmas
 pub mod OpenLemmas
 pub mod ReplyLemmas
 pub mod AttachLemmas
+pub mod FixedLemmas

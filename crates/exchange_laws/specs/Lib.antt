@@ -2,3 +2,4 @@ pub mod Kinds
 pub mod Turns
 pub mod Answers
 pub mod Laws
+pub mod Fixed
