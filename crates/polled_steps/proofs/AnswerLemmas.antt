@@ -1,8 +1,6 @@
 -- Answers, as they are put on their way.
 use Rattle.std.proofs.Common.{arith, ◌≡◌, ◌<◌, ℕ, List, [], ◌∷◌, ◌++◌, length, inl, refl, sym, ◌∙◌, ap, subst, append_assoc, append-nil, if◌then◌else◌}
 use Rattle.std.specs.Prelude.{IsTrue, IsFalse, codes}
-use Rattle.json.specs.Print.{escape_byte}
-use Rattle.machine_model.specs.Outcome.{message_text}
 use Rattle.http_edge.specs.Chunks.{hex_text, last_chunk}
 use Rattle.http_edge.specs.Response.{head_text}
 use Rattle.http_edge.specs.declared.head.Form.{Form}
@@ -18,20 +16,6 @@ use Rattle.daemon_core.specs.Whole.{IsAnswer as IsWhole}
 use Rattle.polled_steps.specs.Answers.{AnswersChunk, AnswersDirect, GoesBehind, IsAnswer}
 use Rattle.polled_steps.specs.Bytes.{reply_bytes, rest_of}
 use Rattle.polled_steps.specs.declared.answers.Answer.{Answer as Outgoing}
-
--- ---- the fixed messages, as they are written
-
-pub memory_message : message_text (codes "out of memory") ≡ codes "{\"message\":\"out of memory\"}"
-unfolding escape_byte
-memory_message = refl
-
-pub full_message : message_text (codes "journal is full") ≡ codes "{\"message\":\"journal is full\"}"
-unfolding escape_byte
-full_message = refl
-
-pub stopping_message : message_text (codes "stopping") ≡ codes "{\"message\":\"stopping\"}"
-unfolding escape_byte
-stopping_message = refl
 
 -- ---- by whether the body is sent
 

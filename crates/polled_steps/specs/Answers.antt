@@ -1,13 +1,12 @@
 -- An answer on its way out, and how its session goes on behind it (own).
-use Rattle.std.specs.Prelude.{ℕ, ◌≡◌, ◌⊎◌, List, [], ◌++◌, None, Some}
+use Rattle.std.specs.Prelude.{ℕ, ◌≡◌, ◌⊎◌, List, [], ◌++◌, Some}
 use Rattle.engine_text.specs.declared.reply.Reply.{Reply}
 use Rattle.engine_text.specs.declared.reply.Reply.TheVariants.{Answer}
 use Rattle.http_edge.specs.Chunks.{last_chunk}
 use Rattle.api_routes.specs.declared.class.DirectAnswer.{DirectAnswer}
 use Rattle.session_model.specs.declared.ending.Ending.{Ending}
-use Rattle.session_model.specs.declared.followed.Followed.TheVariants as F
 use Rattle.session_model.specs.declared.terms.Terms.{Terms}
-use Rattle.session_model.specs.Exchange.{Flow, GoesOn, Leaves, flow_of}
+use Rattle.session_model.specs.Exchange.{Flow, GoesOn, flow_of}
 use Rattle.session_model.specs.Responses.{answer_bytes, direct_bytes, out_of_memory_response}
 use Rattle.session_model.specs.Session.{ending_of}
 use Rattle.exchange_laws.specs.Answers.{one_chunk}
@@ -24,9 +23,6 @@ GoesBehind (Behind.Ends e) flow = ending_of flow ≡ Some e
 pub record IsAnswer (a : Outgoing) (flow : Flow) (bytes : List ℕ) : Type 0 where
   pub bytes_are : rest_of a.out ≡ bytes
   pub behind : GoesBehind a.next flow
-
-abbrev pub stopped_flow : Flow
-stopped_flow = Leaves F.Stopped None
 
 -- an answer that the request's bytes decide, or that memory was refused for it
 abbrev pub AnswersDirect : Terms → DirectAnswer → Outgoing → Type 0

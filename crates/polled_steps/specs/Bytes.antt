@@ -3,15 +3,11 @@ use Rattle.std.specs.Prelude.{ℕ, List, [], ◌∷◌, ◌++◌, codes, drop}
 use Rattle.engine_text.specs.declared.reply.Reply.{Reply}
 use Rattle.engine_text.specs.declared.reply.Reply.TheVariants.{Answer}
 use Rattle.http_edge.specs.Chunks.{last_chunk}
+use Rattle.machine_model.specs.Outcome.{message_text}
+use Rattle.exchange_laws.specs.Fixed.{fixed_text}
 use Rattle.polled_steps.specs.declared.outgoing.Body.{Body}
-use Rattle.polled_steps.specs.declared.outgoing.Fixed.{Fixed}
 use Rattle.polled_steps.specs.declared.outgoing.Outgoing.{Outgoing}
 use Rattle.polled_steps.specs.declared.outgoing.Tail.{Tail}
-
-abbrev pub fixed_bytes : Fixed → List ℕ
-fixed_bytes Fixed.OutOfMemory = codes "{\"message\":\"out of memory\"}"
-fixed_bytes Fixed.JournalFull = codes "{\"message\":\"journal is full\"}"
-fixed_bytes Fixed.Stopping = codes "{\"message\":\"stopping\"}"
 
 -- the body of a reply that is an answer; of another one none
 abbrev pub reply_bytes : Reply → List ℕ
@@ -22,7 +18,7 @@ abbrev pub body_bytes : Body → List ℕ
 body_bytes Body.None = []
 body_bytes (Body.Reply reply) = reply_bytes reply
 body_bytes (Body.Text text) = text
-body_bytes (Body.Fixed fixed) = fixed_bytes fixed
+body_bytes (Body.Fixed fixed) = message_text (fixed_text fixed)
 
 -- the end of the one chunk that a body is, and the last chunk
 abbrev pub tail_bytes : Tail → List ℕ

@@ -3,18 +3,21 @@ ghost use Rattle.std.specs.Prelude.{◌≡◌, ◌++◌, length};
 ghost use Rattle.http_edge.specs.Chunks.{last_chunk};
 ghost use Rattle.http_edge.specs.Response.{refusal_bytes};
 ghost use Rattle.http_edge.specs.declared.head.Form as form;
+ghost use Rattle.session_model.specs.declared.followed.Followed.TheVariants as followed;
 ghost use Rattle.session_model.specs.Exchange.{flow_of};
-ghost use Rattle.session_model.specs.Responses.{early_head, form_of, journal_full_response, json_bytes, out_of_memory_response, stopping_response, whole_bytes};
+ghost use Rattle.session_model.specs.Responses.{early_head, journal_full_response, json_bytes, message_bytes, out_of_memory_response, stopping_response, whole_bytes};
 ghost use Rattle.daemon_core.specs.Whole.{IsAnswer};
+ghost use Rattle.exchange_laws.specs.Answers.{broken_flow};
+ghost use Rattle.exchange_laws.specs.Fixed.{fixed_status, fixed_text};
 ghost use Rattle.polled_steps.specs.Bytes.{body_bytes, rest_of};
-ghost use Rattle.polled_steps.specs.Answers.{AnswersChunk, AnswersDirect, AnswersReply, GoesBehind, HasStatus, IsAnswer as Gives, IsBroken, stopped_flow};
+ghost use Rattle.polled_steps.specs.Answers.{AnswersChunk, AnswersDirect, AnswersReply, GoesBehind, HasStatus, IsAnswer as Gives, IsBroken};
 
 use crate::front::Front;
-use crate::message::message;
-use crate::outgoing::{Body, Fixed, Outgoing, Tail, answer_body};
+use crate::outgoing::{Body, Outgoing, Tail, answer_body};
 use crate::texts::{chunk_front, head_front, last_front, refusal_front};
 use api_routes::{DirectAnswer, DirectKind};
 use engine_text::{NoMemory, Reply};
+use exchange_laws::{Fixed, form_of, message};
 use http_edge::{Form, Head};
 use session_model::{Ending, Terms};
 use std::alloc::Global;
@@ -69,31 +72,33 @@ fn json(terms: Terms, status: u16, body: Body) -> Outgoing
     whole(terms, status, form, body)
 }
 
+/// An answer whose message is always the same.
+fn fixed(terms: Terms, fixed: Fixed) -> Outgoing
+    ensures { rest_of result ≡ message_bytes terms (fixed_status fixed) (fixed_text fixed) }
+{
+    json(terms, fixed.status(), Body::Fixed(fixed))
+}
+
 /// That memory was refused.
 pub fn out_of_memory(terms: Terms) -> Answer
     ensures { Gives result (flow_of terms) (out_of_memory_response terms) }
 {
-    let out = json(terms, 500, Body::Fixed(Fixed::OutOfMemory));
-    let next = behind_whole(terms);
-    Answer { out, next }
+    sends(terms, fixed(terms, Fixed::OutOfMemory))
 }
 
 /// That the journal has no room.
 pub fn journal_full(terms: Terms) -> Answer
     ensures { Gives result (flow_of terms) (journal_full_response terms) }
 {
-    let out = json(terms, 503, Body::Fixed(Fixed::JournalFull));
-    let next = behind_whole(terms);
-    Answer { out, next }
+    sends(terms, fixed(terms, Fixed::JournalFull))
 }
 
 /// That a wait was stopped, behind which the session ends.
 pub fn stopping(terms: Terms) -> Answer
-    ensures { Gives result stopped_flow (stopping_response terms) }
+    ensures { Gives result (broken_flow followed.Stopped) (stopping_response terms) }
 {
-    let out = json(terms, 503, Body::Fixed(Fixed::Stopping));
     Answer {
-        out,
+        out: fixed(terms, Fixed::Stopping),
         next: Behind::Ends(Ending::Stopped),
     }
 }
@@ -129,17 +134,6 @@ fn sends(terms: Terms, out: Outgoing) -> Answer
 {
     let next = behind_whole(terms);
     Answer { out, next }
-}
-
-/// How the body of an answer is told: 204 and 304 have none.
-fn form_of(status: u16, body: &[u8]) -> Form
-    ensures { result ≡ form_of status body.now }
-{
-    if status == 204 || status == 304 {
-        Form::Empty
-    } else {
-        Form::Json(body.len() as u64)
-    }
 }
 
 /// The status of a reply that is an answer.

@@ -4,7 +4,6 @@
 
 mod answers;
 mod front;
-mod message;
 mod outgoing;
 mod sending;
 mod texts;

@@ -1,29 +1,10 @@
 // Bytes of an answer that are on their way out.
 ghost use Rattle.std.specs.Prelude.{◌≡◌, drop};
-ghost use Rattle.polled_steps.specs.Bytes.{body_bytes, fixed_bytes, reply_bytes, tail_bytes};
+ghost use Rattle.polled_steps.specs.Bytes.{body_bytes, reply_bytes, tail_bytes};
 
 use crate::front::Front;
 use engine_text::{Reply, Text};
-
-/// A body that is always the same.
-#[derive(Clone, Copy, Debug, PartialEq, Eq)]
-pub enum Fixed {
-    OutOfMemory,
-    JournalFull,
-    Stopping,
-}
-
-impl Fixed {
-    pub fn as_slice(self) -> &'static [u8]
-        ensures { result.now ≡ fixed_bytes self }
-    {
-        match self {
-            Fixed::OutOfMemory => b"{\"message\":\"out of memory\"}",
-            Fixed::JournalFull => b"{\"message\":\"journal is full\"}",
-            Fixed::Stopping => b"{\"message\":\"stopping\"}",
-        }
-    }
-}
+use exchange_laws::Fixed;
 
 /// The body of an answer, by what owns it.
 #[derive(Drop)]

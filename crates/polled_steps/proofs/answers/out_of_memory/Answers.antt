@@ -1,7 +1,0 @@
-use Rattle.std.proofs.Common.{◌∙◌, ap, sym}
-use Rattle.session_model.specs.Responses.{json_bytes}
-use Rattle.polled_steps.proofs.AnswerLemmas.{memory_message}
-use Rattle.polled_steps.proofs.answers.out_of_memory.Goals as goal
-
-pub returns : goal.returns
-returns c = record { bytes_are = c.json-out.ensures ∙ ap (json_bytes c.args.terms 500) (sym memory_message); behind = c.behind_whole-next.ensures }
