@@ -28,14 +28,19 @@ use Rattle.session_model.specs.Turning.{HasBegun}
 use Rattle.attach_hub.specs.Connection.{ConnectionView, HasNumbers, TakesTurn, Who}
 use Rattle.attach_hub.specs.Following.{Follows}
 use Rattle.attach_hub.specs.Waiting.{AwaitSays, Awaits, Drops}
+use Rattle.exchange_laws.specs.Kinds.{IsAttaching, IsStreamed, stream_of}
+use Rattle.exchange_laws.specs.Turns.{TurnComes}
+use Rattle.exchange_laws.proofs.AttachLemmas.{attach_follows, attach_made, ends_none}
+use Rattle.exchange_laws.proofs.CallLemmas.{no_drop, ticket_begun}
+use Rattle.exchange_laws.proofs.ReplyLemmas.{streams_end_none}
+use Rattle.exchange_laws.proofs.TurnLemmas.{turn_comes}
 use Rattle.engine_serve.specs.declared.went.Went.{Went}
 use Rattle.engine_serve.specs.Answering.{SendsAwaited, SendsDirect, SendsReply, WasAnswered}
 use Rattle.engine_serve.specs.Early.{SendsBehind, WaitsEarly, Waited, HeadWasLost}
-use Rattle.engine_serve.specs.Overtaking.{IsAttaching, OpensOver, stream_of}
+use Rattle.engine_serve.specs.Overtaking.{OpensOver}
 use Rattle.engine_serve.specs.Serving.{Sends, Tries}
-use Rattle.engine_serve.specs.Streaming.{EndsStream, IsStreamed, SendsStream}
-use Rattle.engine_serve.proofs.AnswerLemmas.{begins_wait, direct, full, no_memory, replied, sent_since, ticket_begun, unclassed, waited_so}
-use Rattle.engine_serve.proofs.AttachLemmas.{attach_opened}
+use Rattle.engine_serve.specs.Streaming.{EndsStream, SendsStream}
+use Rattle.engine_serve.proofs.AnswerLemmas.{direct, full, no_memory, replied, sent_since, unclassed, waited_so}
 use Rattle.engine_serve.proofs.EarlyLemmas.{behind_wait, early_by}
 use Rattle.engine_serve.proofs.StreamLemmas.{head_by, stream_lost, stream_sent, streamed}
 
@@ -49,32 +54,38 @@ turned_numbers c r x y has t = record {
   pair = subst IsTrue (sym t.turn.turns.stays.pair) has.pair;
 }
 
+-- it came to that
+comes_at : (c : Call) (result : Turned) (x y : ConnectionView) → HasNumbers x → IsFalse (ends_ticket c) → (t : TakesTurn c result x y)
+    → TurnComes x.who.number t.handed c result x.pass y.pass x.clock y.clock
+comes_at c result x y has kind t =
+    turn_comes x.who.number t.handed c result x.pass y.pass x.clock y.clock has.pair (no_drop c kind) t.clock t.turn
+
 pub replied_at : (r : Request) (terms : Terms) (c : Call) (given : Reply) (result : Went) (x y z : ConnectionView) (u : SinkView) → terms ≡ terms_of r
     → HasNumbers x → call_of (class_of r) ≡ Some c → IsFalse (ends_ticket c) → TakesTurn c (T.Replied given) x y → z ≡ y
     → SendsReply terms given result z.sink u → Tries r result x (record z { sink = u })
 replied_at r terms c given result x y z u is has class kind t same sends =
     let at : z ≡ record x { pass = y.pass; clock = y.clock } = same ∙ t.same in
     subst (λ v. Tries r result x (record v { sink = u })) (sym at)
-    (replied x.who.number t.handed r c given result x.pass y.pass x.sink u x.clock y.clock has.pair class kind t.clock t.turn
+    (replied x.who.number t.handed r c given result x.pass y.pass x.sink u x.clock y.clock class (comes_at c (T.Replied given) x y has kind t)
     (subst (λ o. SendsReply o given result x.sink u) is (subst (λ (v : ConnectionView). SendsReply terms given result v.sink u) at sends)))
 
 pub full_at : (r : Request) (terms : Terms) (c : Call) (result : Went) (x y z : ConnectionView) (u : SinkView) → terms ≡ terms_of r → HasNumbers x
-    → call_of (class_of r) ≡ Some c → TakesTurn c T.JournalFull x y → z ≡ y → Sends (flow_of terms) result (journal_full_response terms) z.sink u
+    → call_of (class_of r) ≡ Some c → IsFalse (ends_ticket c) → TakesTurn c T.JournalFull x y → z ≡ y → Sends (flow_of terms) result (journal_full_response terms) z.sink u
     → Tries r result x (record z { sink = u })
-full_at r terms c result x y z u is has class t same sends =
+full_at r terms c result x y z u is has class kind t same sends =
     let at : z ≡ record x { pass = y.pass; clock = y.clock } = same ∙ t.same in
     subst (λ v. Tries r result x (record v { sink = u })) (sym at)
-    (full x.who.number t.handed r c result x.pass y.pass x.sink u x.clock y.clock has.pair class t.clock t.turn
+    (full x.who.number t.handed r c result x.pass y.pass x.sink u x.clock y.clock class (comes_at c T.JournalFull x y has kind t)
     (subst (λ o. Sends (flow_of o) result (journal_full_response o) x.sink u) is
     (subst (λ (v : ConnectionView). Sends (flow_of terms) result (journal_full_response terms) v.sink u) at sends)))
 
 pub short_at : (r : Request) (terms : Terms) (c : Call) (result : Went) (x y z : ConnectionView) (u : SinkView) → terms ≡ terms_of r → HasNumbers x
-    → call_of (class_of r) ≡ Some c → TakesTurn c T.NoMemory x y → z ≡ y → Sends (flow_of terms) result (out_of_memory_response terms) z.sink u
+    → call_of (class_of r) ≡ Some c → IsFalse (ends_ticket c) → TakesTurn c T.NoMemory x y → z ≡ y → Sends (flow_of terms) result (out_of_memory_response terms) z.sink u
     → Tries r result x (record z { sink = u })
-short_at r terms c result x y z u is has class t same sends =
+short_at r terms c result x y z u is has class kind t same sends =
     let at : z ≡ record x { pass = y.pass; clock = y.clock } = same ∙ t.same in
     subst (λ v. Tries r result x (record v { sink = u })) (sym at)
-    (no_memory x.who.number t.handed r c result x.pass y.pass x.sink u x.clock y.clock has.pair class t.clock t.turn
+    (no_memory x.who.number t.handed r c result x.pass y.pass x.sink u x.clock y.clock class (comes_at c T.NoMemory x y has kind t)
     (subst (λ o. Sends (flow_of o) result (out_of_memory_response o) x.sink u) is
     (subst (λ (v : ConnectionView). Sends (flow_of terms) result (out_of_memory_response terms) v.sink u) at sends)))
 
@@ -98,7 +109,7 @@ pub begun_at : (n : ℕ) (c : Call) (x y : ConnectionView) → HasNumbers x → 
     → HasBegun y.pass.charter y.who.number n y.pass.seen
 begun_at n c x y has kind t =
     subst (λ (w : Who). HasBegun y.pass.charter w.number n y.pass.seen) (sym (ap (λ (v : ConnectionView). v.who) t.same))
-    (ticket_begun x.who.number t.handed n c x.pass y.pass x.clock y.clock has.pair kind t.clock t.turn)
+    (ticket_begun x.who.number t.handed n c x.pass y.pass x.clock y.clock (comes_at c (T.Begun n) x y has kind t))
 
 -- as it is seen from inside
 pub begun_inside : (n : ℕ) (x x' : ConnectionView) → x' ≡ x → HasBegun x.pass.charter x.who.number n x.pass.seen
@@ -120,10 +131,9 @@ waited_at n r terms c awaited result x y y2 z u is has class kind late t awaits 
     let k : ℕ = x.who.number in
     let waits : Awaits n awaited (record x { pass = y.pass; clock = y.clock }) y2 = subst (λ v. Awaits n awaited v y2) t.same awaits in
     subst (λ v. Tries r result x (record v { sink = u })) (sym same)
-    (waited_so k n r c awaited result x.pass y.pass y2.pass x.sink u x.clock y.clock y2.clock class
-    (begins_wait k t.handed n c x.pass y.pass x.clock y.clock has.pair kind t.clock t.turn) waits.moves
+    (waited_so k t.handed n r c awaited result x.pass y.pass y2.pass x.sink u x.clock y.clock y2.clock class late
+    (comes_at c (T.Begun n) x y has kind t) waits.moves
     (subst (λ ch. AwaitSays ch k n y.pass.seen y2.pass.seen awaited waits.moves.handed y.clock y2.clock) t.turn.turns.stays.charter waits.says)
-    late t.clock.stops
     (sent_since (terms_of r) awaited result x.sink y2.sink u waits.sink
     (subst (λ o. SendsAwaited o awaited result y2.sink u) is (subst (λ (v : ConnectionView). SendsAwaited terms awaited result v.sink u) same sends))))
 
@@ -131,8 +141,8 @@ pub waited_early_at : (n : ℕ) (r : Request) (terms : Terms) (c : Call) (result
     → class_of r ≡ Ask c → IsFalse (ends_ticket c) → IsTrue (is_early r c) → TakesTurn c (T.Begun n) x y → WaitsEarly n terms result y z
     → Tries r result x z
 waited_early_at n r terms c result x y z is has class kind early t waits =
-    early_by x.who.number n r c result x.pass y.pass z.pass x.sink z.sink x.clock y.clock z.clock t.turn.turns.stays.charter class early
-    (begins_wait x.who.number t.handed n c x.pass y.pass x.clock y.clock has.pair kind t.clock t.turn) t.turn.turns.legal t.clock.stops
+    early_by x.who.number t.handed n r c result x.pass y.pass z.pass x.sink z.sink x.clock y.clock z.clock class early
+    (comes_at c (T.Begun n) x y has kind t) t.turn.turns.legal
     (subst (λ o. WaitsEarly n o result (record x { pass = y.pass; clock = y.clock }) z) is (subst (λ v. WaitsEarly n terms result v z) t.same waits))
 
 -- ---- a wait whose head comes early: x' is x as it is seen from inside, and y behind the wait
@@ -176,8 +186,8 @@ pub streamed_at : (r : Request) (terms : Terms) (c : Call) (given : Reply) (form
     → HasNumbers x → class_of r ≡ Stream c Takeover.None → IsStreamed c → chunked_form given ≡ Some form → TakesTurn c (T.Replied given) x y
     → SendsStream terms given result y z → Tries r result x z
 streamed_at r terms c given form result x y z is has class streams some t sends =
-    streamed x.who.number t.handed r c given form result x.pass y.pass z.pass x.sink z.sink x.clock y.clock z.clock has.pair class streams some
-    t.clock t.turn
+    streamed x.who.number t.handed r c given form result x.pass y.pass z.pass x.sink z.sink x.clock y.clock z.clock class some
+    (comes_at c (T.Replied given) x y has (streams_end_none c streams) t)
     (subst (λ o. SendsStream o given result (record x { pass = y.pass; clock = y.clock }) z) is (subst (λ v. SendsStream terms given result v z) t.same sends))
 
 -- ---- a takeover begins
@@ -185,7 +195,17 @@ streamed_at r terms c given form result x y z is has class streams some t sends 
 pub opened_at : (r : Request) (c : Call) (upgrade : Bool) (given : Reply) (spec : LogSpec) (x y : ConnectionView) → HasNumbers x
     → class_of r ≡ Stream c (takeover upgrade) → IsAttaching c → stream_of given ≡ Some spec → TakesTurn c (T.Replied given) x y
     → OpensOver r upgrade spec x y × (y.sink ≡ x.sink)
-opened_at r c upgrade given spec x y has class attaching is t = (
-  attach_opened x.who.number t.handed r c upgrade given spec x.pass y.pass x.clock y.clock has.pair class attaching is t.clock t.turn,
-  ap (λ (v : ConnectionView). v.sink) t.same,
-)
+opened_at r c upgrade given spec x y has class attaching is t =
+    let k : ℕ = x.who.number in
+    let comes : TurnComes k t.handed c (T.Replied given) x.pass y.pass x.clock y.clock = comes_at c (T.Replied given) x y has (ends_none c attaching) t in (
+      record {
+        call = c;
+        class = class;
+        handed = t.handed;
+        made = attach_made k t.handed c given spec x.pass y.pass x.clock y.clock is comes;
+        may = attach_follows k t.handed c given spec x.pass y.pass attaching is t.turn;
+        moves = comes.moves;
+        one = comes.one;
+      },
+      ap (λ (v : ConnectionView). v.sink) t.same,
+    )

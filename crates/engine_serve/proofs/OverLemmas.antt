@@ -45,8 +45,8 @@ use Rattle.session_model.proofs.AddsLemmas.{adds_none, adds_on, owns, owns_on}
 use Rattle.session_model.proofs.TurnLemmas.{stays_on, stays_same, same_pass}
 use Rattle.attach_hub.specs.Following.{IsTaken}
 use Rattle.attach_hub.specs.Sides.{RunsOver}
+use Rattle.exchange_laws.proofs.AnswerLemmas.{as_told}
 use Rattle.engine_serve.specs.Overtaking.{IsTakenSo, OpensOver, Overtakes}
-use Rattle.engine_serve.proofs.AnswerLemmas.{as_told}
 use Rattle.engine_serve.proofs.ServeLemmas.{SoFar, read_on}
 use Rattle.engine_serve.proofs.NextLemmas.{Stands, begun}
 use Rattle.attach_hub.specs.Connection.{view_of}

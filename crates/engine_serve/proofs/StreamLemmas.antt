@@ -3,7 +3,7 @@ use Rattle.std.proofs.Common.{◌≡◌, inl, inr, ℕ, List, [], ◌∷◌, ◌
 use Rattle.std.specs.Prelude.{IsSome, IsTrue, unwrap_or}
 use Rattle.engine_ports.specs.Sink.{SinkView, SinkTook, IsFront, WriteSays}
 use Rattle.engine_ports.specs.Source.{SourceView}
-use Rattle.engine_ports.specs.Clock.{ClockView, ClockHanded}
+use Rattle.engine_ports.specs.Clock.{ClockView}
 use Rattle.engine_ports.specs.Door.{outside}
 use Rattle.engine_ports.specs.declared.ports.Failed.{Failed}
 use Rattle.engine_ports.proofs.PortLemmas.{rose_since, sink_on}
@@ -28,19 +28,18 @@ use Rattle.session_model.specs.Moments.{ComesTo}
 use Rattle.session_model.specs.Pass.{PassView}
 use Rattle.session_model.specs.Responses.{chunked_form, terms_of, head_of_stream}
 use Rattle.session_model.specs.Session.{FollowCause, IsWritten}
-use Rattle.session_model.specs.Turning.{Turn}
 use Rattle.session_model.proofs.CauseLemmas.{IsLater, cause_since}
-use Rattle.session_model.proofs.HistoryLemmas.{quiet_same, dues_none}
-use Rattle.session_model.proofs.TurnLemmas.{moves_on, moves_same, makes_call, turn_made_at, turn_opens}
-use Rattle.daemon_core.proofs.CallLemmas.{call_at}
+use Rattle.session_model.proofs.HistoryLemmas.{quiet_same}
+use Rattle.session_model.proofs.TurnLemmas.{moves_on, moves_same}
 use Rattle.attach_hub.specs.Following.{Follows}
 use Rattle.attach_hub.proofs.TellLemmas.{ends_whole}
+use Rattle.exchange_laws.specs.Turns.{TurnComes}
+use Rattle.exchange_laws.proofs.AnswerLemmas.{as_told}
 use Rattle.engine_serve.specs.declared.went.Went.{Went}
 use Rattle.engine_serve.specs.Serving.{Sends, Tries}
-use Rattle.engine_serve.specs.Streaming.{IsStreamed, EndsStream, IsSentAs, SendsStream}
+use Rattle.engine_serve.specs.Streaming.{EndsStream, IsSentAs, SendsStream}
 use Rattle.engine_serve.proofs.EarlyLemmas.{sends_behind}
-use Rattle.engine_serve.proofs.ReplyLemmas.{streams_end_none}
-use Rattle.engine_serve.proofs.AnswerLemmas.{as_told, if_cause, if_pumped, no_drop}
+use Rattle.engine_serve.proofs.AnswerLemmas.{if_cause, if_pumped}
 use Rattle.attach_hub.specs.Connection.{view_of}
 
 -- ---- what was sent of the stream
@@ -200,34 +199,31 @@ stream_sent k terms g form f result p q u v w x t t' pair is head sent ends =
 
 -- ---- the rows
 
-row : (ch : Charter) (k : ℕ) (r : Request) (behind : List ℕ) (c : Call) (x : Reply) (form : Form) (flow : Flow) (whole : List ℕ) (handed : ℕ) (ms : List ℕ)
-    (a b d : List Step) → class_of r ≡ Stream c Takeover.None → chunked_form x ≡ Some form → IsMadeAt ch k handed c a b x → IsQuiet k b d
-    → IsSentAs ch (terms_of r) x flow whole b d ms → IsAnswered ch k r behind a d flow whole (handed ∷ ms)
-row ch k r behind c x form flow whole handed ms a b d class some made quiet (inl (same, none, flows, is)) =
-    as_told ch k r behind a d flow _ whole _ (handed ∷ ms) _ flows is (ap (λ l. handed ∷ l) none)
+row : (ch : Charter) (k : ℕ) (r : Request) (behind : List ℕ) (c : Call) (x : Reply) (form : Form) (flow : Flow) (whole : List ℕ) (handed : ℕ) (hs ms : List ℕ)
+    (a b d : List Step) → class_of r ≡ Stream c Takeover.None → chunked_form x ≡ Some form → hs ≡ handed ∷ [] → IsMadeAt ch k handed c a b x → IsQuiet k b d
+    → IsSentAs ch (terms_of r) x flow whole b d ms → IsAnswered ch k r behind a d flow whole (hs ++ ms)
+row ch k r behind c x form flow whole handed hs ms a b d class some one made quiet (inl (same, none, flows, is)) =
+    as_told ch k r behind a d flow _ whole _ (hs ++ ms) _ flows is (ap (λ l. l ++ ms) one ∙ ap (λ l. handed ∷ l) none)
     (HeadIsLost c Takeover.None x handed class (subst (λ h. IsMadeAt ch k handed c a h x) same made) (subst (λ o. IsSome o) (sym some) refl))
-row ch k r behind c x form flow whole handed ms a b d class some made quiet (inr (f, body, chunks, tells, ends, comes, cut, flows, is)) =
-    as_told ch k r behind a d flow _ whole _ (handed ∷ ms) _ flows is refl
+row ch k r behind c x form flow whole handed hs ms a b d class some one made quiet (inr (f, body, chunks, tells, ends, comes, cut, flows, is)) =
+    as_told ch k r behind a d flow _ whole _ (hs ++ ms) _ flows is (ap (λ l. l ++ ms) one)
     (InChunks f _ body chunks _ (OfStream c x f b handed body ms class made quiet tells ends comes) cut)
 
 pub streamed : {i : ℕ} {j : ℕ} {l1 : ℕ × ℕ × ℕ} {l2 : ℕ × ℕ × ℕ} {l3 : ℕ × ℕ × ℕ} {l4 : ℕ × ℕ × ℕ} (k handed : ℕ) (r : Request) (c : Call) (x : Reply) (form : Form) (result : Went) (p q s : PassView) (u u' : SinkView)
-    (v w y : ClockView) → IsTrue p.pair → class_of r ≡ Stream c Takeover.None → IsStreamed c → chunked_form x ≡ Some form
-    → ClockHanded v (handed ∷ []) w → Turn k handed (Some c) (T.Replied x) p q
+    (v w y : ClockView) → class_of r ≡ Stream c Takeover.None → chunked_form x ≡ Some form → TurnComes k handed c (T.Replied x) p q v w
     → SendsStream (terms_of r) x result (view_of k l3 q u w) (view_of j l4 s u' y) → Tries r result (view_of k l1 p u v) (view_of i l2 s u' y)
-unfolding moves_on turn_opens
-streamed k handed r c x form result p q s u u' v w y pair class streams some clock turn sends =
-    let m = makes_call p.charter _ k handed c turn.turns.own x (no_drop c (streams_end_none c streams)) turn.says.1 in
-    let none = dues_none k _ _ m.0 m.1 in
-    let made = turn_made_at k handed c x p q turn.turns m.0 pair none m.2.1 m.2.0 m.2.2 in
+unfolding moves_on
+streamed k handed r c x form result p q s u u' v w y class some f sends =
     let told : IsSentAs p.charter (terms_of r) x sends.flow sends.whole q.seen s.seen sends.moves.handed =
-    subst (λ ch. IsSentAs ch (terms_of r) x sends.flow sends.whole q.seen s.seen sends.moves.handed) turn.turns.stays.charter sends.told in
+    subst (λ ch. IsSentAs ch (terms_of r) x sends.flow sends.whole q.seen s.seen sends.moves.handed) f.moves.stays.charter sends.told in
     let later : (o : SourceView) → IsLater (outside o u v) (outside o u w) =
-    λ o. record { reads = omega arith; ends = omega arith; writes = omega arith; stops = clock.stops } in record {
+    λ o. record { reads = omega arith; ends = omega arith; writes = omega arith; stops = f.moves.clock.stops } in record {
       flow = sends.flow;
       whole = sends.whole;
       part = sends.part;
-      moves = moves_on k p q s v w y (turn_opens k handed c p q turn.turns m.0 v w pair none m.2.1 (call_at c k) clock) sends.moves;
-      answer = λ behind. row p.charter k r behind c x form sends.flow sends.whole handed sends.moves.handed p.seen q.seen s.seen class some made sends.quiet told;
+      moves = moves_on k p q s v w y f.moves sends.moves;
+      answer = λ behind. row p.charter k r behind c x form sends.flow sends.whole handed f.moves.handed sends.moves.handed p.seen q.seen s.seen class some f.one f.came.0
+          sends.quiet told;
       goes = sends.goes;
       sink = sends.sink;
       cause = λ o o'. cause_since sends.flow (outside o u v) (outside o u w) (outside o' u' y) (later o) (sends.cause o o');

@@ -1,30 +1,21 @@
 -- What is sent of a wait whose head comes before it is over (own).
-use Rattle.std.specs.Prelude.{ℕ, ◌≡◌, List, [], ◌∷◌, ◌++◌, None}
+use Rattle.std.specs.Prelude.{ℕ, ◌≡◌, List, ◌++◌}
 use Rattle.engine_ports.specs.Rose.{Rose}
 use Rattle.engine_ports.specs.Sink.{SinkView}
 use Rattle.engine_text.specs.declared.reply.Reply.{Reply}
 use Rattle.engine_text.specs.declared.reply.Reply.TheVariants.{Answer}
-use Rattle.http_edge.specs.Chunks.{chunk_text, last_chunk}
+use Rattle.http_edge.specs.Chunks.{last_chunk}
 use Rattle.attach_hub.specs.Connection.{ConnectionView}
 use Rattle.attach_hub.specs.Waiting.{AwaitSays, IsDropped}
 use Rattle.session_model.specs.declared.terms.Terms.{Terms}
-use Rattle.session_model.specs.declared.followed.Followed.{Followed}
 use Rattle.session_model.specs.declared.followed.Followed.TheVariants as F
 use Rattle.session_model.specs.declared.turned.Awaited.{Awaited}
-use Rattle.session_model.specs.Exchange.{Flow, Leaves, flow_of}
+use Rattle.session_model.specs.Exchange.{flow_of}
 use Rattle.session_model.specs.Progress.{Moves}
 use Rattle.session_model.specs.Responses.{early_head}
+use Rattle.exchange_laws.specs.Answers.{broken_flow, one_chunk}
 use Rattle.engine_serve.specs.declared.went.Went.{Went}
 use Rattle.engine_serve.specs.Serving.{Sends}
-
--- a body as one chunk, or as none where it is empty
-abbrev pub one_chunk : List ℕ → List ℕ
-one_chunk [] = []
-one_chunk (b ∷ bytes) = chunk_text (b ∷ bytes)
-
--- behind a wait that was broken off the session ends
-abbrev pub broken_flow : Followed → Flow
-broken_flow f = Leaves f None
 
 -- behind these bytes the body of a reply is sent by chunks, to the last
 abbrev pub SendsBody : Terms → List ℕ → Reply → Went → SinkView → SinkView → Type 0

@@ -1,13 +1,11 @@
 -- A connection that is taken over by a log's stream (Docker Engine API v1.43, ContainerAttach and ExecStart; own: what is written, and
 -- how the session ends).
-use Rattle.std.specs.Prelude.{ℕ, ◌≡◌, ◌⊎◌, Bool, false, List, [], ◌∷◌, ◌++◌, Option, Some, None}
+use Rattle.std.specs.Prelude.{ℕ, ◌≡◌, ◌⊎◌, Bool, List, [], ◌∷◌, ◌++◌, Option, None}
 use Rattle.engine_ports.specs.Door.{outside}
 use Rattle.engine_ports.specs.Sink.{SinkTook}
 use Rattle.engine_ports.specs.Source.{SourceView}
 use Rattle.engine_text.specs.declared.call.Call.{Call}
-use Rattle.engine_text.specs.declared.call.Call.TheVariants as call
 use Rattle.engine_text.specs.declared.reply.LogSpec.{LogSpec}
-use Rattle.engine_text.specs.declared.reply.Reply.{Reply}
 use Rattle.engine_text.specs.declared.reply.Reply.TheVariants.{LogStream}
 use Rattle.engine_text.specs.declared.step.Step.{Step}
 use Rattle.machine_model.specs.History.{Charter, state_after}
@@ -28,17 +26,6 @@ use Rattle.attach_hub.specs.Connection.{ConnectionView}
 use Rattle.attach_hub.specs.Following.{MayFollow}
 use Rattle.engine_serve.specs.declared.went.Tried.{Tried}
 use Rattle.engine_serve.specs.Serving.{Tries}
-
--- the calls whose streams take the connection over: an attach, and an exec's start that isn't detached
-abbrev pub IsAttaching : Call → Type 0
-IsAttaching (call.Attach target ask) = Unit {0}
-IsAttaching (call.ExecStart id false) = Unit {0}
-IsAttaching c = ⊥
-
--- the log's stream that a reply gives
-abbrev pub stream_of : Reply → Option LogSpec
-stream_of (LogStream spec) = Some spec
-stream_of reply = None
 
 -- ---- a takeover begins
 

@@ -3,8 +3,6 @@ use Rattle.std.specs.Prelude.{ℕ, ◌≡◌, ◌⊎◌, List, [], ◌++◌, Non
 use Rattle.engine_ports.specs.Source.{SourceView}
 use Rattle.engine_ports.specs.Sink.{SinkView, SinkTook}
 use Rattle.engine_ports.specs.Door.{outside}
-use Rattle.engine_text.specs.declared.call.Call.{Call}
-use Rattle.engine_text.specs.declared.call.Call.TheVariants as call
 use Rattle.engine_text.specs.declared.reply.Reply.{Reply}
 use Rattle.engine_text.specs.declared.step.Step.{Step}
 use Rattle.machine_model.specs.History.{Charter}
@@ -21,13 +19,6 @@ use Rattle.session_model.specs.Progress.{Moves}
 use Rattle.attach_hub.specs.Connection.{ConnectionView}
 use Rattle.engine_serve.specs.declared.went.Went.{Went}
 use Rattle.engine_serve.specs.Serving.{GoesSo, Sends}
-
--- the calls whose streams are sent in chunks: for a log, for events, and for the journal
-abbrev pub IsStreamed : Call → Type 0
-IsStreamed (call.Logs target ask) = Unit {0}
-IsStreamed (call.Events since until filter) = Unit {0}
-IsStreamed call.JournalRead = Unit {0}
-IsStreamed c = ⊥
 
 -- ---- behind a stream in chunks
 

@@ -8,8 +8,9 @@ ghost use Rattle.session_model.specs.Responses.{early_head};
 ghost use Rattle.session_model.specs.Turning.{HasBegun};
 ghost use Rattle.daemon_core.specs.Whole.{IsAnswer};
 ghost use Rattle.attach_hub.specs.Connection.{HasNumbers};
+ghost use Rattle.exchange_laws.specs.Answers.{one_chunk};
 ghost use Rattle.engine_serve.specs.Answering.{WasAnswered};
-ghost use Rattle.engine_serve.specs.Early.{one_chunk, SendsBody, SendsBehind, WaitsEarly};
+ghost use Rattle.engine_serve.specs.Early.{SendsBody, SendsBehind, WaitsEarly};
 
 use crate::answer::behind;
 use crate::went::Went;

@@ -11,7 +11,8 @@ ghost use Rattle.session_model.specs.Pass.{IsConnection};
 ghost use Rattle.session_model.specs.Responses.{takeover_head};
 ghost use Rattle.attach_hub.specs.Connection.{HasNumbers};
 ghost use Rattle.attach_hub.specs.Following.{MayFollow};
-ghost use Rattle.engine_serve.specs.Overtaking.{IsAttaching, Overtakes, TriesSo, stream_of};
+ghost use Rattle.exchange_laws.specs.Kinds.{IsAttaching, stream_of};
+ghost use Rattle.engine_serve.specs.Overtaking.{Overtakes, TriesSo};
 
 use crate::answer::{send_journal_full, send_out_of_memory, send_reply};
 use crate::streaming::ending_of;

@@ -9,8 +9,9 @@ ghost use Rattle.session_model.specs.Responses.{chunked_form};
 ghost use Rattle.session_model.specs.Session.{ending_by_pump, ending_of_ends};
 ghost use Rattle.attach_hub.specs.Connection.{HasNumbers};
 ghost use Rattle.attach_hub.specs.Following.{CanFollow, Follows};
+ghost use Rattle.exchange_laws.specs.Kinds.{IsStreamed};
 ghost use Rattle.engine_serve.specs.Serving.{Tries};
-ghost use Rattle.engine_serve.specs.Streaming.{IsStreamed, EndsStream, SendsStream};
+ghost use Rattle.engine_serve.specs.Streaming.{EndsStream, SendsStream};
 
 use crate::answer::{behind, send_journal_full, send_out_of_memory, send_reply};
 use crate::went::Went;

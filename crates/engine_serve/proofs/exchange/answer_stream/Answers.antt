@@ -2,7 +2,7 @@ use Rattle.std.proofs.Common.{◌≡◌, subst, true, false}
 use Rattle.http_edge.specs.Reader.{request_of}
 use Rattle.api_routes.specs.Class.{class_of}
 use Rattle.api_routes.specs.declared.class.Class.TheVariants.{Stream}
-use Rattle.engine_serve.proofs.ClassLemmas.{attaching_kind, streamed_kind}
+use Rattle.exchange_laws.proofs.ClassLemmas.{attaching_kind, streamed_kind}
 use Rattle.engine_serve.proofs.exchange.answer_stream.Goals as goal
 
 pub stream-requires-clause-class : goal.stream-requires-clause-class

@@ -1,8 +1,8 @@
 use Rattle.std.proofs.Common.{sym}
 use Rattle.http_edge.specs.Reader.{request_of}
-use Rattle.engine_serve.proofs.AnswerLemmas.{built_may}
+use Rattle.exchange_laws.proofs.CallLemmas.{built_may}
 use Rattle.engine_serve.proofs.AskLemmas.{full_at, opened_at, replied_at, short_at}
-use Rattle.engine_serve.proofs.AttachLemmas.{asks_over, attach_answers, attach_never, ends_none}
+use Rattle.exchange_laws.proofs.AttachLemmas.{asks_over, attach_answers, attach_never, ends_none}
 use Rattle.engine_serve.proofs.overtaking.open.Goals as goal
 
 pub turn-requires-clause-may : goal.turn-requires-clause-may
@@ -33,11 +33,13 @@ returns-in-Replied-clause-tries g c =
 pub returns-in-JournalFull-clause-tries : goal.returns-in-JournalFull-clause-tries
 returns-in-JournalFull-clause-tries g c =
     full_at (request_of c.args.request.now) c.of-terms.result c.args.call.now c.send_journal_full.result _ _ _ _ c.of-terms.ensures c.requires.numbers
-    (asks_over (request_of c.args.request.now) c.args.call.now c.args.upgrade c.requires.class) c.in-JournalFull.ensures c.conn.view_is
+    (asks_over (request_of c.args.request.now) c.args.call.now c.args.upgrade c.requires.class)
+    (ends_none c.args.call.now c.requires.attaching) c.in-JournalFull.ensures c.conn.view_is
     c.send_journal_full.ensures
 
 pub returns-in-NoMemory-clause-tries : goal.returns-in-NoMemory-clause-tries
 returns-in-NoMemory-clause-tries g c =
     short_at (request_of c.args.request.now) c.of-terms.result c.args.call.now c.send_out_of_memory.result _ _ _ _ c.of-terms.ensures c.requires.numbers
-    (asks_over (request_of c.args.request.now) c.args.call.now c.args.upgrade c.requires.class) c.in-NoMemory.ensures c.conn.view_is
+    (asks_over (request_of c.args.request.now) c.args.call.now c.args.upgrade c.requires.class)
+    (ends_none c.args.call.now c.requires.attaching) c.in-NoMemory.ensures c.conn.view_is
     c.send_out_of_memory.ensures

@@ -1,8 +1,8 @@
 use Rattle.std.proofs.Common.{sym}
 use Rattle.http_edge.specs.Reader.{request_of}
-use Rattle.engine_serve.proofs.AnswerLemmas.{built_may}
+use Rattle.exchange_laws.proofs.CallLemmas.{built_may}
 use Rattle.engine_serve.proofs.AskLemmas.{full_at, replied_at, short_at, streamed_at, turned_numbers}
-use Rattle.engine_serve.proofs.ReplyLemmas.{asks_stream, opened, stream_answers, stream_never, streams_end_none}
+use Rattle.exchange_laws.proofs.ReplyLemmas.{asks_stream, opened, stream_answers, stream_never, streams_end_none}
 use Rattle.engine_serve.proofs.streaming.stream.Goals as goal
 
 pub turn-requires-clause-may : goal.turn-requires-clause-may
@@ -41,9 +41,11 @@ returns-in-Replied-clause-tries g c =
 pub returns-in-JournalFull-clause-tries : goal.returns-in-JournalFull-clause-tries
 returns-in-JournalFull-clause-tries g c =
     full_at (request_of c.args.request.now) c.of-terms.result c.args.call.now c.send_journal_full.result _ _ _ _ c.of-terms.ensures c.requires.numbers
-    (asks_stream (request_of c.args.request.now) c.args.call.now c.requires.class) c.in-JournalFull.ensures c.conn-in-JournalFull.view_is c.send_journal_full.ensures
+    (asks_stream (request_of c.args.request.now) c.args.call.now c.requires.class)
+    (streams_end_none c.args.call.now c.requires.streamed) c.in-JournalFull.ensures c.conn-in-JournalFull.view_is c.send_journal_full.ensures
 
 pub returns-in-NoMemory-clause-tries : goal.returns-in-NoMemory-clause-tries
 returns-in-NoMemory-clause-tries g c =
     short_at (request_of c.args.request.now) c.of-terms.result c.args.call.now c.send_out_of_memory.result _ _ _ _ c.of-terms.ensures c.requires.numbers
-    (asks_stream (request_of c.args.request.now) c.args.call.now c.requires.class) c.in-NoMemory.ensures c.conn-in-NoMemory.view_is c.send_out_of_memory.ensures
+    (asks_stream (request_of c.args.request.now) c.args.call.now c.requires.class)
+    (streams_end_none c.args.call.now c.requires.streamed) c.in-NoMemory.ensures c.conn-in-NoMemory.view_is c.send_out_of_memory.ensures
