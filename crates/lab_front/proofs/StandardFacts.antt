@@ -1,5 +1,6 @@
 -- Worked examples of the table.
-use Rattle.std.proofs.Common.{◌≡◌, Some, None, codes, refl}
+use Rattle.std.proofs.Common.{◌≡◌, [], Some, None, codes, refl}
+use Rattle.lab_front.specs.Queries.{decoded}
 use Rattle.lab_front.specs.Rows.{path_of, row_by}
 use Rattle.lab_front.specs.declared.table.Network.TheVariants as network
 use Rattle.lab_front.specs.declared.table.Row.TheVariants as to
@@ -23,20 +24,38 @@ without_a_version = refl
 
 -- ---- rows
 
-one_image : row_by (codes "GET") (codes "images/engine/tools/json") ≡ Some to.Image
+one_image : row_by (codes "GET") [] (codes "images/engine/tools/json") ≡ Some to.Image
 one_image = refl
 
-another_image : row_by (codes "GET") (codes "images/redis:7/json") ≡ Some to.NoImage
+another_image : row_by (codes "GET") [] (codes "images/redis:7/json") ≡ Some to.NoImage
 another_image = refl
 
-history_is_the_daemons : row_by (codes "GET") (codes "images/redis:7/history") ≡ None
+history_is_the_daemons : row_by (codes "GET") [] (codes "images/redis:7/history") ≡ None
 history_is_the_daemons = refl
 
-one_network : row_by (codes "GET") (codes "networks/host") ≡ Some (to.Network network.Host)
+one_network : row_by (codes "GET") [] (codes "networks/host") ≡ Some (to.Network network.Host)
 one_network = refl
 
-another_network : row_by (codes "GET") (codes "networks/app_default") ≡ Some to.NoNetwork
+another_network : row_by (codes "GET") [] (codes "networks/app_default") ≡ Some to.NoNetwork
 another_network = refl
 
-info_is_read_alone : row_by (codes "POST") (codes "info") ≡ None
+info_is_read_alone : row_by (codes "POST") [] (codes "info") ≡ None
 info_is_read_alone = refl
+
+-- ---- queries
+
+one_image_is_fetched : row_by (codes "POST") (codes "fromImage=engine%2Ftools&tag=latest") (codes "images/create") ≡ Some to.Pulled
+unfolding decoded
+one_image_is_fetched = refl
+
+another_image_is_not : row_by (codes "POST") (codes "fromImage=redis&tag=7") (codes "images/create") ≡ Some to.NoPull
+unfolding decoded
+another_image_is_not = refl
+
+filters_as_tools_write_them : row_by (codes "GET") (codes "all=0&filters=%7B%22reference%22%3A+%5B%22engine%2Ftools%22%5D%7D") (codes "images/json") ≡ Some to.Images
+unfolding decoded
+filters_as_tools_write_them = refl
+
+other_filters_leave_it_out : row_by (codes "GET") (codes "filters=%7B%22dangling%22%3A%7B%22true%22%3Atrue%7D%7D") (codes "images/json") ≡ Some to.NoImages
+unfolding decoded
+other_filters_leave_it_out = refl

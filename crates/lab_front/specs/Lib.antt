@@ -1,2 +1,3 @@
+pub mod Queries
 pub mod Rows
 pub mod Texts

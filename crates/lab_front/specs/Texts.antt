@@ -52,6 +52,15 @@ image_text =
 abbrev pub no_image_text : List ℕ
 no_image_text = codes "{\"message\":\"No such image\"}"
 
+-- fetched, as it stands already
+unfoldable pub pulled_text : List ℕ
+pulled_text =
+    codes "{\"status\":\"Pulling from engine/tools\",\"id\":\"latest\"}\r\n"
+    ++ codes "{\"status\":\"Status: Image is up to date for engine/tools:latest\"}\r\n"
+
+abbrev pub no_pull_text : List ℕ
+no_pull_text = codes "{\"message\":\"pull access denied, repository does not exist or may require 'docker login'\"}"
+
 -- ---- the networks
 
 abbrev pub network_by : List ℕ → List ℕ → List ℕ → List ℕ
@@ -82,14 +91,18 @@ no_network_text = codes "{\"message\":\"network not found\"}"
 abbrev pub status_of : Row → ℕ
 status_of to.NoImage = 404
 status_of to.NoNetwork = 404
+status_of to.NoPull = 404
 status_of other = 200
 
 abbrev pub text_of : Row → List ℕ
 text_of to.Info = info_text
 text_of to.DiskUse = disk_text
 text_of to.Images = image_list_text
+text_of to.NoImages = codes "[]"
 text_of to.Image = image_text
 text_of to.NoImage = no_image_text
+text_of to.Pulled = pulled_text
+text_of to.NoPull = no_pull_text
 text_of to.Networks = network_list_text
 text_of (to.Network network) = network_text network
 text_of to.NoNetwork = no_network_text

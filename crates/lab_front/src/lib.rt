@@ -1,7 +1,9 @@
 //! The requests that a front before the daemon answers the same at each time.
 #![tactic(auto)]
 
+mod images;
 mod path;
+mod query;
 mod table;
 mod texts;
 mod writing;

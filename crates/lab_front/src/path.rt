@@ -1,10 +1,11 @@
 // The path of a target, behind its version.
 ghost use Rattle.std.specs.Prelude.{◌≡◌, ◌<◌, ◌==◌, option_map};
 ghost use Rattle.std.specs.List.{before_first, after_first};
+ghost use Rattle.lab_front.specs.Queries.{is_between};
 ghost use Rattle.lab_front.specs.Rows as spec;
 
 /// What stands before the first such character, and behind it.
-fn cut_at(text: &str, mark: char) -> (&str, &str)
+pub(crate) fn cut_at(text: &str, mark: char) -> (&str, &str)
     requires { mark < 128 }
     ensures front { result.0.now ≡ before_first (λ b. b == mark) text.now }
     ensures back { result.1.now ≡ after_first (λ b. b == mark) text.now }
@@ -15,8 +16,8 @@ fn cut_at(text: &str, mark: char) -> (&str, &str)
     }
 }
 
-fn is_between(low: u8, high: u8, byte: u8) -> bool
-    ensures { result ≡ spec.is_between low high byte }
+pub(crate) fn is_between(low: u8, high: u8, byte: u8) -> bool
+    ensures { result ≡ is_between low high byte }
 {
     low <= byte && byte <= high
 }

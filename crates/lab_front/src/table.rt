@@ -3,7 +3,9 @@ ghost use Rattle.std.specs.Prelude.{◌≡◌};
 ghost use Rattle.http_edge.specs.Reader.{request_of};
 ghost use Rattle.lab_front.specs.Rows as spec;
 
+use crate::images::{list_row, pull_row};
 use crate::path::path_of;
+use crate::query::query_of;
 use http_edge::RequestView;
 
 /// A network, in which nothing is.
@@ -23,10 +25,16 @@ pub enum Row {
     DiskUse,
     /// The list of images.
     Images,
+    /// The same, where filters leave the one image out.
+    NoImages,
     /// The one image.
     Image,
     /// Another image.
     NoImage,
+    /// The one image, to be fetched.
+    Pulled,
+    /// Another image, to be fetched.
+    NoPull,
     /// The list of networks.
     Networks,
     Network(Network),
@@ -71,8 +79,8 @@ fn network_row(path: &str) -> Row
     Row::NoNetwork
 }
 
-fn get_row(path: &str) -> Option<Row>
-    ensures { result ≡ spec.get_row path.now }
+fn get_row(path: &str, query: &str) -> Option<Row>
+    ensures { result ≡ spec.get_row path.now query.now }
 {
     if path == "info" {
         return Some(Row::Info);
@@ -81,7 +89,7 @@ fn get_row(path: &str) -> Option<Row>
         return Some(Row::DiskUse);
     }
     if path == "images/json" {
-        return Some(Row::Images);
+        return Some(list_row(query));
     }
     if path == "networks" {
         return Some(Row::Networks);
@@ -98,9 +106,12 @@ fn get_row(path: &str) -> Option<Row>
     None
 }
 
-fn post_row(path: &str) -> Option<Row>
-    ensures { result ≡ spec.post_row path.now }
+fn post_row(path: &str, query: &str) -> Option<Row>
+    ensures { result ≡ spec.post_row path.now query.now }
 {
+    if path == "images/create" {
+        return pull_row(query);
+    }
     if path == "images/prune" {
         return Some(Row::PrunedImages);
     }
@@ -113,14 +124,14 @@ fn post_row(path: &str) -> Option<Row>
     None
 }
 
-fn row_by(method: &str, path: &str) -> Option<Row>
-    ensures { result ≡ spec.row_by method.now path.now }
+fn row_by(method: &str, query: &str, path: &str) -> Option<Row>
+    ensures { result ≡ spec.row_by method.now query.now path.now }
 {
     if method == "GET" {
-        return get_row(path);
+        return get_row(path, query);
     }
     if method == "POST" {
-        return post_row(path);
+        return post_row(path, query);
     }
     None
 }
@@ -129,5 +140,6 @@ fn row_by(method: &str, path: &str) -> Option<Row>
 pub fn row_of(request: &RequestView<'_>) -> Option<Row>
     ensures { result ≡ spec.row_of (request_of request.now) }
 {
-    row_by(request.method(), path_of(request.target())?)
+    let target = request.target();
+    row_by(request.method(), query_of(target), path_of(target)?)
 }

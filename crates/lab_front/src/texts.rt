@@ -51,6 +51,15 @@ fn image_text() -> &'static str
      \"Type\":\"layers\"},\"Size\":0,\"VirtualSize\":0}"
 }
 
+/// The one image, fetched.
+#[tactic(auto, unfolding(crate::specs::Texts::pulled_text))]
+fn pulled_text() -> &'static str
+    ensures { result.now ≡ spec.pulled_text }
+{
+    "{\"status\":\"Pulling from engine/tools\",\"id\":\"latest\"}\r\n\
+     {\"status\":\"Status: Image is up to date for engine/tools:latest\"}\r\n"
+}
+
 /// The three networks.
 #[tactic(auto, unfolding(crate::specs::Texts::network_list_text))]
 fn network_list_text() -> &'static str
@@ -112,8 +121,12 @@ pub fn text_of(row: Row) -> &'static str
         Row::DiskUse =>
             "{\"BuildCache\":[],\"Containers\":[],\"Images\":[],\"LayersSize\":0,\"Volumes\":[]}",
         Row::Images => image_list_text(),
+        Row::NoImages => "[]",
         Row::Image => image_text(),
         Row::NoImage => "{\"message\":\"No such image\"}",
+        Row::Pulled => pulled_text(),
+        Row::NoPull =>
+            "{\"message\":\"pull access denied, repository does not exist or may require 'docker login'\"}",
         Row::Networks => network_list_text(),
         Row::Network(network) => network_text(network),
         Row::NoNetwork => "{\"message\":\"network not found\"}",
@@ -128,7 +141,7 @@ pub fn status_of(row: Row) -> u16
     ensures { result ≡ spec.status_of row }
 {
     match row {
-        Row::NoImage | Row::NoNetwork => 404,
+        Row::NoImage | Row::NoNetwork | Row::NoPull => 404,
         _ => 200,
     }
 }
