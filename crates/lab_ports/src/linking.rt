@@ -5,7 +5,7 @@ use std::net::{Net, TcpListener, TcpStream};
 
 /// Where links come from.
 pub trait Linking: Sync {
-    type Made: Link + Drop;
+    type Made: Link + Send + Drop;
 
     /// A link that leads nowhere yet.
     fn link(&self) -> Self::Made;
@@ -24,7 +24,8 @@ impl<R> TcpLinks<R> {
     }
 }
 
-impl<R: Net<Listener = TcpListener, Stream = TcpStream> + Copy + Sync> Linking for TcpLinks<R> {
+impl<R: Net<Listener = TcpListener, Stream = TcpStream> + Copy + Send + Sync> Linking
+    for TcpLinks<R> {
     type Made = TcpLink<R>;
 
     fn link(&self) -> TcpLink<R> {
