@@ -29,6 +29,14 @@ impl<'a, R, D> FrontDoor<'a, R, D> {
     {
         FrontDoor { rt, alloc, door }
     }
+
+    /// The door below.
+    pub fn into_door(self) -> D
+        ensures { result ≡ self.entry.door }
+    {
+        let FrontDoor { door, .. } = self;
+        door
+    }
 }
 
 /// The memory of a front and of a sink that is shared.
