@@ -1,0 +1,5 @@
+pub mod Whys
+pub mod Opening
+pub mod Serving
+pub mod Starting
+pub mod Program
