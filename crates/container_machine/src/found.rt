@@ -77,20 +77,20 @@ fn prepare_found(
         Call::Wait { until, .. } => Ok(reading_calls::wait::prepare(
             tables, alloc, conn, moment, h, *until,
         )),
-        Call::Create(_) => unreachable!(),
-        Call::Drop { .. } => unreachable!(),
-        Call::Events { .. } => unreachable!(),
-        Call::ExecInspect { .. } => unreachable!(),
-        Call::ExecStart { .. } => unreachable!(),
-        Call::Feed { .. } => unreachable!(),
-        Call::FeedEnd { .. } => unreachable!(),
-        Call::JournalRead => unreachable!(),
-        Call::List { .. } => unreachable!(),
-        Call::Take { .. } => unreachable!(),
-        Call::VolumeCreate { .. } => unreachable!(),
-        Call::VolumeInspect { .. } => unreachable!(),
-        Call::VolumeList { .. } => unreachable!(),
-        Call::VolumeRemove { .. } => unreachable!(),
+        Call::Create(_)
+        | Call::Drop { .. }
+        | Call::Events { .. }
+        | Call::ExecInspect { .. }
+        | Call::ExecStart { .. }
+        | Call::Feed { .. }
+        | Call::FeedEnd { .. }
+        | Call::JournalRead
+        | Call::List { .. }
+        | Call::Take { .. }
+        | Call::VolumeCreate { .. }
+        | Call::VolumeInspect { .. }
+        | Call::VolumeList { .. }
+        | Call::VolumeRemove { .. } => unreachable!(),
     }
 }
 

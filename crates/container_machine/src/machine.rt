@@ -68,7 +68,20 @@ impl Machine {
     {
         self.kept();
         match call {
-            Call::Attach { target, .. } => {
+            Call::Attach { target, .. }
+            | Call::ExecCreate { target, .. }
+            | Call::Kill { target, .. }
+            | Call::Inspect { target }
+            | Call::Logs { target, .. }
+            | Call::Pause { target }
+            | Call::Remove { target, .. }
+            | Call::Rename { target, .. }
+            | Call::Restart { target, .. }
+            | Call::Start { target }
+            | Call::Stop { target, .. }
+            | Call::Unpause { target }
+            | Call::Update { target, .. }
+            | Call::Wait { target, .. } => {
                 prepare_at(&self.tables, alloc, conn, moment, target.as_str(), call)
             }
             Call::Create(asked) => changing_calls::create::prepare(
@@ -89,9 +102,6 @@ impl Machine {
                 *until,
                 filter,
             ),
-            Call::ExecCreate { target, .. } => {
-                prepare_at(&self.tables, alloc, conn, moment, target.as_str(), call)
-            }
             Call::ExecInspect { id } => {
                 reading_calls::execs::inspect::prepare(&self.tables, alloc, moment, id.as_str())
             }
@@ -114,12 +124,6 @@ impl Machine {
                 *owner,
                 *run,
             )),
-            Call::Kill { target, .. } => {
-                prepare_at(&self.tables, alloc, conn, moment, target.as_str(), call)
-            }
-            Call::Inspect { target } => {
-                prepare_at(&self.tables, alloc, conn, moment, target.as_str(), call)
-            }
             Call::JournalRead => reading_calls::events::prepare_journal(
                 &self.tables,
                 alloc,
@@ -128,39 +132,12 @@ impl Machine {
             Call::List { all, limit, filter } => {
                 reading_calls::list::prepare(&self.tables, alloc, moment, *all, *limit, filter)
             }
-            Call::Logs { target, .. } => {
-                prepare_at(&self.tables, alloc, conn, moment, target.as_str(), call)
-            }
-            Call::Pause { target } => {
-                prepare_at(&self.tables, alloc, conn, moment, target.as_str(), call)
-            }
-            Call::Remove { target, .. } => {
-                prepare_at(&self.tables, alloc, conn, moment, target.as_str(), call)
-            }
-            Call::Rename { target, .. } => {
-                prepare_at(&self.tables, alloc, conn, moment, target.as_str(), call)
-            }
-            Call::Restart { target, .. } => {
-                prepare_at(&self.tables, alloc, conn, moment, target.as_str(), call)
-            }
-            Call::Start { target } => {
-                prepare_at(&self.tables, alloc, conn, moment, target.as_str(), call)
-            }
-            Call::Stop { target, .. } => {
-                prepare_at(&self.tables, alloc, conn, moment, target.as_str(), call)
-            }
             Call::Take { ticket } => reading_calls::take::prepare(
                 &self.tables,
                 alloc,
                 moment,
                 *ticket,
             ),
-            Call::Unpause { target } => {
-                prepare_at(&self.tables, alloc, conn, moment, target.as_str(), call)
-            }
-            Call::Update { target, .. } => {
-                prepare_at(&self.tables, alloc, conn, moment, target.as_str(), call)
-            }
             Call::VolumeCreate { name, labels } => {
                 changing_calls::volumes::create::prepare(
                     &self.tables,
@@ -178,9 +155,6 @@ impl Machine {
             }
             Call::VolumeRemove { name } => {
                 changing_calls::volumes::remove::prepare(&self.tables, alloc, moment, name.as_str())
-            }
-            Call::Wait { target, .. } => {
-                prepare_at(&self.tables, alloc, conn, moment, target.as_str(), call)
             }
             Call::Drop { .. } => unreachable!(),
         }
