@@ -19,4 +19,5 @@ pub use dues::Dues;
 pub use held::Held;
 pub use life_change::LifeChange;
 pub use rank::Rank;
+pub use rows::Rows;
 pub use table::Table;
