@@ -1,29 +1,30 @@
 -- The numbers of execs in order of their ids: one found, one put in, some taken out.
-use Rattle.std.proofs.Common.{◌≡◌, ℕ, ◌≤◌, Bool, true, false, not, if◌then◌else◌, List, [], ◌∷◌, ◌++◌, length, get_or, map, filter, Option, Some, None, Result, Ok, Err, find, refl, sym, ◌∙◌, subst, ap, Ordering, MatchResult, eqb}
-use Rattle.std.specs.List.{AllByRecursion, insert}
+use Rattle.std.proofs.Common.{◌≡◌, ℕ, zero, suc, ◌≤◌, Bool, true, false, if◌then◌else◌, List, [], ◌∷◌, ◌++◌, length, get_or, map, Option, Some, None, Result, Ok, Err, find, refl, sym, ◌∙◌, subst, ap, Ordering, MatchResult, eqb, arith}
+use Rattle.std.specs.List.{AllByRecursion, insert, remove}
 use Rattle.std.specs.List.Sorted.{IsBinarySearchResult, IsSearchInRange, IsStrictlySortedBy, IsNonDecreasingBy}
 use Rattle.std.specs.Ordering.{ordering_index, is_lt}
 use Rattle.std.specs.Cmp.{IsStrictWeakOrder}
+use Rattle.std.proofs.lemmas.Bool.Decides.{nat_tests}
 use Rattle.std.proofs.lemmas.Cmp.{nat_list_cmp_total}
 use Rattle.std.proofs.lemmas.List.{length-map}
 use Rattle.std.proofs.lemmas.List.Sorted.{ranks_by}
 use Rattle.std.specs.declared.cmp.Ordering.TheVariants.{Less, Equal, Greater}
 use Rattle.engine_text.specs.declared.exec.Exec.{Exec}
-use Rattle.engine_text.specs.Lists.{update_first}
+use Rattle.engine_text.specs.Lists.{remove_first, update_first}
 use Rattle.engine_text.specs.Texts.{same_bytes}
-use Rattle.container_table.specs.Lists.{placed}
-use Rattle.container_table.specs.Order.{IsInOrder, are_apart, AreApart}
+use Rattle.container_table.specs.Order.{are_apart, AreApart}
 use Rattle.container_table.specs.Search.{HoldsOf, Parts}
-use Rattle.container_table.proofs.PlacedLemmas.{AreAlone, all_imp, all_in_order, all_found, alone_in_order, in_order_back, apart_append, in_order_append, ordered, in_order_changed, length-in_order}
-use Rattle.container_table.proofs.SearchLemmas.{Rises, rises_far, rises_made, found_place, holds_back, parts_back, find_at, find_none, none_passes, all_of_parts, parts_imp, insert_at}
+use Rattle.container_table.proofs.PlacedLemmas.{AreAlone, all_imp, all_in_order, all_found, alone_in_order, in_order_back, apart_append, apart_removed, in_order_append, in_order_remove, ordered, in_order_changed, length-in_order}
+use Rattle.container_table.proofs.SearchLemmas.{Rises, rises_far, rises_made, found_place, holds_back, parts_back, find_at, find_none, none_passes, all_of_parts, parts_imp, insert_at, remove_at}
 use Rattle.container_table.proofs.TextLemmas.{order, is_lt-Less, places_rise, same_if_equal, other_if_less, other_if_greater}
 use Rattle.container_table.proofs.IndexLemmas.{apart_texts}
 use Rattle.container_table.proofs.PrefixLemmas.{find_in_order, other_text}
 use Rattle.container_table.proofs.KeptLemmas.{apart_kept, map_kept, none_all}
-use Rattle.exec_table.specs.Execs.{exec_numbered, exec_with_id, is_exec_of, without_execs_of}
-use Rattle.exec_table.specs.ExecsInside.{by_row, execs_in, is_id_before, sorted_by_id, IsIndex, IsFresh, found_id, id_order, is_found_of}
+use Rattle.container_table.proofs.BoxLemmas.{remove_none}
+use Rattle.exec_table.specs.Execs.{exec_numbered, exec_with_id}
+use Rattle.exec_table.specs.ExecsInside.{by_row, execs_in, is_id_before, sorted_by_id, IsIndex, IsFresh, found_id, id_order}
 use Rattle.exec_table.specs.declared.row.Row.{Row}
-use Rattle.exec_table.proofs.OrderLemmas.{all_numbered}
+use Rattle.exec_table.proofs.OrderLemmas.{all_numbered, numbers_alone}
 
 pub id_ranks : IsStrictWeakOrder is_id_before
 id_ranks = ranks_by nat_list_cmp_total (λ (x : Exec). x.id)
@@ -165,91 +166,66 @@ index_kept n f xs ys ids same number alone e index = subst (λ (zs : List Exec).
     right : (y z : Exec) → is_id_before y (f z) ≡ is_id_before y z
     right y z = rw (same z) refl
 
--- ---- taken out
+-- ---- one taken out
 
-all_less : {A : Type 0} (P : A → Type 0) (p : A → Bool) (xs : List A) → AllByRecursion P xs → AllByRecursion P (filter p xs)
-all_less P p [] h = tt
-all_less P p (x ∷ xs) h = go (p x) (all_less P p xs h.1)
+own_byte : (n : ℕ) → eqb n n ≡ true
+own_byte n = grind (arith, nat_tests)
+
+own_bytes : (a : List ℕ) → same_bytes a a ≡ true
+own_bytes [] = refl
+own_bytes (n ∷ ns) = rw (own_byte n) (own_bytes ns)
+
+-- who has the id of the exec with that number is that exec
+only_one : (n : ℕ) (x : Exec) (xs : List Exec) → AreAlone (λ y. same_bytes y.id x.id) xs → exec_numbered n xs ≡ Some x → same_bytes x.id x.id ≡ true
+    → AllByRecursion (λ y. same_bytes y.id x.id ≡ true → eqb y.number n ≡ true) xs
+only_one n x [] alone found same = tt
+only_one n x (y ∷ ys) alone found same = go (eqb y.number n) refl found (λ f. only_one n x ys alone.1 f same)
   where
-    go : (b : Bool) → AllByRecursion P (filter p xs) → AllByRecursion P (if b then x ∷ filter p xs else filter p xs)
-    go true more = (h.0, more)
-    go false more = more
+    go : (b : Bool) → eqb y.number n ≡ b → (if b then Some y else exec_numbered n ys) ≡ Some x → (exec_numbered n ys ≡ Some x → AllByRecursion (λ y. same_bytes y.id x.id ≡ true → eqb y.number n ≡ true) ys)
+        → AllByRecursion (λ y. same_bytes y.id x.id ≡ true → eqb y.number n ≡ true) (y ∷ ys)
+    go true e f more =
+        let is : x ≡ y = cc in (
+          λ p. e,
+          all_imp (λ z. same_bytes z.id x.id ≡ false) (λ z. same_bytes z.id x.id ≡ true → eqb z.number n ≡ true) (λ z no yes. absurd (cc)) ys
+              (alone.0 (subst (λ (z : Exec). same_bytes z.id x.id ≡ true) is same)),
+        )
+    go false e f more =
+        (λ p. let no : same_bytes x.id x.id ≡ false = all_found (λ z. same_bytes z.id x.id ≡ false) (λ z. eqb z.number n) ys x (alone.0 p) f in absurd (cc), more f)
 
-apart_less : (p : Exec → Bool) (xs : List Exec) → AreApart is_id_before xs → AreApart is_id_before (filter p xs)
-apart_less p [] h = tt
-apart_less p (x ∷ xs) h = go (p x) (apart_less p xs h.1)
-  where
-    go : (b : Bool) → AreApart is_id_before (filter p xs) → AreApart is_id_before (if b then x ∷ filter p xs else filter p xs)
-    go true more = (all_less (λ y. are_apart is_id_before x y ≡ true) p xs h.0, more)
-    go false more = more
+holds_all : (P Q : Exec → Type 0) (l : List Exec) (i : ℕ) → AllByRecursion (λ y. P y → Q y) l → HoldsOf P l i → HoldsOf Q l i
+holds_all P Q [] i h e = e
+holds_all P Q (y ∷ ys) zero h e = h.0 e
+holds_all P Q (y ∷ ys) (suc i) h e = holds_all P Q ys i h.1 e
 
-placed_first : (x : Exec) (l : List Exec) → AllByRecursion (λ y. is_id_before y x ≡ false) l → placed is_id_before x l ≡ x ∷ l
-placed_first x [] h = refl
-placed_first x (y ∷ ys) h = rw h.0 refl
-
-filter_placed : (p : Exec → Bool) (x : Exec) (l : List Exec) → IsInOrder is_id_before l → p x ≡ true → filter p (placed is_id_before x l) ≡ placed is_id_before x (filter p l)
-filter_placed p x [] h e = rw e refl
-filter_placed p x (y ∷ ys) h e = go (is_id_before y x) (p y) refl refl (filter_placed p x ys h.1 e)
-  where
-    behind : is_id_before y x ≡ false → (z : Exec) → is_id_before y z ≡ true → is_id_before z x ≡ false
-    behind f z q = id_ranks.chain z y x (id_ranks.one_way y z q) f
-
-    rest : is_id_before y x ≡ false → AllByRecursion (λ z. is_id_before z x ≡ false) ys
-    rest f = all_imp (λ z. is_id_before y z ≡ true) (λ z. is_id_before z x ≡ false) (behind f) ys h.0
-
-    go : (b c : Bool) → is_id_before y x ≡ b → p y ≡ c → filter p (placed is_id_before x ys) ≡ placed is_id_before x (filter p ys)
-        → filter p (if b then y ∷ placed is_id_before x ys else x ∷ y ∷ ys) ≡ placed is_id_before x (if c then y ∷ filter p ys else filter p ys)
-    go true true f g more = rw (g, f) (ap (λ l. y ∷ l) more)
-    go true false f g more = rw g more
-    go false true f g more = rw (e, g, f) refl
-    go false false f g more = rw (e, g) (sym (placed_first x (filter p ys) (all_less (λ z. is_id_before z x ≡ false) p ys (rest f))))
-
-filter_past : (p : Exec → Bool) (x : Exec) (l : List Exec) → p x ≡ false → filter p (placed is_id_before x l) ≡ filter p l
-filter_past p x [] e = rw e refl
-filter_past p x (y ∷ ys) e = go (is_id_before y x) (filter_past p x ys e)
-  where
-    pick : (c : Bool) (k l : List Exec) → k ≡ l → (if c then y ∷ k else k) ≡ (if c then y ∷ l else l)
-    pick c k l f = ap (λ m. if c then y ∷ m else m) f
-
-    go : (b : Bool) → filter p (placed is_id_before x ys) ≡ filter p ys → filter p (if b then y ∷ placed is_id_before x ys else x ∷ y ∷ ys) ≡ filter p (y ∷ ys)
-    go true more = pick (p y) (filter p (placed is_id_before x ys)) (filter p ys) more
-    go false more = rw e refl
-
-filter_in_order : (p : Exec → Bool) (xs : List Exec) → AreApart is_id_before xs → filter p (sorted_by_id xs) ≡ sorted_by_id (filter p xs)
-filter_in_order p [] h = refl
-filter_in_order p (x ∷ xs) h = go (p x) refl (filter_in_order p xs h.1)
-  where
-    go : (b : Bool) → p x ≡ b → filter p (sorted_by_id xs) ≡ sorted_by_id (filter p xs) → filter p (placed is_id_before x (sorted_by_id xs)) ≡ sorted_by_id (if b then x ∷ filter p xs else filter p xs)
-    go true e more = filter_placed p x (sorted_by_id xs) (ordered is_id_before id_ranks xs h.1) e ∙ ap (placed is_id_before x) more
-    go false e more = filter_past p x (sorted_by_id xs) e ∙ more
-
-filter_numbers : (q : ℕ → Bool) (p : Exec → Bool) (l : List Exec) → AllByRecursion (λ x. q x.number ≡ p x) l → filter q (map (λ x. x.number) l) ≡ map (λ x. x.number) (filter p l)
-filter_numbers q p [] h = refl
-filter_numbers q p (x ∷ xs) h = go (p x) h.0 (filter_numbers q p xs h.1)
-  where
-    go : (b : Bool) → q x.number ≡ b → filter q (map (λ x. x.number) xs) ≡ map (λ x. x.number) (filter p xs)
-        → filter q (x.number ∷ map (λ x. x.number) xs) ≡ map (λ (x : Exec). x.number) (if b then x ∷ filter p xs else filter p xs)
-    go true e more = rw e (ap (λ l. x.number ∷ l) more)
-    go false e more = rw e more
-
-pub unfiled : (rows : List Row) (container : ℕ) (ids less : List ℕ) → IsStrictlySortedBy by_row rows → IsIndex (execs_in rows) ids
-    → less ≡ filter (λ n. not (is_found_of container (exec_numbered n (execs_in rows)))) ids → IsIndex (without_execs_of container (execs_in rows)) less
-unfiled rows container ids less sorted index out = record {
-  apart = apart_less p xs index.apart;
+pub unfiled : (rows : List Row) (n : ℕ) (x : Exec) (ids : List ℕ) (i : ℕ) → IsStrictlySortedBy by_row rows → IsIndex (execs_in rows) ids → exec_numbered n (execs_in rows) ≡ Some x
+    → HoldsOf (λ y. same_bytes y.id x.id ≡ true) (sorted_by_id (execs_in rows)) i → IsIndex (remove_first (λ (y : Exec). eqb y.number n) (execs_in rows)) (remove ids i)
+unfiled rows n x ids i sorted index found at = record {
+  apart = apart_removed is_id_before (λ (y : Exec). eqb y.number n) (execs_in rows) index.apart;
   is =
-      out ∙ ap (filter q) index.is
-      ∙ filter_numbers q p (sorted_by_id xs) (all_in_order is_id_before (λ x. q x.number ≡ p x) xs (all_imp (λ x. exec_numbered x.number xs ≡ Some x) (λ x. q x.number ≡ p x) (λ x e. ap (λ (o : Option Exec). not (is_found_of container o)) e) xs (all_numbered rows sorted)))
-      ∙ ap (map (λ (x : Exec). x.number)) (filter_in_order p xs index.apart);
+      ap (λ (es : List ℕ). remove es i) index.is
+      ∙ remove_at (λ (y : Exec). y.number) (λ (y : Exec). eqb y.number n) (sorted_by_id (execs_in rows)) i
+      (alone_in_order is_id_before (λ (y : Exec). eqb y.number n) (execs_in rows) (numbers_alone n rows sorted))
+      (holds_all (λ y. same_bytes y.id x.id ≡ true) (λ y. eqb y.number n ≡ true) (sorted_by_id (execs_in rows)) i
+      (all_in_order is_id_before (λ y. same_bytes y.id x.id ≡ true → eqb y.number n ≡ true) (execs_in rows)
+      (only_one n x (execs_in rows) (ids_alone x.id (execs_in rows) index.apart) found (own_bytes x.id))) at)
+      ∙ ap (map (λ (y : Exec). y.number)) (sym (in_order_remove is_id_before id_ranks (λ (y : Exec). eqb y.number n) (execs_in rows) index.apart (numbers_alone n rows sorted)));
 }
+
+pub none_unfiled : (rows : List Row) (n : ℕ) (x : Exec) (i : ℕ) → exec_numbered n (execs_in rows) ≡ Some x
+    → Parts (λ y. order y.id x.id ≡ Less) (λ y. order y.id x.id ≡ Greater) (sorted_by_id (execs_in rows)) i → ⊥
+none_unfiled rows n x i found at =
+    let other : same_bytes x.id x.id ≡ false = all_found (λ y. same_bytes y.id x.id ≡ false) (λ y. eqb y.number n) (execs_in rows) x
+    (in_order_back is_id_before (λ y. same_bytes y.id x.id ≡ false) (execs_in rows)
+    (all_of_parts (λ y. order y.id x.id ≡ Less) (λ y. order y.id x.id ≡ Greater) (λ y. same_bytes y.id x.id ≡ false) (sorted_by_id (execs_in rows)) i
+    (λ y e. other_if_less y.id x.id e) (λ y e. other_if_greater y.id x.id e) at)) found in
+    let same : same_bytes x.id x.id ≡ true = own_bytes x.id in absurd (cc)
+
+-- where none has the number
+pub index_without : (n : ℕ) (xs : List Exec) (ids : List ℕ) → exec_numbered n xs ≡ None → IsIndex xs ids → IsIndex (remove_first (λ (y : Exec). eqb y.number n) xs) ids
+index_without n xs ids none index = subst (λ (ys : List Exec). IsIndex ys ids) (sym (go xs none)) index
   where
-    xs : List Exec
-    xs = execs_in rows
-
-    p : Exec → Bool
-    p x = not (is_exec_of container x)
-
-    q : ℕ → Bool
-    q n = not (is_found_of container (exec_numbered n xs))
+    go : (xs : List Exec) → exec_numbered n xs ≡ None → remove_first (λ (y : Exec). eqb y.number n) xs ≡ xs
+    go xs e = remove_none (λ (y : Exec). eqb y.number n) xs (none_all (λ (y : Exec). eqb y.number n) xs e)
 
 -- an index has as many numbers as there are execs
 pub index_length : (xs : List Exec) (ids : List ℕ) → IsIndex xs ids → length ids ≡ length xs

@@ -1,5 +1,6 @@
 pub mod OrderLemmas
 pub mod RowLemmas
-pub mod SiftLemmas
 pub mod IdLemmas
 pub mod OwnLemmas
+pub mod OwnerLemmas
+pub mod GoneLemmas

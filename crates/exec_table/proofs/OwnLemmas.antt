@@ -1,13 +1,11 @@
 -- The outputs of a container's execs, told by their rows.
 use Rattle.std.proofs.Common.{◌≡◌, ℕ, Bool, true, false, not, List, [], ◌∷◌, length, map, filter, refl, sym, ◌∙◌, ap, eqb, if◌then◌else◌, arith}
-use Rattle.std.specs.Prelude.{count_by}
 use Rattle.std.specs.List.{AllByRecursion, list_any}
 use Rattle.std.specs.List.Sorted.{IsStrictlySortedBy}
 use Rattle.std.specs.Ordering.{nat_cmp}
 use Rattle.std.specs.declared.cmp.Ordering.TheVariants.{Less}
 use Rattle.std.proofs.lemmas.Bool.Decides.{nat_tests}
 use Rattle.std.proofs.lemmas.List.{length-map}
-use Rattle.std.proofs.lemmas.List.Sums.{length-filter}
 use Rattle.engine_text.specs.declared.exec.Exec.{Exec}
 use Rattle.exec_table.specs.Execs.{is_output_of, without_execs_of, execs_of}
 use Rattle.exec_table.specs.ExecsInside.{by_row, execs_in, output_in, outputs_in}
@@ -94,7 +92,7 @@ execs_failing n rows = passing_in (λ (r : Row). r.exec) (λ x. not (eqb x.conta
 pub execs_passing : (n : ℕ) (rows : List Row) → execs_of n (execs_in rows) ≡ execs_in (filter (λ r. eqb r.exec.container n) rows)
 execs_passing n rows = passing_in (λ (r : Row). r.exec) (λ x. eqb x.container n) (λ r. eqb r.exec.container n) rows (each_same' n rows)
 
-pub count_passing : (n : ℕ) (rows : List Row) → IsStrictlySortedBy by_row rows → count_by (λ r. eqb r.exec.container n) rows ≡ length (filter (is_output_of n (execs_in rows)) (outputs_in rows))
+pub count_passing : (n : ℕ) (rows : List Row) → IsStrictlySortedBy by_row rows → length (filter (λ r. eqb r.exec.container n) rows) ≡ length (filter (is_output_of n (execs_in rows)) (outputs_in rows))
 count_passing n rows sorted =
     let e : length (outputs_in (filter (λ r. eqb r.exec.container n) rows)) ≡ length (filter (λ r. eqb r.exec.container n) rows) = simp length-map refl in
-    sym (length-filter (λ r. eqb r.exec.container n) rows) ∙ (sym e ∙ ap length (sym (outputs_passing n rows sorted)))
+    sym e ∙ ap length (sym (outputs_passing n rows sorted))

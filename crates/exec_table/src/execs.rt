@@ -7,8 +7,9 @@ ghost use Rattle.container_table.specs.Logs.{AreNoLess};
 ghost use Rattle.exec_table.specs.Execs.{empty_output, exec_numbered, exec_with_id, started, ended, execs_of, is_output_numbered, is_output_of, output_log, rooms_used, rooms_without, with_record, without_execs_of, FitsOutput};
 
 use super::listing::ExecList;
-use super::row::Row;
-use super::{ids, rows};
+use super::row::{Owned, Row};
+use super::{ids, owned, removal, rows};
+use container_table::Rows;
 use engine_text::{Exec, LogRecord, NoMemory, OpenLog, OwnedLog};
 use std::alloc::Global;
 use std::marker::Model;
@@ -16,8 +17,10 @@ use std::marker::Model;
 /// Execs in order of number with their outputs, seen beside the room that was made for them.
 #[derive(Drop)]
 pub struct Execs {
-    rows: Vec<Row>,
-    ids: Vec<u64>,
+    alloc: Global,
+    rows: Rows<Row>,
+    ids: Rows<u64>,
+    owned: Rows<Owned>,
 }
 
 impl Model for Execs {
@@ -41,8 +44,10 @@ impl Execs {
         ensures places { result.places ≡ 0 }
     {
         Execs {
-            rows: Vec::new(alloc),
-            ids: Vec::new(alloc),
+            alloc,
+            rows: Rows::new(alloc),
+            ids: Rows::new(alloc),
+            owned: Rows::new(alloc),
         }
     }
 
@@ -58,24 +63,20 @@ impl Execs {
         requires { place < length self.now.execs }
         ensures { slice_get self.now.execs place ≡ Some result.now }
     {
-        &self.rows[place].exec
+        &self.rows.at(place).exec
     }
 
     /// Makes room for so many more.
-    pub fn reserve(&mut self, _alloc: Global, n: usize) -> Result<(), NoMemory>
+    pub fn reserve(&mut self, alloc: Global, n: usize) -> Result<(), NoMemory>
         ensures execs { self.new.execs ≡ self.old.execs }
         ensures outputs { self.new.outputs ≡ self.old.outputs }
         ensures rooms { self.new.rooms ≡ self.old.rooms }
         ensures ok { OnOk result (length self.new.execs + n ≤ self.new.places) }
         ensures places { self.old.places ≤ self.new.places }
     {
-        if self.rows.reserve(n).is_err() {
-            return Err(NoMemory);
-        }
-        match self.ids.reserve(n) {
-            Ok(()) => Ok(()),
-            Err(_) => Err(NoMemory),
-        }
+        self.rows.reserve(alloc, n)?;
+        self.ids.reserve(alloc, n)?;
+        self.owned.reserve(alloc, n)
     }
 
     /// Adds an exec that has written nothing; there was room for it.
@@ -88,17 +89,18 @@ impl Execs {
         ensures rooms { self.new.rooms ≡ self.old.rooms ++ 0 ∷ [] }
         ensures places { self.new.places ≡ self.old.places }
     {
-        ids::file(&mut self.ids, self.rows.as_slice(), &exec);
-        let log = OpenLog::new(*self.rows.allocator());
-        self.rows.push_reserved(Row { exec, log });
+        ids::file(&mut self.ids, &self.rows, &exec);
+        owned::file(&mut self.owned, &exec);
+        let log = OpenLog::new(self.alloc);
+        self.rows.push(Row { exec, log });
     }
 
     /// The exec with that full id, found by halving.
     pub fn find(&self, id: &str) -> Option<&Exec>
         ensures { option_copied result ≡ exec_with_id id.now self.now.execs }
     {
-        match ids::locate(self.ids.as_slice(), self.rows.as_slice(), id) {
-            Ok(i) => self.find_number(self.ids[i]),
+        match ids::locate(&self.ids, &self.rows, id) {
+            Ok(i) => self.find_number(*self.ids.at(i)),
             Err(_) => None,
         }
     }
@@ -107,9 +109,9 @@ impl Execs {
     pub fn find_number(&self, number: u64) -> Option<&Exec>
         ensures { option_copied result ≡ exec_numbered number self.now.execs }
     {
-        match rows::place_of(self.rows.as_slice(), number) {
+        match rows::place_of(&self.rows, number) {
             None => None,
-            Some(i) => Some(&self.rows[i].exec),
+            Some(i) => Some(&self.rows.at(i).exec),
         }
     }
 
@@ -117,9 +119,9 @@ impl Execs {
     pub fn output(&self, number: u64) -> Option<&[LogRecord]>
         ensures { option_copied result ≡ output_log number self.now.outputs }
     {
-        match rows::place_of(self.rows.as_slice(), number) {
+        match rows::place_of(&self.rows, number) {
             None => None,
-            Some(i) => Some(self.rows[i].log.as_slice()),
+            Some(i) => Some(self.rows.at(i).log.as_slice()),
         }
     }
 
@@ -131,8 +133,8 @@ impl Execs {
         ensures rooms { self.new.rooms ≡ self.old.rooms }
         ensures places { self.new.places ≡ self.old.places }
     {
-        if let Some(i) = rows::place_of(self.rows.as_slice(), number) {
-            let row = &mut self.rows[i];
+        if let Some(i) = rows::place_of(&self.rows, number) {
+            let row = self.rows.at_mut(i);
             row.exec.started = true;
             row.exec.pid = pid;
         }
@@ -146,8 +148,8 @@ impl Execs {
         ensures rooms { self.new.rooms ≡ self.old.rooms }
         ensures places { self.new.places ≡ self.old.places }
     {
-        if let Some(i) = rows::place_of(self.rows.as_slice(), number) {
-            let row = &mut self.rows[i];
+        if let Some(i) = rows::place_of(&self.rows, number) {
+            let row = self.rows.at_mut(i);
             row.exec.pid = 0;
             row.exec.code = Some(code);
         }
@@ -181,7 +183,7 @@ impl Execs {
     pub fn of_container(&self, container: u64) -> ExecList<'_>
         ensures { result ≡ execs_of container self.now.execs }
     {
-        ExecList::of(self.rows.as_slice(), container)
+        ExecList::of(&self.rows, &self.owned, container)
     }
 
     /// How many outputs are of the container's execs.
@@ -189,7 +191,7 @@ impl Execs {
         ensures { result
             ≡ length (filter (is_output_of container self.now.execs) self.now.outputs) }
     {
-        rows::count_of(self.rows.as_slice(), container)
+        owned::count_of(&self.owned, container)
     }
 
     /// Takes a container's execs away; their outputs go over into the list.
@@ -204,7 +206,14 @@ impl Execs {
             ++ filter (is_output_of container self.old.execs) self.old.outputs }
         ensures places { self.new.places ≡ self.old.places }
     {
-        ids::unfile(&mut self.ids, self.rows.as_slice(), container);
-        rows::sift(&mut self.rows, container, into);
+        let left = owned::count_of(&self.owned, container);
+        removal::move_all(
+            &mut self.rows,
+            &mut self.ids,
+            &mut self.owned,
+            container,
+            left,
+            into,
+        );
     }
 }

@@ -4,6 +4,8 @@
 mod execs;
 mod ids;
 mod listing;
+mod owned;
+mod removal;
 mod row;
 mod rows;
 

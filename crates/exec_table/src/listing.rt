@@ -1,18 +1,23 @@
 // The execs of one container (Docker Engine API v1.43, definition ContainerInspectResponse, ExecIDs).
-ghost use Rattle.std.specs.Prelude.{◌≡◌, ◌==◌, position};
+ghost use Rattle.std.specs.Prelude.{◌≡◌};
 ghost use Rattle.std.specs.Iterator.{YieldsFirstRef, item_count};
+ghost use Rattle.std.specs.List.Sorted.{IsStrictlySortedBy};
 ghost use Rattle.exec_table.specs.Execs.{execs_of};
-ghost use Rattle.exec_table.specs.ExecsInside.{execs_in};
+ghost use Rattle.exec_table.specs.ExecsInside.{by_row, execs_in, owned_in};
 
-use super::row::Row;
+use super::owned::{end_of, exec_at, start_of};
+use super::row::{Owned, Row};
+use container_table::Rows;
 use engine_text::Exec;
 use std::marker::Model;
 
 /// An iterator over the execs of one container, seen as the list of those to come.
 #[derive(Drop)]
 pub struct ExecList<'a> {
-    rest: &'a [Row],
-    container: u64,
+    rows: &'a Rows<Row>,
+    owned: &'a Rows<Owned>,
+    from: usize,
+    until: usize,
 }
 
 impl<'a> Model for ExecList<'a> {
@@ -21,27 +26,25 @@ impl<'a> Model for ExecList<'a> {
 
     ghost Value = { List AnExec };
 
-    ghost use Rattle.exec_table.specs.Execs.{execs_of};
-    ghost use Rattle.exec_table.specs.ExecsInside.{execs_in};
+    ghost use Rattle.exec_table.specs.ExecsInside.{execs_between, IsListed};
 
-    ghost view = { λ l. execs_of l.container (execs_in l.rest.now) };
-}
+    ghost view = { execs_between };
 
-// Where the first exec of the container stands.
-fn first_of(rows: &[Row], container: u64) -> Option<usize>
-    ensures { result ≡ position (λ r. r.exec.container == container) rows.now }
-{
-    rows.iter().position(|r| r.exec.container == container)
+    ghost invariant = { IsListed };
 }
 
 impl<'a> ExecList<'a> {
     /// Those of these execs that are of the container.
-    pub(crate) fn of(rows: &'a [Row], container: u64) -> ExecList<'a>
-        ensures { result ≡ execs_of container (execs_in rows.now) }
+    pub(crate) fn of(rows: &'a Rows<Row>, owned: &'a Rows<Owned>, container: u64) -> ExecList<'a>
+        requires order { IsStrictlySortedBy by_row rows.now.items }
+        requires index { owned.now.items ≡ owned_in (execs_in rows.now.items) }
+        ensures { result ≡ execs_of container (execs_in rows.now.items) }
     {
         ExecList {
-            rest: rows,
-            container,
+            rows,
+            owned,
+            from: start_of(owned, container),
+            until: end_of(owned, container),
         }
     }
 }
@@ -54,12 +57,11 @@ impl<'a> Iterator for ExecList<'a> {
     ghost remaining = { item_count (λ l. l) };
 
     fn next(&mut self) -> Option<&'a Exec> {
-        let Some(i) = first_of(self.rest, self.container) else {
+        if self.until <= self.from {
             return None;
-        };
-        let found = &self.rest[i].exec;
-        let (_, rest) = self.rest.split_at(i + 1);
-        self.rest = rest;
+        }
+        let found = exec_at(self.rows, self.owned, self.from);
+        self.from += 1;
         Some(found)
     }
 }

@@ -1,38 +1,54 @@
 // Execs with their outputs, in order of number.
-ghost use Rattle.std.specs.Prelude.{◌≡◌, ◌==◌, ◌+◌, ◌<◌, ◌≤◌, [], ◌∷◌, ◌++◌, OnOk, OnErr, not, position, length, map, filter, count_by, slice_index_or, vec_len, vec_capacity};
-ghost use Rattle.std.specs.List.{remove};
-ghost use Rattle.std.specs.List.Sorted.{IsStrictlySortedBy};
-ghost use Rattle.engine_text.specs.Lists.{update_first};
+ghost use Rattle.std.specs.Prelude.{◌≡◌, ◌==◌, ◌+◌, ◌-◌, ◌<◌, ◌≤◌, [], ◌∷◌, ◌++◌, OnOk, OnErr, Some, position, length, map, find, vec_len, vec_capacity};
+ghost use Rattle.std.specs.List.{AllWithin};
+ghost use Rattle.std.specs.List.Sorted.{IsBinarySearchResult, IsNonDecreasingBy, IsSearchInRange, IsStrictlySortedBy};
+ghost use Rattle.std.specs.Ordering.{nat_cmp, ordering_index};
+ghost use Rattle.engine_text.specs.Lists.{remove_first, update_first};
 ghost use Rattle.container_table.specs.Logs.{AreNoLess};
-ghost use Rattle.exec_table.specs.Execs.{exec_numbered, is_output_numbered, rooms_used, with_record, FitsOutput};
-ghost use Rattle.exec_table.specs.ExecsInside.{by_row, execs_in, output_in, outputs_in, room_in, is_found_of};
+ghost use Rattle.exec_table.specs.Execs.{is_output_numbered, rooms_used, with_record, FitsOutput};
+ghost use Rattle.exec_table.specs.ExecsInside.{by_row, execs_in, output_in, outputs_in, room_in};
 ghost use Rattle.exec_table.specs.declared.row.Row as row;
 
 use super::row::Row;
+use container_table::Rows;
 use engine_text::{LogRecord, NoMemory, OwnedLog, Owner};
 use std::alloc::Global;
+use std::cmp::Ordering;
 
-/// Where the exec with that number stands, found by halving.
-pub fn place_of(rows: &[Row], number: u64) -> Option<usize>
-    requires { IsStrictlySortedBy by_row rows.now }
-    ensures { result ≡ position (λ r. r.exec.number == number) rows.now }
+// Where the number stands between these two places, or would stand.
+fn place_between(rows: &Rows<Row>, number: u64, low: usize, high: usize) -> Result<usize, usize>
+    requires rises { IsNonDecreasingBy (λ r. ordering_index (nat_cmp r.exec.number number))
+        rows.now.items }
+    requires order { low ≤ high }
+    requires bound { high ≤ length rows.now.items }
+    requires below { AllWithin (λ r. nat_cmp r.exec.number number ≡ Ordering.Less)
+        rows.now.items 0 low }
+    requires above { AllWithin (λ r. nat_cmp r.exec.number number ≡ Ordering.Greater)
+        rows.now.items high (length rows.now.items) }
+    ensures bound { IsSearchInRange result (length rows.now.items) }
+    ensures place { IsBinarySearchResult (λ r. nat_cmp r.exec.number number) rows.now.items result }
 {
-    rows.binary_search_by_key(&number, |r| r.exec.number).ok()
-}
-
-/// Whether the exec with that number is one of the container.
-pub fn is_of(rows: &[Row], number: u64, container: u64) -> bool
-    requires { IsStrictlySortedBy by_row rows.now }
-    ensures { result ≡ is_found_of container (exec_numbered number (execs_in rows.now)) }
-{
-    match place_of(rows, number) {
-        None => false,
-        Some(i) => rows[i].exec.container == container,
+    if high <= low {
+        return Err(low);
+    }
+    let middle = low + (high - low) / 2;
+    match rows.at(middle).exec.number.cmp(&number) {
+        Ordering::Less => place_between(rows, number, middle + 1, high),
+        Ordering::Equal => Ok(middle),
+        Ordering::Greater => place_between(rows, number, low, middle),
     }
 }
 
+/// Where the exec with that number stands, found by halving.
+pub fn place_of(rows: &Rows<Row>, number: u64) -> Option<usize>
+    requires { IsStrictlySortedBy by_row rows.now.items }
+    ensures { result ≡ position (λ r. r.exec.number == number) rows.now.items }
+{
+    place_between(rows, number, 0, rows.len()).ok()
+}
+
 /// The output of the exec with that number has one more record.
-pub fn write(rows: &mut Vec<Row>, number: u64, written: LogRecord)
+pub fn write(rows: &mut Rows<Row>, number: u64, written: LogRecord)
     requires order { IsStrictlySortedBy by_row rows.old.items }
     requires room { FitsOutput number (outputs_in rows.old.items) (map room_in rows.old.items) }
     ensures outputs { outputs_in rows.new.items
@@ -42,17 +58,16 @@ pub fn write(rows: &mut Vec<Row>, number: u64, written: LogRecord)
         ≡ rooms_used number (execs_in rows.old.items) (map room_in rows.old.items) }
     ensures execs { execs_in rows.new.items ≡ execs_in rows.old.items }
     ensures order { IsStrictlySortedBy by_row rows.new.items }
-    ensures len { vec_len rows.new ≡ vec_len rows.old }
-    ensures capacity { vec_capacity rows.new ≡ vec_capacity rows.old }
+    ensures places { rows.new.places ≡ rows.old.places }
 {
-    if let Some(i) = place_of(rows.as_slice(), number) {
-        let row = &mut rows[i];
+    if let Some(i) = place_of(rows, number) {
+        let row = rows.at_mut(i);
         row.log.push_reserved(written);
     }
 }
 
 /// Makes room for one more record of that exec's output.
-pub fn reserve_record(rows: &mut Vec<Row>, alloc: Global, number: u64) -> Result<(), NoMemory>
+pub fn reserve_record(rows: &mut Rows<Row>, alloc: Global, number: u64) -> Result<(), NoMemory>
     requires { IsStrictlySortedBy by_row rows.old.items }
     ensures outputs { outputs_in rows.new.items ≡ outputs_in rows.old.items }
     ensures room { OnOk result
@@ -61,65 +76,30 @@ pub fn reserve_record(rows: &mut Vec<Row>, alloc: Global, number: u64) -> Result
     ensures err { OnErr result (map room_in rows.new.items ≡ map room_in rows.old.items) }
     ensures execs { execs_in rows.new.items ≡ execs_in rows.old.items }
     ensures order { IsStrictlySortedBy by_row rows.new.items }
-    ensures len { vec_len rows.new ≡ vec_len rows.old }
-    ensures capacity { vec_capacity rows.new ≡ vec_capacity rows.old }
+    ensures places { rows.new.places ≡ rows.old.places }
 {
-    let Some(i) = place_of(rows.as_slice(), number) else {
+    let Some(i) = place_of(rows, number) else {
         return Ok(());
     };
-    let row = &mut rows[i];
+    let row = rows.at_mut(i);
     row.log.reserve(alloc, 1)
 }
 
-/// How many execs are of the container.
-pub fn count_of(rows: &[Row], container: u64) -> usize
-    ensures { result ≡ count_by (λ r. r.exec.container == container) rows.now }
-{
-    rows.iter().filter(|r| is_row_of(r, container)).count()
-}
-
-// Whether its exec is one of the container.
-fn is_row_of(row: &Row, container: u64) -> bool
-    ensures { result ≡ (row.now.exec.container == container) }
-{
-    row.exec.container == container
-}
-
-// The output at that place goes over into the list, and its exec is gone.
-fn move_at(rows: &mut Vec<Row>, place: usize, into: &mut Vec<OwnedLog>)
-    requires place { place < vec_len rows.old }
+/// The exec with that number is gone, and its output goes over into the list.
+pub fn move_out(rows: &mut Rows<Row>, number: u64, into: &mut Vec<OwnedLog>)
+    requires order { IsStrictlySortedBy by_row rows.old.items }
     requires room { vec_len into.old < vec_capacity into.old }
-    ensures rows { rows.new.items ≡ remove rows.old.items place }
-    ensures len { vec_len rows.new + 1 ≡ vec_len rows.old }
-    ensures capacity { vec_capacity rows.new ≡ vec_capacity rows.old }
-    ensures into { (r : row.Row) → into.new.items
-        ≡ into.old.items ++ output_in (slice_index_or rows.old.items place r) ∷ [] }
-    ensures more { vec_len into.new ≡ vec_len into.old + 1 }
-    ensures into_capacity { vec_capacity into.new ≡ vec_capacity into.old }
+    ensures rows { rows.new.items ≡ remove_first (λ r. r.exec.number == number) rows.old.items }
+    ensures places { rows.new.places ≡ rows.old.places }
+    ensures into { (r : row.Row) → find (λ r. r.exec.number == number) rows.old.items ≡ Some r
+        → into.new.items ≡ into.old.items ++ output_in r ∷ [] }
+    ensures capacity { vec_capacity into.new ≡ vec_capacity into.old }
 {
-    let Row { exec, log } = rows.remove(place);
-    into.push_reserved(OwnedLog {
-        owner: Owner::Exec(exec.number),
-        log: log.close(),
-    });
-}
-
-/// The execs of the container are gone, and their outputs go over into the list.
-pub fn sift(rows: &mut Vec<Row>, container: u64, into: &mut Vec<OwnedLog>)
-    requires { length (filter (λ r. r.exec.container == container) rows.old.items)
-        + vec_len into.old ≤ vec_capacity into.old }
-    ensures rows { rows.new.items
-        ≡ filter (λ r. not (r.exec.container == container)) rows.old.items }
-    ensures into { into.new.items ≡ into.old.items
-        ++ outputs_in (filter (λ r. r.exec.container == container) rows.old.items) }
-    ensures capacity { vec_capacity rows.new ≡ vec_capacity rows.old }
-{
-    let mut i = 0;
-    while i < rows.len() {
-        if is_row_of(&rows[i], container) {
-            move_at(rows, i, into);
-        } else {
-            i += 1;
-        }
+    if let Some(i) = place_of(rows, number) {
+        let Row { exec, log } = rows.remove(i);
+        into.push_reserved(OwnedLog {
+            owner: Owner::Exec(exec.number),
+            log: log.close(),
+        });
     }
 }

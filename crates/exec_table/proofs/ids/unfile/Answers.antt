@@ -1,34 +1,28 @@
-use Rattle.std.proofs.Common.{◌≡◌, ℕ, Bool, true, false, List, get_or, ap, sym, ◌∙◌, arith, add-one}
-use Rattle.exec_table.specs.Execs.{exec_numbered}
-use Rattle.exec_table.specs.ExecsInside.{execs_in, is_found_of}
-use Rattle.exec_table.proofs.IdLemmas.{unfiled}
-use Rattle.exec_table.proofs.SiftLemmas.{sifted, sifted_end, hit_stays, miss_stays}
+use Rattle.std.proofs.Common.{◌∙◌, Ok, Err, sym, subst, eqb}
+use Rattle.engine_text.specs.declared.exec.Exec.{Exec}
+use Rattle.engine_text.specs.Lists.{remove_first}
+use Rattle.exec_table.specs.ExecsInside.{execs_in, IsIndex}
+use Rattle.exec_table.proofs.IdLemmas.{located, unfiled, none_unfiled, index_without}
+use Rattle.exec_table.proofs.RowLemmas.{exec_here, no_exec}
 use Rattle.exec_table.proofs.ids.unfile.Goals as goal
 
-pub loop-i-preserved-then-is_of : goal.loop-i-preserved-then-is_of
-loop-i-preserved-then-is_of c =
-    let q : ℕ → Bool = λ n. is_found_of c.args.container (exec_numbered n (execs_in c.args.rows.now)) in
-    let xs : List ℕ = c.loop-i.ids.items in
-    let hit : q (get_or xs c.loop-i.i c.index.result.now) ≡ true = ap q (sym c.index.ensures) ∙ sym c.is_of.ensures ∙ c.if-is_of.true in
-    record {
-      stays = ap (sifted q c.loop-i.i) c.remove.ensures.items ∙ hit_stays q c.index.result.now xs c.loop-i.i (omega arith) hit ∙ c.loop-i.invariant.stays;
-      low = omega arith;
-      capacity = c.remove.ensures.capacity ∙ c.loop-i.invariant.capacity;
-    }
+pub returns-in_default-clause-index : goal.returns-in_default-clause-index
+returns-in_default-clause-index c =
+    index_without c.args.number (execs_in c.args.rows.now.items) c.args.ids.now.items (no_exec c.args.number c.args.rows.now.items (sym c.place_of.ensures ∙ c.in_default.is)) c.requires.index
 
-pub loop-i-preserved : goal.loop-i-preserved
-loop-i-preserved c =
-    let q : ℕ → Bool = λ n. is_found_of c.args.container (exec_numbered n (execs_in c.args.rows.now)) in
-    let xs : List ℕ = c.loop-i.ids.items in
-    let miss : q (get_or xs c.loop-i.i c.index.result.now) ≡ false = ap q (sym c.index.ensures) ∙ sym c.is_of.ensures ∙ c.if-is_of.false in
-    record {
-      stays = ap (λ k. sifted q k xs) (add-one c.loop-i.i) ∙ miss_stays q c.index.result.now xs c.loop-i.i (omega arith) miss ∙ c.loop-i.invariant.stays;
-      low = omega arith;
-      capacity = c.loop-i.invariant.capacity;
-    }
+pub returns-in-Ok-clause-index : goal.returns-in-Ok-clause-index
+returns-in-Ok-clause-index c =
+    let rows = c.args.rows.now.items in
+    let found = exec_here c.args.number rows c.in-Some.i c.at.result.now (sym c.place_of.ensures ∙ c.in-Some.is) c.at.ensures in
+    let there = located rows c.at.result.now.exec.id c.args.ids.now.items (Ok c.in-Ok.place) c.requires.order c.requires.index
+    c.in-Ok.ensures.bound (rw c.as_str.ensures at c.in-Ok.ensures.place) in
+    subst (λ ids. IsIndex (remove_first (λ (y : Exec). eqb y.number c.args.number) (execs_in rows)) ids) (sym c.remove.ensures.items)
+    (unfiled rows c.args.number c.at.result.now.exec c.args.ids.now.items c.in-Ok.place c.requires.order c.requires.index found there)
 
-pub returns-clause-index : goal.returns-clause-index
-returns-clause-index c =
-    let q : ℕ → Bool = λ n. is_found_of c.args.container (exec_numbered n (execs_in c.args.rows.now)) in
-    unfiled c.args.rows.now c.args.container c.args.ids.now.items c.loop-i.ids.items c.requires.order c.requires.index
-    (sym (sifted_end q c.loop-i.ids.items c.loop-i.i (omega (arith, c.loop-i.ids.ok.0))) ∙ c.loop-i.invariant.stays)
+pub returns-in_default-locate-clause-index : goal.returns-in_default-locate-clause-index
+returns-in_default-locate-clause-index c =
+    let rows = c.args.rows.now.items in
+    let found = exec_here c.args.number rows c.in-Some.i c.at.result.now (sym c.place_of.ensures ∙ c.in-Some.is) c.at.ensures in
+    let there = located rows c.at.result.now.exec.id c.args.ids.now.items (Err c.in_default-locate.field-0) c.requires.order c.requires.index
+    c.in_default-locate.ensures.bound (rw c.as_str.ensures at c.in_default-locate.ensures.place) in
+    absurd (none_unfiled rows c.args.number c.at.result.now.exec c.in_default-locate.field-0 found there)

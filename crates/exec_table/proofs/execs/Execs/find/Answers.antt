@@ -6,17 +6,15 @@ use Rattle.exec_table.proofs.execs.Execs.find.Goals as goal
 
 pub returns-in-Ok : goal.returns-in-Ok
 returns-in-Ok c =
-    let there = located c.self.inside.rows.items c.args.id.now c.self.inside.ids.items (Ok c.in-Ok.i) c.self.invariant.order c.self.invariant.ids
-    (rw c.as_slice.ensures.value at c.in-Ok.ensures.bound) (rw (c.as_slice.ensures.value, c.as_slice-2.ensures.value) at c.in-Ok.ensures.place) in
+    let there = located c.self.inside.rows.items c.args.id.now c.self.inside.ids.items (Ok c.in-Ok.i) c.self.invariant.order c.self.invariant.ids c.in-Ok.ensures.bound c.in-Ok.ensures.place in
     c.find_number.ensures
-    ∙ ap (λ (t : ExecTable). exec_numbered c.index.result.now t.execs) (sym c.self.view_is)
-    ∙ ap (λ n. exec_numbered n (execs_in c.self.inside.rows.items)) c.index.ensures
-    ∙ found_here c.self.inside.rows.items c.args.id.now c.self.inside.ids.items c.in-Ok.i c.index.result.now c.self.invariant.order c.self.invariant.ids there
+    ∙ ap (λ (t : ExecTable). exec_numbered c.at.result.now t.execs) (sym c.self.view_is)
+    ∙ ap (λ n. exec_numbered n (execs_in c.self.inside.rows.items)) c.at.ensures
+    ∙ found_here c.self.inside.rows.items c.args.id.now c.self.inside.ids.items c.in-Ok.i c.at.result.now c.self.invariant.order c.self.invariant.ids there
     ∙ ap (λ (t : ExecTable). exec_with_id c.args.id.now t.execs) c.self.view_is
 
 pub returns-in-Err : goal.returns-in-Err
 returns-in-Err c =
-    let there = located c.self.inside.rows.items c.args.id.now c.self.inside.ids.items (Err c.in-Err.field-0) c.self.invariant.order c.self.invariant.ids
-    (rw c.as_slice.ensures.value at c.in-Err.ensures.bound) (rw (c.as_slice.ensures.value, c.as_slice-2.ensures.value) at c.in-Err.ensures.place) in
+    let there = located c.self.inside.rows.items c.args.id.now c.self.inside.ids.items (Err c.in-Err.field-0) c.self.invariant.order c.self.invariant.ids c.in-Err.ensures.bound c.in-Err.ensures.place in
     sym (none_here c.args.id.now (execs_in c.self.inside.rows.items) c.in-Err.field-0 there)
     ∙ ap (λ (t : ExecTable). exec_with_id c.args.id.now t.execs) c.self.view_is

@@ -1,11 +1,11 @@
-use Rattle.std.proofs.Common.{List, sym, subst, arith}
+use Rattle.std.proofs.Common.{List, ap, sym, subst, ◌∙◌}
 use Rattle.engine_text.specs.declared.exec.Exec.{Exec}
-use Rattle.exec_table.specs.ExecsInside.{IsIndex}
+use Rattle.exec_table.specs.ExecsInside.{owned_in, IsIndex}
 use Rattle.exec_table.proofs.execs.Execs.push_record.Goals as goal
 
 pub invariant_of-self : goal.invariant_of-self
 invariant_of-self c = record {
   order = c.write.ensures.order;
   ids = subst (λ (xs : List Exec). IsIndex xs c.self.inside.ids.items) (sym c.write.ensures.execs) c.self.invariant.ids;
-  len = omega (arith, c.self.invariant.len, c.write.ensures.len);
+  owned = c.self.invariant.owned ∙ ap owned_in (sym c.write.ensures.execs);
 }
