@@ -11,6 +11,7 @@ use Rattle.journal_lines.specs.Stored.{due_steps}
 use Rattle.journal_lines.specs.Due.{IsMomentFor, IsDueCount, TellsDueCount, behind_dues}
 use Rattle.history_replay.specs.Counting.{IsLeastUpTo, IsPast, HasRun, first_of, is_settled, count_text}
 use Rattle.history_replay.specs.Checking.{IsRun}
+use Rattle.history_replay.specs.Standing.{Standing, behind}
 use Rattle.history_replay.specs.declared.dues.Dues.TheVariants as dues
 use Rattle.history_replay.proofs.RunLemmas.{dues_more, lawful_more, count_behind}
 
@@ -104,11 +105,11 @@ tells s e now n None run (inr past) = inr (λ m d. by m d (nat_le m n) refl, ref
     by m d true low = run.lowest m (grind (arith, nat_tests, low)) d
     by m d false high = none_behind s e now n m run.state past (grind (arith, nat_tests, high)) d
 
-pub run_serves : (s : State) (e : Entry) (now : State) (n : ℕ) (o : Option ℕ) → HasRun s e now n o → IsMomentFor now e.moment e.call → n ≡ e.dues
-    → IsRun s e now dues.Made
-run_serves s e now n o run timed is =
-    let here : IsDueCount s e n = (run.lawful, subst (λ (y : State). IsMomentFor y e.moment e.call) run.state timed) in
-    (subst (IsDueCount s e) is here, run.state ∙ ap (behind_dues s) is)
+pub run_serves : (s now : Standing) (e : Entry) (n : ℕ) (o : Option ℕ) → HasRun s.state e now.state n o → now ≡ behind s (due_steps n)
+    → IsMomentFor now.state e.moment e.call → n ≡ e.dues → IsRun s e now dues.Made
+run_serves s now e n o run stands timed is =
+    let here : IsDueCount s.state e n = (run.lawful, subst (λ (y : State). IsMomentFor y e.moment e.call) run.state timed) in
+    (subst (IsDueCount s.state e) is here, stands ∙ ap (λ m. behind s (due_steps m)) is)
 
 not_kept : (s : State) (e : Entry) (now : State) (n : ℕ) (o : Option ℕ) → HasRun s e now n o → IsEnd e now n o
     → (n ≡ e.dues → IsMomentFor now e.moment e.call → ⊥) → IsDueCount s e e.dues → ⊥
@@ -129,7 +130,7 @@ not_kept s e now n o run end other d = by (nat_le e.dues n) refl (e.dues == n) r
     by true low false differs = run.kept (grind (arith, nat_tests, low, differs)) d
     by false high u same = beyond (grind (arith, nat_tests, high)) end
 
-pub run_other : (s : State) (e : Entry) (now : State) (n : ℕ) (o : Option ℕ) → HasRun s e now n o → IsEnd e now n o
-    → (n ≡ e.dues → IsMomentFor now e.moment e.call → ⊥) → (found : List ℕ) → found ≡ count_text o → IsRun s e now (dues.Other found)
-run_other s e now n o run end other found is =
-    (not_kept s e now n o run end other, subst (TellsDueCount s e) (sym is) (tells s e now n o run end))
+pub run_other : (s now : Standing) (e : Entry) (n : ℕ) (o : Option ℕ) → HasRun s.state e now.state n o → IsEnd e now.state n o
+    → (n ≡ e.dues → IsMomentFor now.state e.moment e.call → ⊥) → (found : List ℕ) → found ≡ count_text o → IsRun s e now (dues.Other found)
+run_other s now e n o run end other found is =
+    (not_kept s.state e now.state n o run end other, subst (TellsDueCount s.state e) (sym is) (tells s.state e now.state n o run end))

@@ -6,20 +6,21 @@ use Rattle.engine_text.specs.declared.call.Call.{Call}
 use Rattle.engine_text.specs.declared.entry.Entry.{Entry}
 use Rattle.engine_text.specs.declared.step.Step.{Step}
 use Rattle.machine_model.specs.State.{State}
-use Rattle.machine_model.specs.History.{IsLawful, IsLawfulCall, after_step, has_ticket, reply_of}
+use Rattle.machine_model.specs.History.{IsLawful, IsLawfulCall, has_ticket, reply_of}
 use Rattle.journal_lines.specs.JournalLines.{reply_value}
 use Rattle.machine_model.specs.Ready.{is_ready}
-use Rattle.machine_model.proofs.Histories.{state_append}
-use Rattle.journal_lines.specs.Stored.{due_steps}
+use Rattle.journal_lines.specs.Stored.{due_steps, entry_steps}
 use Rattle.journal_lines.specs.Due.{IsMomentFor, IsDueCount, behind_dues}
-use Rattle.journal_lines.specs.Entry.{IsWrong, OtherDues, NotReady, OtherReply, IsRight, lacks_ticket, can_answer, kept_reply, found_reply, behind_entry}
+use Rattle.journal_lines.specs.Entry.{IsWrong, OtherDues, NotReady, OtherReply, IsRight, lacks_ticket, can_answer, kept_reply, found_reply}
 use Rattle.journal_lines.specs.Line.{HasLine}
 use Rattle.history_replay.specs.Checking.{IsRun, IsSaid}
 use Rattle.history_replay.specs.declared.dues.Dues.{Dues}
 use Rattle.history_replay.specs.declared.dues.Dues.TheVariants as dues
 use Rattle.history_replay.specs.declared.entry.Said.{Said}
 use Rattle.history_replay.specs.declared.entry.Said.TheVariants as said
+use Rattle.history_replay.specs.Standing.{Standing, behind}
 use Rattle.history_replay.proofs.RunLemmas.{held_behind}
+use Rattle.history_replay.proofs.StandingLemmas.{behind_append}
 
 stands : (b : Bool) → not b ≡ false → b ≡ true
 stands true h = refl
@@ -36,62 +37,70 @@ pub lawful_behind : (s : State) (e : Entry) → HasLine e → lacks_ticket s e.c
     → IsLawful (behind_dues s e.dues) (Step.Call e.conn e.moment e.call)
 lawful_behind s e has holds count ready = (has.sound, lawful_call s e.dues e.conn e.moment e.call holds count.1 ready)
 
--- the state behind an entry is that behind its due steps and then its call
-pub entry_state : (s now after : State) (e : Entry) → now ≡ behind_dues s e.dues → after ≡ after_step now (Step.Call e.conn e.moment e.call)
-    → after ≡ behind_entry s e
-entry_state s now after e is made =
-    made ∙ ap (λ (y : State). after_step y (Step.Call e.conn e.moment e.call)) is
-    ∙ sym (state_append s (due_steps e.dues) (Step.Call e.conn e.moment e.call ∷ []))
+-- behind an entry a machine stands behind its due steps and then its call
+pub behind_call : (s now after : Standing) (e : Entry) → now ≡ behind s (due_steps e.dues)
+    → after ≡ behind now (Step.Call e.conn e.moment e.call ∷ []) → after ≡ behind s (entry_steps e)
+behind_call s now after e is made =
+    made ∙ ap (λ (y : Standing). behind y (Step.Call e.conn e.moment e.call ∷ [])) is
+    ∙ behind_append s (due_steps e.dues) (Step.Call e.conn e.moment e.call ∷ [])
 
 -- ---- what is said of an entry
 
 -- the due steps, as they are told
-pub ran : (s : State) (e : Entry) (now : State) (d : Dues) → IsRun s e now d → d ≡ dues.Made → IsDueCount s e e.dues × (now ≡ behind_dues s e.dues)
+pub ran : (s : Standing) (e : Entry) (now : Standing) (d : Dues) → IsRun s e now d → d ≡ dues.Made
+    → IsDueCount s.state e e.dues × (now ≡ behind s (due_steps e.dues))
 ran s e now d run is = subst (IsRun s e now) is run
 
+-- so is the state
+state_at : (s : Standing) (e : Entry) (now : Standing) → now ≡ behind s (due_steps e.dues) → now.state ≡ behind_dues s.state e.dues
+state_at s e now at = ap (λ (y : Standing). y.state) at
+
 -- where they serve, and the rest is as it should be, the call is lawful
-pub lawful_now : (s : State) (e : Entry) (now : State) (d : Dues) → HasLine e → lacks_ticket s e.conn e.call ≡ false → IsRun s e now d → d ≡ dues.Made
-    → is_ready now e.call ≡ true → IsLawful now (Step.Call e.conn e.moment e.call)
+pub lawful_now : (s : Standing) (e : Entry) (now : Standing) (d : Dues) → HasLine e → lacks_ticket s.state e.conn e.call ≡ false → IsRun s e now d → d ≡ dues.Made
+    → is_ready now.state e.call ≡ true → IsLawful now.state (Step.Call e.conn e.moment e.call)
 lawful_now s e now d has holds run is ready =
     let (count, at) = ran s e now d run is in
-    let can : can_answer s e ≡ true = ap (λ (y : State). is_ready y e.call) (sym at) ∙ ready in
-    subst (λ (y : State). IsLawful y (Step.Call e.conn e.moment e.call)) (sym at) (lawful_behind s e has holds count can)
+    let here = state_at s e now at in
+    let can : can_answer s.state e ≡ true = ap (λ (y : State). is_ready y e.call) (sym here) ∙ ready in
+    subst (λ (y : State). IsLawful y (Step.Call e.conn e.moment e.call)) (sym here) (lawful_behind s.state e has holds count can)
 
 -- a wrong entry, whatever the machine is behind it
-pub said_wrong : {E : Type 0} (s : State) (e : Entry) (after : State) (r : Result Said E) (kept found : List ℕ) → IfOk r (λ x. x ≡ said.Wrong kept found)
-    → IsWrong s e kept found → IfOk r (λ x. IsSaid s e after x)
+pub said_wrong : {E : Type 0} (s : Standing) (e : Entry) (after : Standing) (r : Result Said E) (kept found : List ℕ)
+    → IfOk r (λ x. x ≡ said.Wrong kept found) → IsWrong s.state e kept found → IfOk r (λ x. IsSaid s e after x)
 said_wrong s e after (Ok x) kept found is wrong = subst (IsSaid s e after) (sym is) wrong
 said_wrong s e after (Err x) kept found is wrong = tt
 
-pub other_dues : (s : State) (e : Entry) (now : State) (d : Dues) (kept found : List ℕ) → lacks_ticket s e.conn e.call ≡ false → IsRun s e now d
-    → d ≡ dues.Other found → kept ≡ decimal e.dues → IsWrong s e kept found
+pub other_dues : (s : Standing) (e : Entry) (now : Standing) (d : Dues) (kept found : List ℕ) → lacks_ticket s.state e.conn e.call ≡ false → IsRun s e now d
+    → d ≡ dues.Other found → kept ≡ decimal e.dues → IsWrong s.state e kept found
 other_dues s e now d kept found holds run is digits =
     let both : IsRun s e now (dues.Other found) = subst (IsRun s e now) is run in
-    subst (λ k. IsWrong s e k found) (sym digits) (OtherDues found holds both.0 both.1)
+    subst (λ k. IsWrong s.state e k found) (sym digits) (OtherDues found holds both.0 both.1)
 
-pub not_ready : (s : State) (e : Entry) (now : State) (d : Dues) → lacks_ticket s e.conn e.call ≡ false → IsRun s e now d → d ≡ dues.Made
-    → is_ready now e.call ≡ false → IsWrong s e (kept_reply e) (codes "not ready")
+pub not_ready : (s : Standing) (e : Entry) (now : Standing) (d : Dues) → lacks_ticket s.state e.conn e.call ≡ false → IsRun s e now d → d ≡ dues.Made
+    → is_ready now.state e.call ≡ false → IsWrong s.state e (kept_reply e) (codes "not ready")
 not_ready s e now d holds run is never =
     let (count, at) = ran s e now d run is in
-    NotReady holds count (ap (λ (y : State). is_ready y e.call) (sym at) ∙ never)
+    NotReady holds count (ap (λ (y : State). is_ready y e.call) (sym (state_at s e now at)) ∙ never)
 
 -- the text of the machine's reply
 abbrev text_at : State → Entry → List ℕ
 text_at now e = compact_text (reply_value e.call (reply_of now e.conn e.moment e.call))
 
-pub right_entry : (s : State) (e : Entry) (now after : State) (d : Dues) (kept found : List ℕ) → lacks_ticket s e.conn e.call ≡ false → IsRun s e now d
-    → d ≡ dues.Made → is_ready now e.call ≡ true → kept ≡ kept_reply e → found ≡ text_at now e → kept ≡ found
-    → after ≡ after_step now (Step.Call e.conn e.moment e.call) → IsRight s e × (after ≡ behind_entry s e)
+pub right_entry : (s : Standing) (e : Entry) (now after : Standing) (d : Dues) (kept found : List ℕ) → lacks_ticket s.state e.conn e.call ≡ false
+    → IsRun s e now d → d ≡ dues.Made → is_ready now.state e.call ≡ true → kept ≡ kept_reply e → found ≡ text_at now.state e → kept ≡ found
+    → after ≡ behind now (Step.Call e.conn e.moment e.call ∷ []) → IsRight s.state e × (after ≡ behind s (entry_steps e))
 right_entry s e now after d kept found holds run is ready old new same made =
     let (count, at) = ran s e now d run is in
-    let reply : found_reply s e ≡ kept_reply e = ap (λ (y : State). text_at y e) (sym at) ∙ sym new ∙ sym same ∙ old in
-    (record { ticket = holds; dues = count; ready = ap (λ (y : State). is_ready y e.call) (sym at) ∙ ready; reply = reply }, entry_state s now after e at made)
+    let here = state_at s e now at in
+    let reply : found_reply s.state e ≡ kept_reply e = ap (λ (y : State). text_at y e) (sym here) ∙ sym new ∙ sym same ∙ old in
+    (record { ticket = holds; dues = count; ready = ap (λ (y : State). is_ready y e.call) (sym here) ∙ ready; reply = reply }, behind_call s now after e at made)
 
-pub other_reply : (s : State) (e : Entry) (now : State) (d : Dues) (kept found : List ℕ) → lacks_ticket s e.conn e.call ≡ false → IsRun s e now d
-    → d ≡ dues.Made → is_ready now e.call ≡ true → kept ≡ kept_reply e → found ≡ text_at now e → (kept ≡ found → ⊥) → IsWrong s e kept found
+pub other_reply : (s : Standing) (e : Entry) (now : Standing) (d : Dues) (kept found : List ℕ) → lacks_ticket s.state e.conn e.call ≡ false → IsRun s e now d
+    → d ≡ dues.Made → is_ready now.state e.call ≡ true → kept ≡ kept_reply e → found ≡ text_at now.state e → (kept ≡ found → ⊥) → IsWrong s.state e kept found
 other_reply s e now d kept found holds run is ready old new differs =
     let (count, at) = ran s e now d run is in
-    let text : found ≡ found_reply s e = new ∙ ap (λ (y : State). text_at y e) at in
-    let wrong : IsWrong s e (kept_reply e) (found_reply s e) =
-    OtherReply holds count (ap (λ (y : State). is_ready y e.call) (sym at) ∙ ready) (λ same. differs (old ∙ sym same ∙ sym text)) in
-    subst (λ k. IsWrong s e k found) (sym old) (subst (IsWrong s e (kept_reply e)) (sym text) wrong)
+    let here = state_at s e now at in
+    let text : found ≡ found_reply s.state e = new ∙ ap (λ (y : State). text_at y e) here in
+    let wrong : IsWrong s.state e (kept_reply e) (found_reply s.state e) =
+    OtherReply holds count (ap (λ (y : State). is_ready y e.call) (sym here) ∙ ready) (λ same. differs (old ∙ sym same ∙ sym text)) in
+    subst (λ k. IsWrong s.state e k found) (sym old) (subst (IsWrong s.state e (kept_reply e)) (sym text) wrong)

@@ -100,12 +100,12 @@ pub record Plays (format : Format) (s : State) (text : List ℕ) (steps : ℕ) :
   pub told : (other : Format) → flat_map (journal_line other) entries ≡ flat_map (journal_line other) (entries_from s 0 history)
   pub again : (other : Format) (m : ℕ) → IsVerdictFrom other s m (flat_map (journal_line other) entries) (Legal steps)
 
-entry_lawful : (s : State) (e : Entry) → HasLine e → IsRight s e → AreLawful s (entry_steps e)
+pub entry_lawful : (s : State) (e : Entry) → HasLine e → IsRight s e → AreLawful s (entry_steps e)
 entry_lawful s e has right =
     lawful_append s (due_steps e.dues) (Step.Call e.conn e.moment e.call ∷ []) right.dues.0
     (lawful_behind s e has right.ticket right.dues right.ready, tt)
 
-entry_lines : (format : Format) (s : State) (e : Entry) (h : List Step) → IsRight s e
+pub entry_lines : (format : Format) (s : State) (e : Entry) (h : List Step) → IsRight s e
     → flat_map (journal_line format) (entries_from s 0 (entry_steps e ++ h))
     ≡ journal_line format e ++ flat_map (journal_line format) (entries_from (behind_entry s e) 0 h)
 entry_lines format s e h right =

@@ -1,3 +1,4 @@
+mod StandingLemmas
 mod RunLemmas
 mod CountLemmas
 mod TicketLemmas
@@ -5,6 +6,7 @@ mod EntryLemmas
 mod LineEndLemmas
 mod VerdictLemmas
 mod LegalLemmas
+mod MadeLemmas
 mod CompleteLemmas
 mod OneVerdictLemmas
 mod UpgradeLemmas

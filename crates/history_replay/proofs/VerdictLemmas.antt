@@ -18,18 +18,19 @@ use Rattle.journal_lines.specs.declared.verdict.Verdict.{Verdict}
 use Rattle.journal_lines.specs.declared.verdict.Verdict.TheVariants.{Legal, Illegal, BadLine}
 use Rattle.history_replay.specs.Cutting.{HasNoLineEnd, IsFirstLine}
 use Rattle.history_replay.specs.Checking.{IsLineSaid}
+use Rattle.history_replay.specs.Standing.{Standing}
 use Rattle.history_replay.proofs.LineEndLemmas.{no_first, no_end_no_line}
 
 -- ---- a line that is right
 
-pub said_on : (format : Format) (s after : State) (n : ℕ) (line rest : List ℕ) (v : Verdict) → IsLineSaid format s n line after None
-    → IsVerdictFrom format after (n + 1) rest v → IsVerdictFrom format s n (line ++ rest) v
+pub said_on : (format : Format) (s after : Standing) (n : ℕ) (line rest : List ℕ) (v : Verdict) → IsLineSaid format s n line after None
+    → IsVerdictFrom format after.state (n + 1) rest v → IsVerdictFrom format s.state n (line ++ rest) v
 said_on format s after n line rest v (e, has, is, right, at) h =
-    subst (λ l. IsVerdictFrom format s n (l ++ rest) v) is
-    (AfterRightLine s n e rest v has right (subst (λ y. IsVerdictFrom format y (n + 1) rest v) at h))
+    subst (λ l. IsVerdictFrom format s.state n (l ++ rest) v) is
+    (AfterRightLine s.state n e rest v has right (subst (λ (y : Standing). IsVerdictFrom format y.state (n + 1) rest v) at h))
 
 -- what is said of an entry's line is said of the bytes that are it
-pub line_said : (format : Format) (s after : State) (n : ℕ) (line bytes : List ℕ) (r : Result (Option Verdict) NoMemory) → line ≡ bytes
+pub line_said : (format : Format) (s after : Standing) (n : ℕ) (line bytes : List ℕ) (r : Result (Option Verdict) NoMemory) → line ≡ bytes
     → IfOk r (λ said. IsLineSaid format s n line after said) → IfOk r (λ said. IsLineSaid format s n bytes after said)
 line_said format s after n line bytes r is h = subst (λ l. IfOk r (λ said. IsLineSaid format s n l after said)) is h
 
@@ -68,9 +69,9 @@ bad_line format s n line rest first none =
     AtNoLine s n (line ++ rest) (some line rest (first_some line first)) (no_first format (line ++ rest) line rest first whole none)
 
 -- what a line's fault says of it
-pub bad_bytes : (format : Format) (s : State) (n : ℕ) (line : List ℕ) (after : State) (fault : LineFault) → IsFirstLine line → IsLineFault format line fault → fault ≡ line_fault.BadLine
+pub bad_bytes : (format : Format) (s : Standing) (n : ℕ) (line : List ℕ) (after : Standing) (fault : LineFault) → IsFirstLine line → IsLineFault format line fault → fault ≡ line_fault.BadLine
     → IsLineSaid format s n line after (Some (BadLine n))
-bad_bytes format s n line after fault first refused is = λ rest. bad_line format s n line rest first (subst (IsLineFault format line) is refused)
+bad_bytes format s n line after fault first refused is = λ rest. bad_line format s.state n line rest first (subst (IsLineFault format line) is refused)
 
 pub no_line : (format : Format) (s : State) (n : ℕ) (text : List ℕ) → text ≢ [] → HasNoLineEnd text → IsVerdictFrom format s n text (BadLine n)
 no_line format s n text full none = AtNoLine s n text full (no_end_no_line format text none)

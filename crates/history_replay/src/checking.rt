@@ -7,11 +7,12 @@ ghost use Rattle.journal_lines.specs.Line.{HasLine};
 ghost use Rattle.journal_lines.specs.Verdict.{IsVerdict, IsVerdictFrom};
 ghost use Rattle.journal_lines.specs.declared.format.Format as formats;
 ghost use Rattle.history_replay.specs.Cutting.{IsFirstLine};
-ghost use Rattle.history_replay.specs.Checking.{charter_of, IsLineSaid};
+ghost use Rattle.history_replay.specs.Checking.{charter_of, IsLineSaid, IsMade};
 
 use super::cut::cut_line;
 use super::entry::{Said, check_entry};
 use super::head::head_of;
+use super::remaking::Replays;
 use container_machine::Machine;
 use engine_text::{Entry, NoMemory};
 use journal_lines::{LineFault, Verdict, read_line};
@@ -19,15 +20,15 @@ use std::alloc::Global;
 
 // What is said of the line of an entry, in each format: none where it is right, and the machine was
 // brought behind it.
-fn say(
-    machine: &mut Machine,
+fn say<M: Replays>(
+    machine: &mut M,
     alloc: Global,
     entry: &Entry,
     line: u64,
 ) -> Result<Option<Verdict>, NoMemory>
     requires { HasLine entry.now }
     ensures { (format : formats.Format) → IfOk result (λ said. IsLineSaid format
-        machine.old.memory.state line (journal_line format entry.now) machine.new.memory.state
+        (M.standing machine.old) line (journal_line format entry.now) (M.standing machine.new)
         said) }
 {
     match check_entry(machine, alloc, entry)? {
@@ -37,22 +38,22 @@ fn say(
 }
 
 // The same, and the entry is let go.
-fn say_once(
-    machine: &mut Machine,
+fn say_once<M: Replays>(
+    machine: &mut M,
     alloc: Global,
     entry: Entry,
     line: u64,
 ) -> Result<Option<Verdict>, NoMemory>
     requires { HasLine entry }
     ensures { (format : formats.Format) → IfOk result (λ said. IsLineSaid format
-        machine.old.memory.state line (journal_line format entry) machine.new.memory.state said) }
+        (M.standing machine.old) line (journal_line format entry) (M.standing machine.new) said) }
 {
     say(machine, alloc, &entry, line)
 }
 
 // What is said of a line.
-fn check_line(
-    machine: &mut Machine,
+fn check_line<M: Replays>(
+    machine: &mut M,
     alloc: Global,
     format: u8,
     bytes: &[u8],
@@ -60,8 +61,8 @@ fn check_line(
 ) -> Result<Option<Verdict>, NoMemory>
     requires first { IsFirstLine bytes.now }
     requires format { IsFormat format }
-    ensures { IfOk result (λ said. IsLineSaid (format_of format) machine.old.memory.state line
-        bytes.now machine.new.memory.state said) }
+    ensures { IfOk result (λ said. IsLineSaid (format_of format) (M.standing machine.old) line
+        bytes.now (M.standing machine.new) said) }
 {
     match read_line(alloc, bytes, format) {
         Ok(entry) => say_once(machine, alloc, entry, line),
@@ -70,10 +71,11 @@ fn check_line(
     }
 }
 
-// What is said of lines of that format, by the machine at their beginning, the first line having
-// that number.
-fn check_lines(
-    machine: &mut Machine,
+/// What is said of lines of that format, by the machine at their beginning, the first line having
+/// that number. Behind legal ones the machine has made all steps that they tell; behind others it
+/// stands somewhere.
+pub fn check_lines<M: Replays>(
+    machine: &mut M,
     alloc: Global,
     format: u8,
     first: u64,
@@ -81,8 +83,10 @@ fn check_lines(
 ) -> Result<Verdict, NoMemory>
     requires format { IsFormat format }
     requires first { first ≤ 2 }
-    ensures { IfOk result (λ v. IsVerdictFrom (format_of format) machine.old.memory.state first
-        text.now v) }
+    ensures said { IfOk result (λ v. IsVerdictFrom (format_of format)
+        (M.standing machine.old).state first text.now v) }
+    ensures made { IfOk result (λ v. IsMade (format_of format) (M.standing machine.old) text.now
+        (M.standing machine.new) v) }
 {
     let mut rest = text;
     let mut line = first;
@@ -96,7 +100,7 @@ fn check_lines(
         rest = behind;
         line += 1;
     }
-    let steps = machine.steps();
+    let steps = machine.bare().steps();
     Ok(Verdict::Legal { steps })
 }
 

@@ -1,19 +1,18 @@
-// The machine's steps, made again.
-ghost use Rattle.std.specs.Prelude.{◌≡◌, ◌+◌, IfOk, OnOk, OnErr};
+// The steps of a bare machine, made again.
+ghost use Rattle.std.specs.Prelude.{◌≡◌, IfOk, None, OnOk, OnErr};
 ghost use Rattle.engine_text.specs.declared.step.Step as steps;
 ghost use Rattle.machine_model.specs.History.{IsLawful, after_step, reply_of};
 
+use super::remaking::Replays;
 use container_machine::Machine;
 use engine_text::{Call, NoMemory, Reply};
 use std::alloc::Global;
 
-/// Makes the step that is due first.
-pub fn step_due(machine: &mut Machine, alloc: Global) -> Result<(), NoMemory>
+// Makes the step that is due first.
+fn step_due(machine: &mut Machine, alloc: Global) -> Result<(), NoMemory>
     requires { IsLawful machine.old.memory.state steps.Step.Due }
     ensures made { OnOk result
         (machine.new.memory.state ≡ after_step machine.old.memory.state steps.Step.Due) }
-    ensures counted { OnOk result
-        (machine.new.memory.state.step_count ≡ machine.old.memory.state.step_count + 1) }
     ensures stays { OnErr result (machine.new.memory.state ≡ machine.old.memory.state) }
 {
     let prepared = machine.prepare_due(alloc)?;
@@ -21,8 +20,8 @@ pub fn step_due(machine: &mut Machine, alloc: Global) -> Result<(), NoMemory>
     Ok(())
 }
 
-/// Makes a lawful call, and gives its reply.
-pub fn ask(
+// Makes a lawful call, and gives its reply.
+fn ask(
     machine: &mut Machine,
     alloc: Global,
     conn: u32,
@@ -37,4 +36,26 @@ pub fn ask(
 {
     let prepared = machine.prepare(alloc, conn, moment, call)?;
     Ok(machine.commit(prepared))
+}
+
+impl Replays for Machine {
+    ghost standing = { λ m. record { state = m.memory.state; kept = None } };
+
+    fn bare(&self) -> &Machine {
+        self
+    }
+
+    fn step_due(&mut self, alloc: Global) -> Result<(), NoMemory> {
+        step_due(self, alloc)
+    }
+
+    fn make(
+        &mut self,
+        alloc: Global,
+        conn: u32,
+        moment: u64,
+        call: &Call,
+    ) -> Result<Reply, NoMemory> {
+        ask(self, alloc, conn, moment, call)
+    }
 }

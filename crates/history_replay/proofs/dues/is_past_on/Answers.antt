@@ -1,6 +1,6 @@
 use Rattle.std.proofs.Common.{◌<◌, arith}
 use Rattle.history_replay.proofs.RunLemmas.{past_clock}
-use Rattle.history_replay.proofs.dues.is_past.Goals as goal
+use Rattle.history_replay.proofs.dues.is_past_on.Goals as goal
 
 pub returns-then-entry-now-clause-past : goal.returns-then-entry-now-clause-past
 returns-then-entry-now-clause-past c = λ _.
