@@ -53,7 +53,7 @@ told_of d =
 pub stands : (d : Daemon) → Stands (charter d) d.stored.machine.memory.state (history_of d.stored.journal)
 stands d = record { is = ap (λ (x : Stored). x.machine.memory.state) d.state; legal = d.legal }
 
-stands_more : (ch : Charter) (s s' : State) (h h' more : List Step) → Stands ch s h → s' ≡ state_from s more → h' ≡ h ++ more
+pub stands_more : (ch : Charter) (s s' : State) (h h' more : List Step) → Stands ch s h → s' ≡ state_from s more → h' ≡ h ++ more
     → AreLawful s more → Stands ch s' h'
 stands_more ch s s' h h' more st made at lawful = record {
   is = made ∙ ap (λ y. state_from y more) st.is ∙ sym (run_append ch h more) ∙ ap (state_after ch) (sym at);

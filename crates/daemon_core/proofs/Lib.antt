@@ -7,6 +7,7 @@ pub mod DueLemmas
 pub mod TellLemmas
 pub mod RingLemmas
 pub mod DaemonLemmas
+pub mod RemakeLemmas
 pub mod WrittenLemmas
 pub mod StampLemmas
 pub mod PartLemmas

@@ -14,6 +14,7 @@ mod log_from;
 mod moment;
 mod pairing;
 mod ready;
+mod remaking;
 mod room;
 mod stored;
 mod telling;
