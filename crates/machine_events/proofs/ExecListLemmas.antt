@@ -1,43 +1,32 @@
--- The numbers of those execs that pass, one place after the other.
-use Rattle.std.proofs.Common.{◌≡◌, ℕ, ◌+◌, Bool, true, false, List, [], ◌∷◌, ◌++◌, Some, None, refl, ap, sym, ◌∙◌, map, filter, take, if◌then◌else◌, inl, inr}
-use Rattle.std.specs.Prelude.{slice_get}
-use Rattle.std.proofs.lemmas.List.{take_more}
-use Rattle.std.proofs.lemmas.Option.{slice_get_cases}
+-- The numbers of a container's execs, one after the other.
+use Rattle.std.proofs.Common.{◌≡◌, ℕ, ◌≤◌, Bool, true, false, List, [], ◌∷◌, ◌++◌, length, refl, ap, sym, ◌∙◌, map, filter, eqb, if◌then◌else◌, append_assoc, arith}
 use Rattle.engine_text.specs.declared.exec.Exec.{Exec}
+use Rattle.proc_kernel.specs.Tables.{Entry}
+use Rattle.machine_events.specs.Running.{is_alive, is_running}
 
-more_taken : (xs : List Exec) (i : ℕ) (x : Exec) → slice_get xs i ≡ Some x → take (i + 1) xs ≡ take i xs ++ x ∷ []
-more_taken xs i x e = elim (slice_get_cases xs i).1 [
-  | inl q ↦
-      let same : Some q.0 ≡ Some x = sym q.2 ∙ e in
-      let is : q.0 ≡ x = cc in
-      take_more xs i q.0 q.1 ∙ ap (λ y. take i xs ++ y ∷ []) (q.3 ∙ is)
-  | inr q ↦ let none : None ≡ Some x = sym q.1 ∙ e in absurd (cc)
-]
-
-one_more : (p : Exec → Bool) (xs : List Exec) (x : Exec) → p x ≡ true → map (λ y. y.number) (filter p (xs ++ x ∷ [])) ≡ map (λ y. y.number) (filter p xs) ++ x.number ∷ []
-one_more p [] x e = rw e refl
-one_more p (y ∷ ys) x e = go (p y) (one_more p ys x e)
+-- those of a container that run are those of its own whose processes live
+pub running_of : (n : ℕ) (processes : List Entry) (xs : List Exec) → filter (is_running n processes) xs ≡ filter (is_alive processes) (filter (λ x. eqb x.container n) xs)
+running_of n processes [] = refl
+running_of n processes (x ∷ xs) = go (eqb x.container n) (is_alive processes x) refl refl (running_of n processes xs)
   where
-    go : (b : Bool) → map (λ z. z.number) (filter p (ys ++ x ∷ [])) ≡ map (λ z. z.number) (filter p ys) ++ x.number ∷ []
-        → map (λ (z : Exec). z.number) (if b then y ∷ filter p (ys ++ x ∷ []) else filter p (ys ++ x ∷ [])) ≡ map (λ (z : Exec). z.number) (if b then y ∷ filter p ys else filter p ys) ++ x.number ∷ []
-    go true more = ap (λ l. y.number ∷ l) more
-    go false more = more
+    go : (b c : Bool) → eqb x.container n ≡ b → is_alive processes x ≡ c → filter (is_running n processes) xs ≡ filter (is_alive processes) (filter (λ x. eqb x.container n) xs)
+        → filter (is_running n processes) (x ∷ xs) ≡ filter (is_alive processes) (if b then x ∷ filter (λ x. eqb x.container n) xs else filter (λ x. eqb x.container n) xs)
+    go true true e f more = rw (e, f) (ap (λ l. x ∷ l) more)
+    go true false e f more = rw (e, f) more
+    go false c e f more = rw e more
 
-none_more : (p : Exec → Bool) (xs : List Exec) (x : Exec) → p x ≡ false → map (λ y. y.number) (filter p (xs ++ x ∷ [])) ≡ map (λ y. y.number) (filter p xs)
-none_more p [] x e = rw e refl
-none_more p (y ∷ ys) x e = go (p y) (none_more p ys x e)
+-- a container's own are no more than all
+pub few_of : (n : ℕ) (xs : List Exec) → length (filter (λ (x : Exec). eqb x.container n) xs) ≤ length xs
+few_of n [] = omega arith
+few_of n (x ∷ xs) = go (eqb x.container n) (few_of n xs)
   where
-    go : (b : Bool) → map (λ z. z.number) (filter p (ys ++ x ∷ [])) ≡ map (λ z. z.number) (filter p ys)
-        → map (λ (z : Exec). z.number) (if b then y ∷ filter p (ys ++ x ∷ []) else filter p (ys ++ x ∷ [])) ≡ map (λ (z : Exec). z.number) (if b then y ∷ filter p ys else filter p ys)
-    go true more = ap (λ l. y.number ∷ l) more
-    go false more = more
+    go : (b : Bool) → length (filter (λ (x : Exec). eqb x.container n) xs) ≤ length xs → length (if b then x ∷ filter (λ (x : Exec). eqb x.container n) xs else filter (λ (x : Exec). eqb x.container n) xs) ≤ length (x ∷ xs)
+    go true more = omega (arith, more)
+    go false more = omega (arith, more)
 
--- the one at that place passes
-pub listed : (p : Exec → Bool) (xs : List Exec) (i : ℕ) (x : Exec) → slice_get xs i ≡ Some x → p x ≡ true
-    → map (λ y. y.number) (filter p (take (i + 1) xs)) ≡ map (λ y. y.number) (filter p (take i xs)) ++ x.number ∷ []
-listed p xs i x at e = ap (λ (l : List Exec). map (λ y. y.number) (filter p l)) (more_taken xs i x at) ∙ one_more p (take i xs) x e
-
--- or doesn't
-pub passed_over : (p : Exec → Bool) (xs : List Exec) (i : ℕ) (x : Exec) → slice_get xs i ≡ Some x → p x ≡ false
-    → map (λ y. y.number) (filter p (take (i + 1) xs)) ≡ map (λ y. y.number) (filter p (take i xs))
-passed_over p xs i x at e = ap (λ (l : List Exec). map (λ y. y.number) (filter p l)) (more_taken xs i x at) ∙ none_more p (take i xs) x e
+-- a number more, of one that comes first among those to come
+pub one_listed : (more before : List ℕ) (x : Exec) (rest next : List Exec) → more ≡ before ++ x.number ∷ [] → rest ≡ x ∷ next
+    → more ++ map (λ (x : Exec). x.number) next ≡ before ++ map (λ (x : Exec). x.number) rest
+one_listed more before x rest next e f =
+    ap (λ (l : List ℕ). l ++ map (λ (x : Exec). x.number) next) e ∙ append_assoc before (x.number ∷ []) (map (λ (x : Exec). x.number) next)
+    ∙ ap (λ (l : List Exec). before ++ map (λ (x : Exec). x.number) l) (sym f)

@@ -1,16 +1,16 @@
 // The execs of a container, and which of them run.
 ghost use Rattle.std.specs.Prelude.{◌≡◌, ◌==◌, ◌<◌, ◌≤◌, length, map, filter, vec_capacity, IfOk};
-ghost use Rattle.machine_events.specs.Running.{is_running};
+ghost use Rattle.machine_events.specs.Running.{is_alive, is_running};
 
 use engine_text::{Exec, NoMemory, Numbers, Owner};
 use exec_table::Execs;
 use proc_kernel::Kernel;
 use std::alloc::Global;
 
-fn is_running(x: &Exec, number: u64, kernel: &Kernel) -> bool
-    ensures { result ≡ is_running number kernel.now.processes x.now }
+fn is_alive(x: &Exec, kernel: &Kernel) -> bool
+    ensures { result ≡ is_alive kernel.now.processes x.now }
 {
-    x.container == number && kernel.stands(Owner::Exec(x.number))
+    kernel.stands(Owner::Exec(x.number))
 }
 
 /// Lists the numbers of the container's running execs.
@@ -21,18 +21,11 @@ pub fn list_running(execs: &Execs, kernel: &Kernel, number: u64, into: &mut Vec<
     ensures capacity { vec_capacity into.new ≡ vec_capacity into.old }
 {
     into.clear();
-    for i in 0..execs.len() {
-        let x = execs.at(i);
-        if is_running(x, number, kernel) {
+    for x in execs.of_container(number) {
+        if is_alive(x, kernel) {
             into.push_reserved(x.number);
         }
     }
-}
-
-fn is_of(x: &Exec, number: u64) -> bool
-    ensures { result ≡ (x.now.container == number) }
-{
-    x.container == number
 }
 
 /// The numbers of the container's execs.
@@ -41,11 +34,8 @@ pub fn numbers_of(execs: &Execs, alloc: Global, number: u64) -> Result<Numbers, 
         ≡ map (λ x. x.number) (filter (λ x. x.container == number) execs.now.execs)) }
 {
     let mut numbers = Numbers::new(alloc);
-    for i in 0..execs.len() {
-        let x = execs.at(i);
-        if is_of(x, number) {
-            numbers.push(alloc, x.number)?;
-        }
+    for x in execs.of_container(number) {
+        numbers.push(alloc, x.number)?;
     }
     Ok(numbers)
 }

@@ -1,21 +1,19 @@
-use Rattle.std.proofs.Common.{◌∷◌, [], ◌++◌, ap, sym, ◌∙◌, arith}
-use Rattle.machine_events.specs.Running.{is_running}
-use Rattle.machine_events.proofs.ExecListLemmas.{listed, passed_over}
+use Rattle.std.proofs.Common.{◌≡◌, ◌≤◌, ◌++◌, List, ℕ, length, map, filter, ap, sym, ◌∙◌, arith}
+use Rattle.engine_text.specs.declared.exec.Exec.{Exec}
+use Rattle.machine_events.specs.Running.{is_alive}
+use Rattle.machine_events.proofs.ExecListLemmas.{running_of, few_of}
 use Rattle.machine_events.proofs.exec_lists.list_running.Goals as goal
-use Rattle.machine_events.proofs.exec_lists.list_running.Goals.{then-is_running, else-is_running}
 
-pub loop-i-preserved : goal.loop-i-preserved
-loop-i-preserved c = elim c.if-is_running.branch [
-  | then-is_running w ↦ rw w.into-is (record {
-    items = w.push_reserved.ensures.items ∙ ap (λ l. l ++ c.at-x.result.now.number ∷ []) c.loop-i.invariant.items
-        ∙ sym (listed (is_running c.args.number c.args.kernel.now.processes) c.args.execs.now.execs c.loop-i.i c.at-x.result.now c.at-x.ensures (sym c.is_running.ensures ∙ w.if-is_running.true));
-    few = omega (arith, c.loop-i.invariant.few, w.push_reserved.ensures.len);
-    capacity = w.push_reserved.ensures.capacity ∙ c.loop-i.invariant.capacity;
-  })
-  | else-is_running w ↦ rw w.into-is (record {
-    items = c.loop-i.invariant.items
-        ∙ sym (passed_over (is_running c.args.number c.args.kernel.now.processes) c.args.execs.now.execs c.loop-i.i c.at-x.result.now c.at-x.ensures (sym c.is_running.ensures ∙ w.if-is_running.false));
-    few = omega (arith, c.loop-i.invariant.few);
-    capacity = c.loop-i.invariant.capacity;
-  })
-]
+pub loop-x-init : goal.loop-x-init
+loop-x-init c =
+    let own = c.into_iter-x-iterator.ensures.into_iter_gives ∙ c.of_container-x-items.ensures in
+    let many = ap length own in
+    let few = few_of c.args.number c.args.execs.now.execs in
+    record {
+      iterator = (tt, tt);
+      items = ap (λ (l : List ℕ). l ++ map (λ (x : Exec). x.number) (filter (is_alive c.args.kernel.now.processes) c.into_iter-x-iterator.result)) c.clear.ensures.items
+          ∙ ap (λ (l : List Exec). map (λ (x : Exec). x.number) (filter (is_alive c.args.kernel.now.processes) l)) own
+          ∙ ap (map (λ (x : Exec). x.number)) (sym (running_of c.args.number c.args.kernel.now.processes c.args.execs.now.execs));
+      few = omega (arith, many, few, c.clear.ensures.len, c.clear.ensures.capacity, c.requires);
+      capacity = c.clear.ensures.capacity;
+    }
