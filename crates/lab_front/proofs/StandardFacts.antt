@@ -2,6 +2,7 @@
 use Rattle.std.proofs.Common.{◌≡◌, [], Some, None, codes, refl}
 use Rattle.lab_front.specs.Queries.{decoded}
 use Rattle.lab_front.specs.Rows.{path_of, row_by}
+use Rattle.lab_front.specs.declared.left.LeftOut.TheVariants as left
 use Rattle.lab_front.specs.declared.table.Network.TheVariants as network
 use Rattle.lab_front.specs.declared.table.Row.TheVariants as to
 
@@ -30,14 +31,35 @@ one_image = refl
 another_image : row_by (codes "GET") [] (codes "images/redis:7/json") ≡ Some to.NoImage
 another_image = refl
 
-history_is_the_daemons : row_by (codes "GET") [] (codes "images/redis:7/history") ≡ None
-history_is_the_daemons = refl
+layers_of_another : row_by (codes "GET") [] (codes "images/redis:7/history") ≡ Some to.NoImage
+layers_of_another = refl
+
+tags_are_the_daemons : row_by (codes "GET") [] (codes "images/redis:7/tag") ≡ None
+tags_are_the_daemons = refl
+
+the_one_stays : row_by (codes "DELETE") [] (codes "images/engine/tools") ≡ Some to.ImageStays
+the_one_stays = refl
+
+removal_of_another : row_by (codes "DELETE") [] (codes "images/redis:7") ≡ Some to.NoImage
+removal_of_another = refl
 
 one_network : row_by (codes "GET") [] (codes "networks/host") ≡ Some (to.Network network.Host)
 one_network = refl
 
 another_network : row_by (codes "GET") [] (codes "networks/app_default") ≡ Some to.NoNetwork
 another_network = refl
+
+what_a_swarm_keeps : row_by (codes "GET") [] (codes "services/web/logs") ≡ Some to.NoSwarm
+what_a_swarm_keeps = refl
+
+processes_are_left_out : row_by (codes "GET") [] (codes "containers/web/top") ≡ Some (to.LeftOut left.Top)
+processes_are_left_out = refl
+
+the_list_is_the_daemons : row_by (codes "GET") [] (codes "containers/json") ≡ None
+the_list_is_the_daemons = refl
+
+size_of_an_exec : row_by (codes "POST") [] (codes "exec/0123/resize") ≡ Some (to.LeftOut left.Resize)
+size_of_an_exec = refl
 
 info_is_read_alone : row_by (codes "POST") [] (codes "info") ≡ None
 info_is_read_alone = refl
@@ -47,6 +69,10 @@ info_is_read_alone = refl
 one_image_is_fetched : row_by (codes "POST") (codes "fromImage=engine%2Ftools&tag=latest") (codes "images/create") ≡ Some to.Pulled
 unfolding decoded
 one_image_is_fetched = refl
+
+so_is_it_by_its_registry : row_by (codes "POST") (codes "fromImage=docker.io%2Fengine%2Ftools&tag=latest") (codes "images/create") ≡ Some to.Pulled
+unfolding decoded
+so_is_it_by_its_registry = refl
 
 another_image_is_not : row_by (codes "POST") (codes "fromImage=redis&tag=7") (codes "images/create") ≡ Some to.NoPull
 unfolding decoded

@@ -1,3 +1,5 @@
+pub mod Left
+pub mod Naming
 pub mod Queries
 pub mod Rows
 pub mod Texts

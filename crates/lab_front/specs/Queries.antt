@@ -93,6 +93,8 @@ abbrev pub is_latest : Option (List ℕ) → Bool
 is_latest None = true
 is_latest (Some value) = spells value [] || spells value (codes "latest")
 
--- its name, by itself or with its tag
+-- its name, by itself or with its tag, or with the registry's
 abbrev pub is_tools : List ℕ → Bool
-is_tools value = spells value (codes "engine/tools") || spells value (codes "engine/tools:latest")
+is_tools value =
+    spells value (codes "engine/tools") || spells value (codes "engine/tools:latest")
+    || spells value (codes "docker.io/engine/tools")

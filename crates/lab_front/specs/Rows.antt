@@ -1,9 +1,11 @@
 -- Which requests are answered the same at each time (Docker Engine API v1.43, the operations of images, networks and system;
 -- "Versioning"; the parts of a target: RFC 9112, section 3.2.1).
 use Rattle.std.specs.Prelude.{ℕ, List, [], ◌∷◌, Bool, false, ◌==◌, ◌&&◌, ◌||◌, if◌then◌else◌, Option, Some, None, option_map, option_and_then, nat_eq, codes}
-use Rattle.std.specs.List.{before_first, after_first, starts_with, ends_with}
+use Rattle.std.specs.List.{before_first, after_first, starts_with}
 use Rattle.std.specs.Str.{bytes_eq}
 use Rattle.http_edge.specs.Message.{Request}
+use Rattle.lab_front.specs.Left.{other_get, other_post}
+use Rattle.lab_front.specs.Naming.{image_get, image_delete}
 use Rattle.lab_front.specs.Queries.{is_between, query_of, value_of, is_listed, is_latest, is_tools}
 use Rattle.lab_front.specs.declared.table.Network.TheVariants as network
 use Rattle.lab_front.specs.declared.table.Row.{Row}
@@ -38,17 +40,6 @@ path_of target = option_map behind_version (after_slash (before_first (λ b. b =
 
 -- ---- the table
 
--- the names of the one image
-abbrev pub is_image : List ℕ → Bool
-is_image path =
-    bytes_eq path (codes "images/engine/tools:latest/json") || bytes_eq path (codes "images/engine/tools/json")
-    || bytes_eq path (codes "images/sha256:dc2452a28ddfa42c3d90bbaea861195fde1209aa4b1575039c91db3968531778/json")
-    || bytes_eq path (codes "images/dc2452a28ddfa42c3d90bbaea861195fde1209aa4b1575039c91db3968531778/json")
-
--- what begins and ends as an image's does
-abbrev pub names_image : List ℕ → Bool
-names_image path = starts_with nat_eq path (codes "images/") && ends_with nat_eq path (codes "/json")
-
 abbrev pub network_row : List ℕ → Row
 network_row path =
     if bytes_eq path (codes "networks/bridge") then to.Network network.Bridge
@@ -74,10 +65,10 @@ get_row path query =
     else if bytes_eq path (codes "system/df") then Some to.DiskUse
     else if bytes_eq path (codes "images/json") then Some (list_row query)
     else if bytes_eq path (codes "networks") then Some to.Networks
-    else if is_image path then Some to.Image
-    else if names_image path then Some to.NoImage
+    else if bytes_eq path (codes "images/search") then Some to.NoImages
+    else if starts_with nat_eq path (codes "images/") then image_get path
     else if starts_with nat_eq path (codes "networks/") then Some (network_row path)
-    else None
+    else other_get path
 
 abbrev pub post_row : List ℕ → List ℕ → Option Row
 post_row path query =
@@ -85,12 +76,13 @@ post_row path query =
     else if bytes_eq path (codes "images/prune") then Some to.PrunedImages
     else if bytes_eq path (codes "networks/prune") then Some to.PrunedNetworks
     else if bytes_eq path (codes "build/prune") then Some to.PrunedBuilds
-    else None
+    else other_post path
 
 abbrev pub row_by : List ℕ → List ℕ → List ℕ → Option Row
 row_by method query path =
     if bytes_eq method (codes "GET") then get_row path query
     else if bytes_eq method (codes "POST") then post_row path query
+    else if bytes_eq method (codes "DELETE") then image_delete path
     else None
 
 -- by the method and the target; none is the daemon's own

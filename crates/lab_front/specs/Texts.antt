@@ -1,6 +1,7 @@
 -- The requests that are answered the same at each time, and what they are answered (Docker Engine API v1.43, the operations of
 -- images, networks and system; own: the one image, and the three networks, in which nothing is).
 use Rattle.std.specs.Prelude.{ℕ, List, ◌++◌, codes}
+use Rattle.lab_front.specs.Left.{left_text, no_swarm_text}
 use Rattle.lab_front.specs.declared.table.Network.{Network}
 use Rattle.lab_front.specs.declared.table.Network.TheVariants.{Bridge, Host, None}
 use Rattle.lab_front.specs.declared.table.Row.{Row}
@@ -92,6 +93,9 @@ abbrev pub status_of : Row → ℕ
 status_of to.NoImage = 404
 status_of to.NoNetwork = 404
 status_of to.NoPull = 404
+status_of to.ImageStays = 409
+status_of (to.LeftOut left) = 501
+status_of to.NoSwarm = 503
 status_of other = 200
 
 abbrev pub text_of : Row → List ℕ
@@ -100,6 +104,8 @@ text_of to.DiskUse = disk_text
 text_of to.Images = image_list_text
 text_of to.NoImages = codes "[]"
 text_of to.Image = image_text
+text_of to.Layers = codes "[]"
+text_of to.ImageStays = codes "{\"message\":\"conflict: the image can't be removed\"}"
 text_of to.NoImage = no_image_text
 text_of to.Pulled = pulled_text
 text_of to.NoPull = no_pull_text
@@ -109,3 +115,6 @@ text_of to.NoNetwork = no_network_text
 text_of to.PrunedImages = codes "{\"ImagesDeleted\":null,\"SpaceReclaimed\":0}"
 text_of to.PrunedNetworks = codes "{\"NetworksDeleted\":null}"
 text_of to.PrunedBuilds = codes "{\"CachesDeleted\":null,\"SpaceReclaimed\":0}"
+text_of to.Plugins = codes "[]"
+text_of to.NoSwarm = no_swarm_text
+text_of (to.LeftOut left) = left_text left

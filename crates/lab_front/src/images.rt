@@ -55,7 +55,9 @@ fn is_latest(value: Option<&[u8]>) -> bool
 fn is_tools(value: &[u8]) -> bool
     ensures { result ≡ spec.is_tools value.now }
 {
-    spells(value, "engine/tools") || spells(value, "engine/tools:latest")
+    spells(value, "engine/tools")
+        || spells(value, "engine/tools:latest")
+        || spells(value, "docker.io/engine/tools")
 }
 
 /// The list of images, by its filters.

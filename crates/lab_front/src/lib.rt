@@ -2,12 +2,15 @@
 #![tactic(auto)]
 
 mod images;
+mod left;
+mod naming;
 mod path;
 mod query;
 mod table;
 mod texts;
 mod writing;
 
+pub use left::LeftOut;
 pub use path::path_of;
 pub use table::{Network, Row, row_of};
 pub use texts::{status_of, text_of};

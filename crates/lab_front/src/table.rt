@@ -4,6 +4,8 @@ ghost use Rattle.http_edge.specs.Reader.{request_of};
 ghost use Rattle.lab_front.specs.Rows as spec;
 
 use crate::images::{list_row, pull_row};
+use crate::left::{LeftOut, other_get, other_post};
+use crate::naming::{image_delete, image_get};
 use crate::path::path_of;
 use crate::query::query_of;
 use http_edge::RequestView;
@@ -25,10 +27,14 @@ pub enum Row {
     DiskUse,
     /// The list of images.
     Images,
-    /// The same, where filters leave the one image out.
+    /// The same, where filters leave the one image out; or of what a registry has.
     NoImages,
     /// The one image.
     Image,
+    /// Its layers.
+    Layers,
+    /// The one image, to be removed.
+    ImageStays,
     /// Another image.
     NoImage,
     /// The one image, to be fetched.
@@ -43,25 +49,12 @@ pub enum Row {
     PrunedImages,
     PrunedNetworks,
     PrunedBuilds,
-}
-
-/// Whether a path names the one image.
-fn is_image(path: &str) -> bool
-    ensures { result ≡ spec.is_image path.now }
-{
-    path == "images/engine/tools:latest/json"
-        || path == "images/engine/tools/json"
-        || path
-            == "images/sha256:dc2452a28ddfa42c3d90bbaea861195fde1209aa4b1575039c91db3968531778/json"
-        || path == "images/dc2452a28ddfa42c3d90bbaea861195fde1209aa4b1575039c91db3968531778/json"
-}
-
-/// Whether a path begins and ends as an image's does.
-fn names_image(path: &str) -> bool
-    ensures { result ≡ spec.names_image path.now }
-{
-    let bytes = path.as_bytes();
-    bytes.starts_with(b"images/") && bytes.ends_with(b"/json")
+    /// The list of plugins.
+    Plugins,
+    /// What managers of a swarm keep.
+    NoSwarm,
+    /// A call of a container that the daemon leaves out.
+    LeftOut(LeftOut),
 }
 
 fn network_row(path: &str) -> Row
@@ -94,16 +87,16 @@ fn get_row(path: &str, query: &str) -> Option<Row>
     if path == "networks" {
         return Some(Row::Networks);
     }
-    if is_image(path) {
-        return Some(Row::Image);
+    if path == "images/search" {
+        return Some(Row::NoImages);
     }
-    if names_image(path) {
-        return Some(Row::NoImage);
+    if path.as_bytes().starts_with(b"images/") {
+        return image_get(path);
     }
     if path.as_bytes().starts_with(b"networks/") {
         return Some(network_row(path));
     }
-    None
+    other_get(path)
 }
 
 fn post_row(path: &str, query: &str) -> Option<Row>
@@ -121,7 +114,7 @@ fn post_row(path: &str, query: &str) -> Option<Row>
     if path == "build/prune" {
         return Some(Row::PrunedBuilds);
     }
-    None
+    other_post(path)
 }
 
 fn row_by(method: &str, query: &str, path: &str) -> Option<Row>
@@ -132,6 +125,9 @@ fn row_by(method: &str, query: &str, path: &str) -> Option<Row>
     }
     if method == "POST" {
         return post_row(path, query);
+    }
+    if method == "DELETE" {
+        return image_delete(path);
     }
     None
 }

@@ -2,6 +2,7 @@
 ghost use Rattle.std.specs.Prelude.{◌≡◌};
 ghost use Rattle.lab_front.specs.Texts as spec;
 
+use crate::left::{left_text, no_swarm_text};
 use crate::table::{Network, Row};
 
 /// What the daemon is.
@@ -123,6 +124,8 @@ pub fn text_of(row: Row) -> &'static str
         Row::Images => image_list_text(),
         Row::NoImages => "[]",
         Row::Image => image_text(),
+        Row::Layers => "[]",
+        Row::ImageStays => "{\"message\":\"conflict: the image can't be removed\"}",
         Row::NoImage => "{\"message\":\"No such image\"}",
         Row::Pulled => pulled_text(),
         Row::NoPull =>
@@ -133,6 +136,9 @@ pub fn text_of(row: Row) -> &'static str
         Row::PrunedImages => "{\"ImagesDeleted\":null,\"SpaceReclaimed\":0}",
         Row::PrunedNetworks => "{\"NetworksDeleted\":null}",
         Row::PrunedBuilds => "{\"CachesDeleted\":null,\"SpaceReclaimed\":0}",
+        Row::Plugins => "[]",
+        Row::NoSwarm => no_swarm_text(),
+        Row::LeftOut(left) => left_text(left),
     }
 }
 
@@ -142,6 +148,9 @@ pub fn status_of(row: Row) -> u16
 {
     match row {
         Row::NoImage | Row::NoNetwork | Row::NoPull => 404,
+        Row::ImageStays => 409,
+        Row::LeftOut(_) => 501,
+        Row::NoSwarm => 503,
         _ => 200,
     }
 }
