@@ -6,6 +6,7 @@ use crate::sharing::SharedSink;
 use crate::wiring::Ways;
 use engine_ports::{Clock, Parting, Sink, Source};
 use std::sync::Wait;
+use std::time;
 
 /// What is left of the connection itself.
 #[derive(Drop)]
@@ -30,7 +31,7 @@ impl<'a, R, F: Source, I: Sink, T: Clock, P: Parting<F, I, T>> Parting<
     T,
 > for FrontPast<P, T>
 where
-    R: Wait + Sync,
+    R: Wait + time::Clock + Sync,
     F: Drop,
     I: Drop,
     T: Drop,

@@ -4,9 +4,10 @@ ghost use Rattle.engine_ports.specs.Source.{untold_source};
 ghost use Rattle.front_session.specs.Views.{source_over};
 
 use crate::fronting::read_on;
+use crate::sharing::Showing;
 use crate::stepping::FrontState;
 use crate::wiring::Ways;
-use engine_ports::{Got, Sink, Source};
+use engine_ports::{Got, Source};
 use std::sync::Wait;
 
 /// A connection's source as its session sees it: the requests of the table are answered through the sink, once the
@@ -38,7 +39,7 @@ impl<'a, R, S, K> FrontSource<'a, R, S, K> {
     }
 }
 
-impl<R: Wait + Sync, S: Source, K: Sink> Source for FrontSource<'_, R, S, K> {
+impl<R: Wait + Sync, S: Source, K: Showing> Source for FrontSource<'_, R, S, K> {
     ghost use Rattle.std.specs.Prelude.{◌<◌, length};
     ghost use Rattle.engine_ports.specs.Source.{ReadSays};
     ghost use Rattle.front_session.specs.Reads.{FrontReads};
@@ -54,7 +55,12 @@ impl<R: Wait + Sync, S: Source, K: Sink> Source for FrontSource<'_, R, S, K> {
             (whole_of S.gives K.takes self.new) }
     {
         match read_on(self.rt, &mut self.ways, &mut self.front, into) {
-            Got::Bytes(count) => Got::Bytes(count),
+            Got::Bytes(count) => {
+                if !self.front.is_open() && into[..count].starts_with(b"GET ") {
+                    self.ways.sink.expect();
+                }
+                Got::Bytes(count)
+            }
             Got::End => {
                 self.ends = self.ends.saturating_add(1);
                 Got::End

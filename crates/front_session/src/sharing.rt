@@ -3,16 +3,32 @@ ghost use Rattle.std.specs.Prelude.{◌≡◌, IfOk};
 ghost use Rattle.engine_ports.specs.Sink.{untold_sink};
 ghost use Rattle.front_session.specs.Sharing.{sink_over};
 
+use crate::resting::rest_behind;
 use engine_ports::{Failed, NoMemory, Sink};
+use lab_shown::{OneSink, Taking, write_shown};
 use std::alloc::Global;
 use std::sync::{Arc, Mutex, Wait};
+use std::{mem, time};
+
+/// A sink that can be told what is written next.
+pub trait Showing: Sink {
+    /// The next piece answers a request to read: an inspect is shown with more members.
+    fn expect(&self);
+}
+
+/// The place of a sink, and whether the next piece is shown so.
+#[derive(Drop)]
+struct Held<K> {
+    sink: Option<K>,
+    shows: bool,
+}
 
 /// A sink behind a lock, as one of those who share it sees it: it tells no bytes, and counts the faults of its own
 /// calls.
 #[derive(Drop)]
 pub struct SharedSink<'a, R, K> {
     rt: &'a R,
-    sink: Arc<Mutex<Option<K>>, Global>,
+    sink: Arc<Mutex<Held<K>>, Global>,
     pub(crate) faults: u64,
 }
 
@@ -25,7 +41,11 @@ impl<'a, R: Wait, K: Drop> SharedSink<'a, R, K> {
         ensures { IfOk result (λ r. (sink_over r.0 ≡ untold_sink)
             × (sink_over r.1 ≡ untold_sink)) }
     {
-        let sink = Arc::new(alloc, Mutex::new(None))?;
+        let held = Held {
+            sink: None,
+            shows: false,
+        };
+        let sink = Arc::new(alloc, Mutex::new(held))?;
         let again = Arc::try_clone(&sink)?;
         Ok((
             SharedSink {
@@ -44,34 +64,48 @@ impl<'a, R: Wait, K: Drop> SharedSink<'a, R, K> {
     /// Puts a sink into the place. It takes no memory.
     pub fn put(&self, sink: K) {
         let mut held = self.sink.lock(self.rt);
-        *held = Some(sink);
+        held.sink = Some(sink);
     }
 
     /// Takes the sink out of it.
     pub fn take(&self) -> Option<K> {
-        self.sink.lock(self.rt).take()
+        self.sink.lock(self.rt).sink.take()
     }
 }
 
-impl<R: Wait + Sync, K: Sink + Drop> Sink for SharedSink<'_, R, K> {
+impl<R: Wait + time::Clock + Sync, K: Sink + Drop> Sink for SharedSink<'_, R, K> {
     ghost use Rattle.front_session.specs.Sharing.{sink_over};
 
     ghost takes = { sink_over };
 
-    // It may wait.
+    // It may wait, and rests behind the head of a takeover.
     fn write(&mut self, piece: &[u8]) -> Result<(), Failed> {
-        let written = match &mut *self.sink.lock(self.rt) {
-            Some(sink) => sink.write(piece),
+        let mut held = self.sink.lock(self.rt);
+        let shows = mem::replace(&mut held.shows, false);
+        let written = match held.sink.take() {
+            Some(sink) => {
+                let mut one = OneSink { sink };
+                let written = if shows {
+                    write_shown(&mut one, piece)
+                } else {
+                    one.take(piece)
+                };
+                let OneSink { sink } = one;
+                held.sink = Some(sink);
+                written
+            }
             None => Err(Failed),
         };
+        drop(held);
         if written.is_err() {
             self.faults = self.faults.saturating_add(1);
         }
+        rest_behind(self.rt, piece);
         written
     }
 
     fn probe(&mut self) -> Result<(), Failed> {
-        let there = match &mut *self.sink.lock(self.rt) {
+        let there = match &mut self.sink.lock(self.rt).sink {
             Some(sink) => sink.probe(),
             None => Err(Failed),
         };
@@ -82,7 +116,7 @@ impl<R: Wait + Sync, K: Sink + Drop> Sink for SharedSink<'_, R, K> {
     }
 
     fn finish(&mut self) -> Result<(), Failed> {
-        let finished = match &mut *self.sink.lock(self.rt) {
+        let finished = match &mut self.sink.lock(self.rt).sink {
             Some(sink) => sink.finish(),
             None => Err(Failed),
         };
@@ -90,5 +124,12 @@ impl<R: Wait + Sync, K: Sink + Drop> Sink for SharedSink<'_, R, K> {
             self.faults = self.faults.saturating_add(1);
         }
         finished
+    }
+}
+
+impl<R: Wait + time::Clock + Sync, K: Sink + Drop> Showing for SharedSink<'_, R, K> {
+    // It may wait.
+    fn expect(&self) {
+        self.sink.lock(self.rt).shows = true;
     }
 }

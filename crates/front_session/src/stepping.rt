@@ -115,6 +115,11 @@ fn step_at(
 }
 
 impl FrontState {
+    /// Whether all is handed on.
+    pub(crate) fn is_open(&self) -> bool {
+        matches!(self.stage, Stage::Open)
+    }
+
     /// A front that was given nothing. It takes all memory that it needs: what a reader of requests takes, and as much
     /// as a head more.
     pub fn new(alloc: Global) -> Result<FrontState, NoMemory>
