@@ -46,7 +46,7 @@ fn main(rt: HostRuntime) -> ExitCode {
     let mut error = WriteSink::new(rt.stderr());
     let mut clock = SystemClock::new(&rt);
     let links = TcpLinks::new(&rt, rt.alloc());
-    let (status, _) = run_lab(
+    let (status, _, _) = run_lab(
         &rt,
         rt.alloc(),
         &words,

@@ -38,18 +38,21 @@ Tells lab moment (Err Untold) u u' =
     (u' ≡ u) ⊎ ((failed : Failed) × (listening : ℕ) × TellsStart lab moment listening (Err failed) u u')
 Tells lab moment (Err other) u u' = ⊥
 
--- both doors are bound, the daemon's to this address, and the moment of the opening is asked for
-abbrev pub Opens : Lab → ℕ → ClockView → ClockView → DoorView → DoorView → Type 0
-Opens lab moment t t' d d' = Binds (addr_of lab.listen) d d' × OpensAt lab.clock moment t t'
+-- both doors are bound, and the moment of the opening is asked for
+abbrev pub Opens : Lab → ℕ → ClockView → ClockView → DoorView → DoorView → DoorView → DoorView → Type 0
+Opens lab moment t t' d d' e e' =
+    Binds (addr_of lab.listen) d d' × Binds (addr_of lab.control) e e' × OpensAt lab.clock moment t t'
 
 -- what starting says
-abbrev pub Starts : Lab → Result Started Why → ClockView → ClockView → SinkView → SinkView → DoorView → DoorView → Type 0
-Starts lab (Ok started) t t' u u' d d' =
-    Opens lab started.moment t t' d d' × Tells lab started.moment (Ok started.address) u u'
-Starts lab (Err NoMemory) t t' u u' d d' =
-    (u' ≡ u) × (((t' ≡ t) × (d' ≡ d)) ⊎ ((moment : ℕ) × Opens lab moment t t' d d'))
-Starts lab (Err NoListen) t t' u u' d d' = (t' ≡ t) × (u' ≡ u) × FailsToBind d d'
-Starts lab (Err NoControl) t t' u u' d d' = (t' ≡ t) × (u' ≡ u) × Binds (addr_of lab.listen) d d'
-Starts lab (Err Untold) t t' u u' d d' =
-    (moment : ℕ) × Opens lab moment t t' d d' × Tells lab moment (Err Untold) u u'
-Starts lab (Err other) t t' u u' d d' = ⊥
+abbrev pub Starts : Lab → Result Started Why → ClockView → ClockView → SinkView → SinkView → DoorView → DoorView → DoorView → DoorView → Type 0
+Starts lab (Ok started) t t' u u' d d' e e' =
+    Opens lab started.moment t t' d d' e e' × Tells lab started.moment (Ok started.address) u u'
+Starts lab (Err NoMemory) t t' u u' d d' e e' =
+    (u' ≡ u)
+    × (((t' ≡ t) × (d' ≡ d) × (e' ≡ e)) ⊎ ((moment : ℕ) × Opens lab moment t t' d d' e e'))
+Starts lab (Err NoListen) t t' u u' d d' e e' = (t' ≡ t) × (u' ≡ u) × FailsToBind d d' × (e' ≡ e)
+Starts lab (Err NoControl) t t' u u' d d' e e' =
+    (t' ≡ t) × (u' ≡ u) × Binds (addr_of lab.listen) d d' × FailsToBind e e'
+Starts lab (Err Untold) t t' u u' d d' e e' =
+    (moment : ℕ) × Opens lab moment t t' d d' e e' × Tells lab moment (Err Untold) u u'
+Starts lab (Err other) t t' u u' d d' e e' = ⊥

@@ -1,5 +1,6 @@
 // Control's door.
 ghost use Rattle.std.specs.Thread.{IsSend};
+ghost use Rattle.lab_program.specs.Serving.{TookIn, ServesControl};
 ghost use Rattle.lab_program.specs.declared.controls.Came.{Came};
 
 use crate::ends::end;
@@ -23,24 +24,26 @@ pub(crate) struct Came<F, I, T> {
 }
 
 /// Takes connections in until no more come, and has each answered in a thread of its own; where that is refused, in
-/// this one. Whether the door failed.
+/// this one. Whether the door failed, and the door.
 fn take_in<R: Threads + Wait + Sync, E: Door + Drop, A: Fn(Came<E::From, E::Into, E::Time>) + Sync>(
     rt: &R,
     answer: &A,
     door: E,
-) -> bool
+) -> (bool, E)
     requires may { (came : Came E.From E.Into E.Time) → A.pre answer.now came }
+    ensures { TookIn result.0 (E.opens door) (E.opens result.1) }
 {
-    let mut door = door;
     thread::scope(
         thread::scope_env(),
         rt,
-        |scope| -> bool
+        |scope| -> (bool, E)
             requires send { IsSend E.From.row × IsSend E.Into.row × IsSend E.Time.row }
             requires may { (came : Came E.From E.Into E.Time) → A.pre answer.now came }
+            ensures { TookIn result.0 (E.opens door) (E.opens result.1) }
         {
+            let mut open = door;
             for _ in rt.forever() {
-                match door.accept() {
+                match open.accept() {
                     Arrival::Conn(from, into, time) => {
                         let came = Came { from, into, time };
                         let served = scope.spawn(
@@ -52,8 +55,8 @@ fn take_in<R: Threads + Wait + Sync, E: Door + Drop, A: Fn(Came<E::From, E::Into
                             (back.value)();
                         }
                     }
-                    Arrival::Shut => return false,
-                    Arrival::Failed => return true,
+                    Arrival::Shut => return (false, open),
+                    Arrival::Failed => return (true, open),
                 }
             }
             unreachable!()
@@ -82,7 +85,7 @@ fn answer_one<R: Wait, J: Linking, F: Source, I: Sink, T: Clock, P: Parting<F, I
 }
 
 /// Takes control's connections in, and answers them, until no more come. Where one asks for the program's end, all is
-/// stopped.
+/// stopped. The door is handed back.
 pub(crate) fn serve_controls<R: Threads + Wait + Sync, J: Linking, E: Door + Drop>(
     rt: &R,
     time: Option<&SharedTime>,
@@ -91,7 +94,9 @@ pub(crate) fn serve_controls<R: Threads + Wait + Sync, J: Linking, E: Door + Dro
     alloc: Global,
     signal: &StopSignal,
     door: E,
-) -> Control {
+) -> (Control, E)
+    ensures { ServesControl result.0 (E.opens door) (E.opens result.1) }
+{
     let asked = AtomicBool::new(false);
     let answer = |came: Came<E::From, E::Into, E::Time>|
         requires control { IsSend E.From.row × IsSend E.Into.row × IsSend E.Time.row × IsSend
@@ -105,13 +110,13 @@ pub(crate) fn serve_controls<R: Threads + Wait + Sync, J: Linking, E: Door + Dro
             end(rt, time, signal);
         }
     };
-    let failed = take_in(rt, &answer, door);
+    let (failed, door) = take_in(rt, &answer, door);
     if asked.load(Ordering::SeqCst) {
-        return Control::Asked;
+        return (Control::Asked, door);
     }
     if failed {
         end(rt, time, signal);
-        return Control::Failed;
+        return (Control::Failed, door);
     }
-    Control::Shut
+    (Control::Shut, door)
 }

@@ -1,5 +1,5 @@
 // The program `enginelab`.
-ghost use Rattle.lab_program.specs.Program.{Puts, RunsLab, RunsLine};
+ghost use Rattle.lab_program.specs.Program.{Puts, RunsLab, RunsLine, outer};
 
 use crate::opening::time_by;
 use crate::serving::serve_lab;
@@ -41,14 +41,15 @@ fn run_line<
     clock: &mut C,
     tools: D,
     control: E,
-) -> (Why, D)
+) -> (Why, D, E)
     ensures { RunsLine lab result.0 (C.times clock.old) (C.times clock.new) (K.takes output.old)
-        (K.takes output.new) (D.opens tools) (D.opens result.1) }
+        (K.takes output.new) (D.opens tools) (D.opens result.1) (E.opens control)
+        (E.opens result.2) }
 {
     let mut tools = tools;
     let mut control = control;
     match start(alloc, lab, output, clock, &mut tools, &mut control) {
-        Err(why) => (why, tools),
+        Err(why) => (why, tools, control),
         Ok(started) => {
             let time = time_by(lab.clock, started.moment);
             serve_lab(
@@ -68,7 +69,7 @@ fn run_line<
     }
 }
 
-/// Runs `enginelab` with the words after the program's name, and answers its status, with the daemon's door.
+/// Runs `enginelab` with the words after the program's name, and answers its status, with both doors.
 pub fn run_lab<
     R: Threads + Wait + time::Clock + Sync,
     J: Linking,
@@ -90,34 +91,36 @@ pub fn run_lab<
     clock: &mut C,
     tools: D,
     control: E,
-) -> (u8, D)
-    ensures { RunsLab words.now result.0 (C.times clock.old) (C.times clock.new)
-        (K.takes output.old) (K.takes output.new) (L.takes error.old) (L.takes error.new)
-        (D.opens tools) (D.opens result.1) }
+) -> (u8, D, E)
+    ensures { RunsLab words.now result.0
+        (outer (C.times clock.old) (K.takes output.old) (L.takes error.old) (D.opens tools)
+        (E.opens control))
+        (outer (C.times clock.new) (K.takes output.new) (L.takes error.new) (D.opens result.1)
+        (E.opens result.2)) }
 {
     let Ok(asked) = read_line(alloc, words) else {
         put(error, text_by(Why::NoMemory));
-        return (status_by(Why::NoMemory), tools);
+        return (status_by(Why::NoMemory), tools, control);
     };
     match asked {
         Asked::Help => {
             put(output, help());
-            (0, tools)
+            (0, tools, control)
         }
         Asked::Version => {
             put(output, version());
-            (0, tools)
+            (0, tools, control)
         }
         Asked::Wrong(wrong) => {
             put(error, reason(wrong));
-            (2, tools)
+            (2, tools, control)
         }
         Asked::Line(lab) => {
-            let (why, tools) = run_line(
+            let (why, tools, control) = run_line(
                 rt, alloc, lab, links, signal, input, output, clock, tools, control,
             );
             put(error, text_by(why));
-            (status_by(why), tools)
+            (status_by(why), tools, control)
         }
     }
 }

@@ -81,7 +81,8 @@ pub(crate) fn start<K: Sink, C: Clock, D: Listening, E: Listening>(
     control: &mut E,
 ) -> Result<Started, Why>
     ensures starts { Starts lab result (C.times clock.old) (C.times clock.new)
-        (K.takes output.old) (K.takes output.new) (D.opens tools.old) (D.opens tools.new) }
+        (K.takes output.old) (K.takes output.new) (D.opens tools.old) (D.opens tools.new)
+        (E.opens control.old) (E.opens control.new) }
     ensures moment { IfOk result (λ started. started.moment ≤ greatest_moment) }
 {
     bind_both(alloc, lab, tools, control)?;
