@@ -1,0 +1,12 @@
+pub mod StandingLemmas
+pub mod StepLemmas
+pub mod GoingLemmas
+pub mod ThereLemmas
+pub mod MoveLemmas
+pub mod ReadMoveLemmas
+pub mod SendMoveLemmas
+pub mod AskMoveLemmas
+pub mod WaitMoveLemmas
+pub mod EarlyMoveLemmas
+pub mod PollLemmas
+pub mod LeftLemmas
