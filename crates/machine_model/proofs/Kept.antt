@@ -4,6 +4,7 @@ pub mod EventLemmas
 pub mod ExecLemmas
 pub mod NameLemmas
 pub mod PastLemmas
+pub mod OrderLemmas
 pub mod ProcessLemmas
 pub mod TableLemmas
 pub mod TicketLemmas

@@ -79,7 +79,7 @@ mapped_numbers f mark (t ∷ ts) =
     let more : map (λ t. t.number) (map f ts) ≡ map (λ t. t.number) ts = mapped_numbers f mark ts in
     λ i. one i ∷ more i
 
-all_through : {A : Type 0} (P Q : A → Type 0) (f : A → A) → ((x : A) → P x → Q (f x)) → (xs : List A) → AllByRecursion P xs → AllByRecursion Q (map f xs)
+pub all_through : {A : Type 0} (P Q : A → Type 0) (f : A → A) → ((x : A) → P x → Q (f x)) → (xs : List A) → AllByRecursion P xs → AllByRecursion Q (map f xs)
 all_through P Q f k [] h = tt
 all_through P Q f k (x ∷ xs) h = (k x h.0, all_through P Q f k xs h.1)
 
@@ -97,7 +97,7 @@ ready cs t (Some old) r = tt
 
 -- ---- the removal of a container
 
-last_number : (b : Bool) (c : Container) (t : Ticket) → (if b then answer (last_reply t.asked c.life.code) t else t).number ≡ t.number
+pub last_number : (b : Bool) (c : Container) (t : Ticket) → (if b then answer (last_reply t.asked c.life.code) t else t).number ≡ t.number
 last_number true c t = refl
 last_number false c t = refl
 
@@ -122,7 +122,7 @@ timed_stands Asked.Stop c cs t h = h
 timed_stands Asked.Restart c cs t h = h
 timed_stands (Asked.Wait until) c cs t h = h
 
-either_number : (b : Bool) (c : Container) (t : Ticket) → (if b then timed_out t.asked c t else t).number ≡ t.number
+pub either_number : (b : Bool) (c : Container) (t : Ticket) → (if b then timed_out t.asked c t else t).number ≡ t.number
 either_number true c t = timed_number t.asked c t
 either_number false c t = refl
 
