@@ -3,4 +3,5 @@ pub mod CommitLemmas
 pub mod DueFoundLemmas
 pub mod DueMakeLemmas
 pub mod FoundLemmas
+pub mod ListingLemmas
 pub mod SoundLemmas

@@ -2,4 +2,5 @@ pub mod Calls
 pub mod DuePlans
 pub mod Dues
 pub mod Found
+pub mod Listing
 pub mod Views

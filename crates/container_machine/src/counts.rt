@@ -29,14 +29,14 @@ impl Machine {
     }
 
     /// How many tickets stand.
-    pub fn tickets(&self) -> u64
+    pub fn ticket_count(&self) -> u64
         ensures { result ≡ length self.now.memory.state.tickets }
     {
         self.tables.open_tickets()
     }
 
     /// How many containers there are.
-    pub fn containers(&self) -> u64
+    pub fn container_count(&self) -> u64
         ensures { result ≡ length self.now.memory.state.containers }
     {
         self.tables.containers() as u64

@@ -1,5 +1,5 @@
 //! The laws of every legal history, as contracts of functions that do nothing.
-ghost use Rattle.machine_model.specs.Laws.{AttachLaw, FoldLaw, LogGrowsLaw, PastLaw, StatesLaw, StatusesLaw};
+ghost use Rattle.machine_model.specs.Laws.{AttachLaw, FoldLaw, LogGrowsLaw, PastLaw, StatesLaw, StatusesLaw, TicketsLaw};
 
 /// Every state is consistent, and the moments of events never fall.
 pub fn law_states()
@@ -29,4 +29,9 @@ pub fn law_past()
 /// Runs are counted from 1: an attach never follows run 0.
 pub fn law_attach()
     ensures { AttachLaw }
+{}
+
+/// Tickets stand in order of number.
+pub fn law_tickets()
+    ensures { TicketsLaw }
 {}

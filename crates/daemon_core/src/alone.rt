@@ -31,6 +31,14 @@ impl Alone {
         &self.daemon
     }
 
+    /// The daemon, given back as its turns left it.
+    pub fn into_daemon(self) -> Daemon
+        ensures { whole_pass result ≡ alone_pass self }
+    {
+        let Alone { daemon } = self;
+        daemon
+    }
+
     /// The daemon comes to its end.
     pub fn end(self) {
         self.daemon.end();

@@ -14,6 +14,9 @@ impl Daemon {
         ensures containers { result.1 ≡ length
             (state_after (charter self.now) (history_of self.now.stored.journal)).containers }
     {
-        (self.stored.ring.count(), self.stored.machine.containers())
+        (
+            self.stored.ring.count(),
+            self.stored.machine.container_count(),
+        )
     }
 }

@@ -34,7 +34,7 @@ pub fn has_room(machine: &Machine, greatest: u64, call: &Call) -> bool
         Call::Take { .. } | Call::Drop { .. } => true,
         _ => {
             let entries = u128::from(machine.calls())
-                + u128::from(machine.tickets())
+                + u128::from(machine.ticket_count())
                 + u128::from(places_of(call));
             entries <= u128::from(greatest) && has_steps(machine)
         }

@@ -45,7 +45,7 @@ impl Stored {
             + (length self.new.machine.memory.state.tickets + 2) ≤ self.new.journal.room) }
     {
         self.machine.kept();
-        let places = self.machine.tickets() + 2;
+        let places = self.machine.ticket_count() + 2;
         self.journal.make_places(places)
     }
 

@@ -8,4 +8,4 @@ pub returns-clause-events : goal.returns-clause-events
 returns-clause-events c = c.count.ensures ∙ ap (λ (r : Kept). r.count) (told_of c.args.self.now).ring
 
 pub returns-clause-containers : goal.returns-clause-containers
-returns-clause-containers c = c.containers.ensures ∙ ap (λ (s : State). length s.containers) (told_of c.args.self.now).state
+returns-clause-containers c = c.container_count.ensures ∙ ap (λ (s : State). length s.containers) (told_of c.args.self.now).state
