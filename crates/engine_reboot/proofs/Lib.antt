@@ -1,0 +1,6 @@
+mod PlanLemmas
+mod FollowLemmas
+mod WalkLemmas
+mod ReopenLemmas
+mod ReplayLemmas
+mod RebootLemmas

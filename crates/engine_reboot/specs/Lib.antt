@@ -1,0 +1,5 @@
+pub mod Planning
+pub mod Following
+pub mod Reopening
+pub mod Replaying
+pub mod Rebooting
