@@ -22,8 +22,10 @@ use Rattle.turnstile.specs.declared.view.View.{View}
 use Rattle.turnstile.proofs.Lists.{steps_by-append}
 use Rattle.turnstile.proofs.Totals.{times-append, each_first, each_last, each_both, below}
 use Rattle.daemon_shared.specs.Sharing.{author_of, opening_in, charter_by, charter_in, IsKept, with_calls, shared_pass}
-use Rattle.daemon_shared.specs.Worsts.{called_by, IsWorst}
-use Rattle.daemon_shared.specs.Running.{ServesBy, Life, Lived, AllLived, numbered, ComeIn, GoOut, Halts, IsNobodys, RunsDaemon}
+use Rattle.door_model.specs.Connections.{numbered, ComeIn, GoOut, IsNobodys}
+use Rattle.door_model.specs.Worsts.{called_by, IsWorst}
+use Rattle.door_model.proofs.WorstLemmas.{worst_for}
+use Rattle.daemon_shared.specs.Running.{ServesBy, Life, Lived, AllLived, Halts, RunsDaemon}
 use Rattle.daemon_shared.specs.Sessions.{SharedSeat, IsReady, start_of, end_of}
 use Rattle.daemon_shared.specs.Threads.{AllPairs, AllReady, IsTaken, ServesAll}
 use Rattle.daemon_shared.specs.declared.one_daemon.OneDaemon.{OneDaemon}
@@ -32,7 +34,6 @@ use Rattle.daemon_shared.specs.declared.admission.Begun.{Begun}
 use Rattle.daemon_shared.specs.declared.admission.Ended.{Ended}
 use Rattle.daemon_shared.proofs.TurnLemmas.{by_same, none_both, cancel}
 use Rattle.daemon_shared.proofs.ServeLemmas.{passes}
-use Rattle.daemon_shared.proofs.WorstLemmas.{worst_for}
 use Rattle.daemon_shared.proofs.RootLemmas.{only_same}
 
 some_same : {A : Type 0} (a b : A) → Some a ≡ Some b → a ≡ b
@@ -207,12 +208,12 @@ at_most : (t : Bool) (a b : ℕ) → nat_le a b ≡ t → (b < a → ⊥) → a 
 at_most true a b is never = grind (arith, nat_tests, is)
 at_most false a b is never = absurd (never (grind (arith, nat_tests, is)))
 
-fresh : (count n : ℕ) → n ≢ 4294967295 → IsNobodys count n → Fresh count n
+fresh : (count n : ℕ) → n ≢ 4294967295 → IsNobodys 0 count n → Fresh count n
 fresh count n root nobody = record {
   not_root = root;
-  not_below = at_most (nat_le count n) count n refl (λ less. (nobody n less).0 refl);
+  not_below = at_most (nat_le count n) count n refl (λ less. (nobody n (omega arith) (omega (arith, less))).0 refl);
   no_pair = λ high. at_most (nat_le (count + 2147483648) n) (count + 2147483648) n refl
-      (λ less. (nobody (n - 2147483648) (omega (arith, high, less))).1 (omega (arith, high)));
+      (λ less. (nobody (n - 2147483648) (omega arith) (omega (arith, high, less))).1 (omega (arith, high)));
 }
 
 by_root : (t : Bool) (n : ℕ) → (n == 4294967295) ≡ t → (A : Type 0) → (n ≡ 4294967295 → A) → (n ≢ 4294967295 → A) → A

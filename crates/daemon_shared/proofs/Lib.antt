@@ -1,6 +1,5 @@
 pub mod TurnLemmas
 pub mod ServeLemmas
-pub mod WorstLemmas
 pub mod RootLemmas
 pub mod RunLemmas
 pub mod EndLemmas

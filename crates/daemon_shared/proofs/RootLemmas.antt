@@ -1,11 +1,11 @@
--- Lists that are told or not, and the root: it admits passes, and takes them in.
-use Rattle.std.proofs.Common.{◌≡◌, ◌==◌, ◌+◌, ◌-◌, ◌<◌, ◌≤◌, ◌⊎◌, ℕ, suc, List, [], ◌∷◌, ◌++◌, length, map, Option, Some, None, Bool, true, false, if◌then◌else◌, Result, Ok, Err, refl, sym, ◌∙◌, ap, subst, inl, inr, ⊎_elim, arith, append-nil, append_assoc, length-append}
+-- Lists that go together, and the root: it admits passes, and takes them in.
+use Rattle.std.proofs.Common.{◌≡◌, ◌==◌, ◌+◌, ◌-◌, ◌<◌, ◌≤◌, ◌⊎◌, ℕ, suc, List, [], ◌∷◌, ◌++◌, length, map, Option, Bool, true, false, if◌then◌else◌, Result, Ok, Err, refl, sym, ◌∙◌, ap, subst, inl, inr, ⊎_elim, arith, append-nil, append_assoc, length-append}
 use Rattle.std.specs.Prelude.{IfErr, IsErrAnd, Contains}
 use Rattle.std.proofs.lemmas.List.Elements.{Contains-append_cases, Contains-push_cases}
 use Rattle.atomic_table.specs.Seated.{TableId}
 use Rattle.engine_text.specs.declared.step.Step.{Step}
 use Rattle.engine_ports.specs.Rose.{Rose}
-use Rattle.engine_ports.specs.Door.{Outside, DoorView, IsEmpty, Came, ToldLast}
+use Rattle.engine_ports.specs.Door.{Outside, DoorView, IsEmpty}
 use Rattle.machine_model.specs.History.{Extends}
 use Rattle.session_model.specs.Pass.{Only}
 use Rattle.session_model.specs.declared.ending.Worst.{Worst}
@@ -16,38 +16,13 @@ use Rattle.turnstile.specs.Plays.{Learned}
 use Rattle.turnstile.specs.Turns.{Looked, IsAdmitted}
 use Rattle.turnstile.specs.declared.view.View.{View}
 use Rattle.daemon_shared.specs.Sharing.{author_of, IsKept}
-use Rattle.daemon_shared.specs.Running.{ComeIn, GoOut, Halts}
+use Rattle.daemon_shared.specs.Running.{Halts}
 use Rattle.daemon_shared.specs.Sessions.{SharedSeat, IsRoot, Grows, IsReady, CanServe}
 use Rattle.daemon_shared.specs.Threads.{AllPairs}
 use Rattle.daemon_shared.specs.declared.one_daemon.Opening.{Opening}
 use Rattle.daemon_shared.specs.declared.admission.Begun.{Begun}
 
--- ---- lists that are told or not
-
-module _ {A : Type 0} where
-  pub come_none : (l : Option (List A)) → ComeIn l [] l
-  come_none None = tt
-  come_none (Some xs) = refl
-
-  pub come_more : (l m n : Option (List A)) (xs : List A) (x : A) → ComeIn l xs m → Came m x n → ComeIn l (xs ++ x ∷ []) n
-  come_more (Some l) (Some m) (Some n) xs x f g = f ∙ ap (λ v. xs ++ v) g ∙ sym (append_assoc xs (x ∷ []) n)
-  come_more None None None xs x f g = tt
-  come_more (Some l) None n xs x f g = absurd f
-  come_more None (Some m) n xs x f g = absurd f
-  come_more (Some l) (Some m) None xs x f g = absurd g
-  come_more None None (Some n) xs x f g = absurd g
-
-  pub out_none : (l : Option (List A)) → GoOut l [] l
-  out_none None = tt
-  out_none (Some xs) = sym (append-nil xs)
-
-  pub out_more : (l m n : Option (List A)) (xs : List A) (x : A) → GoOut l xs m → ToldLast m x n → GoOut l (xs ++ x ∷ []) n
-  out_more (Some l) (Some m) (Some n) xs x f g = g ∙ ap (λ v. v ++ x ∷ []) f ∙ append_assoc l xs (x ∷ [])
-  out_more None None None xs x f g = tt
-  out_more (Some l) None n xs x f g = absurd f
-  out_more None (Some m) n xs x f g = absurd f
-  out_more (Some l) (Some m) None xs x f g = absurd g
-  out_more None None (Some n) xs x f g = absurd g
+-- ---- lists
 
 module _ {A B : Type 0} where
   pub pairs_more : (R : A → B → Type 0) (xs : List A) (ys : List B) (x : A) (y : B) → AllPairs R xs ys → R x y → AllPairs R (xs ++ x ∷ []) (ys ++ y ∷ [])
@@ -61,10 +36,6 @@ module _ {A B : Type 0} where
   pairs_to R Q go (a ∷ xs) (b ∷ ys) h = (go a b h.0, pairs_to R Q go xs ys h.1)
   pairs_to R Q go [] (b ∷ ys) h = absurd h
   pairs_to R Q go (a ∷ xs) [] h = absurd h
-
-  pub map_more : (f : A → B) (xs : List A) (x : A) → map f (xs ++ x ∷ []) ≡ map f xs ++ f x ∷ []
-  map_more f [] x = refl
-  map_more f (a ∷ xs) x = ap (λ l. f a ∷ l) (map_more f xs x)
 
 pub none_left : {A : Type 0} (l : List A) → length l ≡ 0 → l ≡ []
 none_left [] e = refl

@@ -16,8 +16,10 @@ use Rattle.turnstile.specs.Plays.{Learned}
 use Rattle.turnstile.specs.Turns.{IsPass}
 use Rattle.turnstile.specs.declared.view.View.{View}
 use Rattle.daemon_shared.specs.Sharing.{author_of, IsKept}
-use Rattle.daemon_shared.specs.Worsts.{called_by, worse_of, IsWorst}
-use Rattle.daemon_shared.specs.Running.{ComeIn, GoOut}
+use Rattle.door_model.specs.Connections.{ComeIn, GoOut}
+use Rattle.door_model.specs.Worsts.{called_by, worse_of, IsWorst}
+use Rattle.door_model.proofs.ListLemmas.{come_none, come_more, out_none, out_more, map_more}
+use Rattle.door_model.proofs.WorstLemmas.{worst_one, worst_more}
 use Rattle.daemon_shared.specs.Sessions.{SharedSeat, IsRoot, Grows, Declines, start_of, end_of, CanServe, Served, IsReady, Admits}
 use Rattle.daemon_shared.specs.Threads.{begun_of, Keeps, AllKeep, JoinsSome, AllReady, IsTaken, SawAtEnd, ClosesOne, Serving, Stops, IsServing, LeavesSome, AwaitsNext, TakesNext, TakesNone, ServesAll, EndsAll}
 use Rattle.daemon_shared.specs.declared.one_daemon.Opening.{Opening}
@@ -27,11 +29,10 @@ use Rattle.daemon_shared.specs.declared.admission.SessionPromise.{SessionPromise
 use Rattle.daemon_shared.specs.declared.running.Running.{Running}
 use Rattle.daemon_shared.specs.declared.running.Stage.{Stage}
 use Rattle.daemon_shared.specs.declared.running.Stage.TheVariants.{Runs, Over}
-use Rattle.daemon_shared.proofs.WorstLemmas.{worst_one, worst_more}
 use Rattle.daemon_shared.proofs.ServeLemmas.{passes}
 use Rattle.std.specs.declared.thread.PromisedHandle.{PromisedHandle}
 use Rattle.std.specs.declared.snapshot.Snapshot.{Snapshot}
-use Rattle.daemon_shared.proofs.RootLemmas.{come_none, come_more, out_none, out_more, pairs_more, pairs_to, map_more, only_same, owed_more, root_again, root_now, can_serve, contains_cons, contains_same, map_length, extends_two, extends_same, fronts_on, grows_joined, halts_on}
+use Rattle.daemon_shared.proofs.RootLemmas.{pairs_more, pairs_to, only_same, owed_more, root_again, root_now, can_serve, contains_cons, contains_same, map_length, extends_two, extends_same, fronts_on, grows_joined, halts_on}
 
 module _ {Q S K C P : Type 0} (seat : Q → SharedSeat) (told : S → K → C → Outside) (tells : P → Outside) (steps : Option (ℕ × ℕ)) where
   abbrev B : Type 0

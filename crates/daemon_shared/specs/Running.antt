@@ -1,9 +1,9 @@
 -- What running the shared daemon leaves: one history, and a life of each connection (own).
-use Rattle.std.specs.Prelude.{ℕ, suc, ◌≡◌, ◌≢◌, ◌<◌, ◌≤◌, ◌⊎◌, min, List, [], ◌∷◌, ◌++◌, length, map, Contains, Option, Some, None}
+use Rattle.std.specs.Prelude.{ℕ, suc, ◌≡◌, ◌≤◌, ◌⊎◌, List, [], ◌∷◌, ◌++◌, length, map, Contains, Option, Some, None}
 use Rattle.engine_text.specs.declared.step.Step.{Step}
 use Rattle.engine_ports.specs.Rose.{Rose}
 use Rattle.engine_ports.specs.Door.{Outside, outside, DoorView, IsNew, IsEmpty}
-use Rattle.machine_model.specs.History.{Charter, IsLegal, HasNone, HasNoCall, input_of}
+use Rattle.machine_model.specs.History.{Charter, IsLegal, HasNone, HasNoCall}
 use Rattle.session_model.specs.declared.ending.Ending.{Ending}
 use Rattle.session_model.specs.declared.ending.Worst.{Worst}
 use Rattle.session_model.specs.declared.ending.Worst.TheVariants as worst
@@ -13,7 +13,8 @@ use Rattle.daemon_core.specs.declared.daemon.Daemon.{Daemon}
 use Rattle.daemon_core.specs.Passing.{whole_pass}
 use Rattle.daemon_core.specs.Storing.{pass_of}
 use Rattle.engine_serve.specs.OwnClock.{unstopped}
-use Rattle.daemon_shared.specs.Worsts.{called_by, IsWorst}
+use Rattle.door_model.specs.Connections.{numbered, ComeIn, GoOut, IsNobodys}
+use Rattle.door_model.specs.Worsts.{called_by, IsWorst}
 
 -- ---- one connection
 
@@ -54,45 +55,12 @@ AllLived ch h steps k (l ∷ ls) = Lived ch h steps k l × AllLived ch h steps (
 
 -- ---- all connections
 
-module _ {A : Type 0} where
-  abbrev pub numbered : ℕ → List A → List (ℕ × A)
-  numbered k [] = []
-  numbered k (x ∷ xs) = (k, x) ∷ numbered (suc k) xs
-
-  -- these came, in order, where they are told
-  abbrev pub ComeIn : Option (List A) → List A → Option (List A) → Type 0
-  ComeIn (Some before) xs (Some now) = before ≡ xs ++ now
-  ComeIn None xs None = Unit {0}
-  ComeIn (Some before) xs None = ⊥
-  ComeIn None xs (Some now) = ⊥
-
-  -- these are the last of the past, in order, where it is told
-  abbrev pub GoOut : Option (List A) → List A → Option (List A) → Type 0
-  GoOut (Some before) xs (Some now) = now ≡ before ++ xs
-  GoOut None xs None = Unit {0}
-  GoOut (Some before) xs None = ⊥
-  GoOut None xs (Some now) = ⊥
-
--- so many connections are served at most that neither their numbers nor those of their standard
--- input, 2,147,483,648 more, meet the root's, 4,294,967,295
-abbrev pub most_connections : ℕ
-most_connections = 2147483646
-
--- how many are taken in at most
-abbrev pub most_of : Option ℕ → ℕ
-most_of None = most_connections
-most_of (Some limit) = min limit most_connections
-
 -- why no more are taken in: so many came, or none is to come; the door failed; memory was refused
 abbrev pub Halts : Worst → ℕ → ℕ → DoorView → DoorView → Type 0
 Halts worst.Closed most count d d' = (count ≡ most) ⊎ IsEmpty d'.coming
 Halts worst.Fault most count d d' = Rose d.faults d'.faults
 Halts worst.NoMemory most count d d' = Unit {0}
 Halts other most count d d' = ⊥
-
--- it is the number of none of so many connections, nor of the standard input of one
-abbrev pub IsNobodys : ℕ → ℕ → Type 0
-IsNobodys count n = (k : ℕ) → k < count → (n ≢ k) × (n ≢ input_of k)
 
 -- ---- the daemon
 
@@ -110,7 +78,7 @@ pub record RunsDaemon (ch : Charter) (steps : Option (ℕ × ℕ)) (most : ℕ) 
   pub came : ComeIn d.coming (map (λ l. l.came) lives) d'.coming
   pub left : GoOut d.past (numbered 0 (map (λ l. l.left) lives)) d'.past
   pub lived : AllLived ch history steps 0 lives
-  pub whose : (n : ℕ) → IsNobodys (length lives) n → HasNoCall n history
+  pub whose : (n : ℕ) → IsNobodys 0 (length lives) n → HasNoCall n history
   pub faults : d.faults ≤ d'.faults
   pub bound : d'.bound ≡ d.bound
   pub why : Worst

@@ -12,8 +12,9 @@ use Rattle.turnstile.specs.Views.{claims, joined}
 use Rattle.turnstile.specs.Plays.{Learned}
 use Rattle.turnstile.specs.declared.view.View.{View}
 use Rattle.daemon_shared.specs.Sharing.{author_of, IsKept}
-use Rattle.daemon_shared.specs.Worsts.{called_by, worse_of, IsWorst}
-use Rattle.daemon_shared.specs.Running.{most_connections, ComeIn, GoOut, Halts}
+use Rattle.door_model.specs.Connections.{most_connections, ComeIn, GoOut}
+use Rattle.door_model.specs.Worsts.{called_by, worse_of, IsWorst}
+use Rattle.daemon_shared.specs.Running.{Halts}
 use Rattle.daemon_shared.specs.Sessions.{SharedSeat, IsRoot, IsReady, Served, start_of, end_of}
 use Rattle.daemon_shared.specs.declared.one_daemon.Opening.{Opening}
 use Rattle.daemon_shared.specs.declared.admission.Begun.{Begun}

@@ -10,7 +10,7 @@ use crate::closing::{close_all, leave_joined};
 use crate::lending::OneDoor;
 use crate::running::take;
 use crate::session_list::Sessions;
-use crate::worsts::worse_of;
+use door_model::worse_of;
 use session_model::Worst;
 use std::alloc::Global;
 use std::thread::Threads;

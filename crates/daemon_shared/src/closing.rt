@@ -8,7 +8,7 @@ use crate::admission::Admitting;
 use crate::lending::OneDoor;
 use crate::running::close_one;
 use crate::session_list::Sessions;
-use crate::worsts::{called_by, worse_of};
+use door_model::{called_by, worse_of};
 use session_model::Worst;
 use std::thread::Threads;
 

@@ -5,15 +5,16 @@ ghost use Rattle.session_model.specs.declared.ending.Worst as Worst;
 ghost use Rattle.std.specs.Thread.{IsSend};
 ghost use Rattle.daemon_shared.specs.Sharing.{charter_by};
 ghost use Rattle.daemon_shared.specs.Sessions.{told_by, CanServe, Served};
-ghost use Rattle.daemon_shared.specs.Running.{most_of, RunsDaemon};
+ghost use Rattle.daemon_shared.specs.Running.{RunsDaemon};
+ghost use Rattle.door_model.specs.Connections.{most_from};
 
 use crate::admission::{Begun, Ended};
 use crate::lending::LentDoor;
 use crate::one_daemon::{OneDaemon, Opening};
 use crate::serving::serve_all;
 use crate::sharing::{SharedDaemon, session};
-use crate::worsts::most_of;
 use daemon_core::Daemon;
+use door_model::most_from;
 use engine_ports::Door;
 use engine_serve::Routing;
 use session_model::Worst;
@@ -39,7 +40,7 @@ pub fn run_daemon<R: Threads + Wait + Sync, N: Routing, D: Door>(
     ensures none { IfNone result.1
         ((result.0 ≡ Worst.NoMemory) × (D.opens door.new ≡ D.opens door.old)) }
     ensures some { IfSome result.1
-        (λ d. RunsDaemon (charter_by opening) steps (most_of limit)
+        (λ d. RunsDaemon (charter_by opening) steps (most_from 0 limit)
         result.0 d (D.opens door.old) (D.opens door.new)) }
 {
     match SharedDaemon::open(rt, alloc, opening) {
@@ -63,7 +64,7 @@ pub fn run_daemon<R: Threads + Wait + Sync, N: Routing, D: Door>(
                 root,
                 held,
                 steps,
-                most_of(limit),
+                most_from(0, limit),
             );
             let _ = back;
             let OneDaemon { daemon } = shared.close(root);

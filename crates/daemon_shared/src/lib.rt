@@ -18,10 +18,8 @@ mod serving;
 mod session_list;
 mod shared;
 mod sharing;
-mod worsts;
 
 pub use daemon_run::run_daemon;
 pub use one_daemon::{OneDaemon, Opening, open};
 pub use shared::{Shared, TurnJob};
 pub use sharing::serve_by;
-pub use worsts::called_by;

@@ -1,7 +1,7 @@
 // The connections of a door, each served in a thread of its own.
 ghost use Rattle.std.specs.Prelude.{◌≡◌, ◌≤◌, []};
 ghost use Rattle.std.specs.Thread.{IsSend};
-ghost use Rattle.daemon_shared.specs.Running.{most_connections};
+ghost use Rattle.door_model.specs.Connections.{most_connections};
 ghost use Rattle.daemon_shared.specs.Sessions.{told_by, IsRoot, CanServe, Served};
 ghost use Rattle.daemon_shared.specs.Threads.{ServesAll};
 ghost use Rattle.daemon_shared.specs.declared.admission.Begun.{Begun};

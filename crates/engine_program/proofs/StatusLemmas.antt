@@ -19,8 +19,9 @@ use Rattle.session_model.specs.Pass.{PassView}
 use Rattle.session_model.proofs.CauseLemmas.{causes}
 use Rattle.daemon_core.specs.declared.daemon.Daemon.{Daemon}
 use Rattle.engine_serve.specs.OwnClock.{unstopped}
-use Rattle.daemon_shared.specs.Worsts.{called_by}
-use Rattle.daemon_shared.specs.Running.{ServesBy, Life, Lived, AllLived, Halts, most_of, RunsDaemon}
+use Rattle.door_model.specs.Connections.{most_from}
+use Rattle.door_model.specs.Worsts.{called_by}
+use Rattle.daemon_shared.specs.Running.{ServesBy, Life, Lived, AllLived, Halts, RunsDaemon}
 use Rattle.engine_program.specs.Opening.{charter_by, steps_of}
 use Rattle.engine_program.specs.Statuses.{status_by}
 use Rattle.engine_program.specs.Listening.{ServesDoor, Listens}
@@ -117,9 +118,9 @@ ran_unstopped ch stepping most w daemon d d' r is = ⊎_elim
     (either ch r.history (Some stepping) r.why w r.lives r.lived r.worst_is.0)
 
 ran_failed : (line : Line) (opening : ℕ) (daemon : Daemon) (d bound d' : DoorView) → (Rose bound.faults d'.faults → Rose d.faults d'.faults)
-    → RunsDaemon (charter_by line opening) (steps_of line.clock) (most_of line.connections) W.Fault daemon bound d' → Rose d.faults d'.faults ⊎ SomeFailed line d'
+    → RunsDaemon (charter_by line opening) (steps_of line.clock) (most_from 0 line.connections) W.Fault daemon bound d' → Rose d.faults d'.faults ⊎ SomeFailed line d'
 ran_failed line opening daemon d bound d' since r = ⊎_elim
-    (λ (e : r.why ≡ W.Fault). inl (since (halts_failed r.why (most_of line.connections) (length r.lives) bound d' e r.halts)))
+    (λ (e : r.why ≡ W.Fault). inl (since (halts_failed r.why (most_from 0 line.connections) (length r.lives) bound d' e r.halts)))
     (λ (one : (l : Life) × Contains r.lives l × ((n : ℕ) × Lived (charter_by line opening) r.history (steps_of line.clock) n l) × (called_by l.ending ≡ W.Fault)).
     let l = one.0 in
     inr (record {
@@ -139,9 +140,9 @@ pub never_stopped : law_never_stopped
 never_stopped addr line stepping t t' d d' sets (inl unbound) = let e = unbound.status_is in omega (arith, e)
 never_stopped addr line stepping t t' d d' sets (inr (bound, binds, serves)) = ⊎_elim
     (λ (none : (serves.worst ≡ W.NoMemory) × (d' ≡ bound)). (let e = serves.status_is ∙ ap status_by none.0 in omega (arith, e)))
-    (λ (ran : (daemon : Daemon) × RunsDaemon (charter_by line serves.opening) (steps_of line.clock) (most_of line.connections) serves.worst daemon bound d').
-    ran_unstopped (charter_by line serves.opening) (stepping.start, stepping.step) (most_of line.connections) serves.worst ran.0 bound d'
-    (subst (λ (c : Option Stepping). RunsDaemon (charter_by line serves.opening) (steps_of c) (most_of line.connections) serves.worst ran.0 bound d') sets ran.1)
+    (λ (ran : (daemon : Daemon) × RunsDaemon (charter_by line serves.opening) (steps_of line.clock) (most_from 0 line.connections) serves.worst daemon bound d').
+    ran_unstopped (charter_by line serves.opening) (stepping.start, stepping.step) (most_from 0 line.connections) serves.worst ran.0 bound d'
+    (subst (λ (c : Option Stepping). RunsDaemon (charter_by line serves.opening) (steps_of c) (most_from 0 line.connections) serves.worst ran.0 bound d') sets ran.1)
     (sym serves.status_is))
     serves.runs
 
@@ -149,7 +150,7 @@ pub failed : law_failed
 failed addr line t t' d d' (inl unbound) = inl unbound.faults
 failed addr line t t' d d' (inr (bound, binds, serves)) = ⊎_elim
     (λ (none : (serves.worst ≡ W.NoMemory) × (d' ≡ bound)). absurd (let e = serves.status_is ∙ ap status_by none.0 in omega (arith, e)))
-    (λ (ran : (daemon : Daemon) × RunsDaemon (charter_by line serves.opening) (steps_of line.clock) (most_of line.connections) serves.worst daemon bound d').
+    (λ (ran : (daemon : Daemon) × RunsDaemon (charter_by line serves.opening) (steps_of line.clock) (most_from 0 line.connections) serves.worst daemon bound d').
     ran_failed line serves.opening ran.0 d bound d' (rose_since d.faults bound.faults d'.faults binds.faults)
-    (subst (λ w. RunsDaemon (charter_by line serves.opening) (steps_of line.clock) (most_of line.connections) w ran.0 bound d') (fault_alone serves.worst (sym serves.status_is)) ran.1))
+    (subst (λ w. RunsDaemon (charter_by line serves.opening) (steps_of line.clock) (most_from 0 line.connections) w ran.0 bound d') (fault_alone serves.worst (sym serves.status_is)) ran.1))
     serves.runs

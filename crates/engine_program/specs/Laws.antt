@@ -7,7 +7,8 @@ use Rattle.engine_line.specs.declared.line.Line.{Line}
 use Rattle.engine_line.specs.declared.line.Stepping.{Stepping}
 use Rattle.session_model.specs.declared.ending.Worst.TheVariants.{Fault}
 use Rattle.daemon_core.specs.declared.daemon.Daemon.{Daemon}
-use Rattle.daemon_shared.specs.Running.{Life, most_of, RunsDaemon}
+use Rattle.door_model.specs.Connections.{most_from}
+use Rattle.daemon_shared.specs.Running.{Life, RunsDaemon}
 use Rattle.engine_program.specs.Opening.{charter_by, steps_of}
 use Rattle.engine_program.specs.Listening.{Listens}
 
@@ -26,7 +27,7 @@ pub record SomeFailed (line : Line) (d' : DoorView) : Type 0 where
   pub opening : ℕ
   pub daemon : Daemon
   pub bound : DoorView
-  pub runs : RunsDaemon (charter_by line opening) (steps_of line.clock) (most_of line.connections)
+  pub runs : RunsDaemon (charter_by line opening) (steps_of line.clock) (most_from 0 line.connections)
       Fault daemon bound d'
   pub life : Life
   pub served : Contains runs.lives life

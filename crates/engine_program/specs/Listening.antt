@@ -7,7 +7,8 @@ use Rattle.engine_line.specs.declared.line.Line.{Line}
 use Rattle.session_model.specs.declared.ending.Worst.{Worst}
 use Rattle.session_model.specs.declared.ending.Worst.TheVariants.{NoMemory, Fault}
 use Rattle.daemon_core.specs.declared.daemon.Daemon.{Daemon}
-use Rattle.daemon_shared.specs.Running.{most_of, RunsDaemon}
+use Rattle.door_model.specs.Connections.{most_from}
+use Rattle.daemon_shared.specs.Running.{RunsDaemon}
 use Rattle.engine_program.specs.Opening.{charter_by, steps_of, OpensAt}
 use Rattle.engine_program.specs.Statuses.{status_by}
 
@@ -20,7 +21,7 @@ pub record ServesDoor (line : Line) (status : ℕ) (t t' : ClockView) (d d' : Do
   pub status_is : status ≡ status_by worst
   pub runs : ((worst ≡ NoMemory) × (d' ≡ d))
       ⊎ ((daemon : Daemon) × RunsDaemon (charter_by line opening) (steps_of line.clock)
-      (most_of line.connections) worst daemon d d')
+      (most_from 0 line.connections) worst daemon d d')
 
 -- the door couldn't be bound: its faults rose, nobody is taken in, and the clock isn't asked
 pub record FailsToBind (status : ℕ) (t t' : ClockView) (d d' : DoorView) : Type 0 where

@@ -3,7 +3,7 @@ use Rattle.std.specs.Prelude.{ℕ}
 use Rattle.session_model.specs.declared.ending.Ending.{Ending}
 use Rattle.session_model.specs.declared.ending.Worst.{Worst}
 use Rattle.session_model.specs.declared.ending.Worst.TheVariants.{NoMemory, Fault, Stopped, Refused, Closed}
-use Rattle.daemon_shared.specs.Worsts.{called_by}
+use Rattle.door_model.specs.Worsts.{called_by}
 
 -- of what the endings of all sessions call for
 abbrev pub status_by : Worst → ℕ

@@ -7,7 +7,7 @@ ghost use Rattle.engine_program.specs.Drilling.{DrillsBy, RunsDrill, TellsDrille
 
 use crate::opening::{opening_by, steps_of};
 use crate::status::status_by;
-use daemon_shared::called_by;
+use door_model::called_by;
 use drill_session::{Drill, Drilled, drilled};
 use engine_line::Line;
 use engine_ports::{Clock, Failed, Sink};

@@ -5,7 +5,8 @@ use Rattle.engine_ports.specs.Door.{DoorView, IsEmpty}
 use Rattle.session_model.specs.declared.ending.Worst.{Worst}
 use Rattle.session_model.specs.declared.ending.Worst.TheVariants.{NoMemory, Closed}
 use Rattle.daemon_core.specs.declared.daemon.Daemon.{Daemon}
-use Rattle.daemon_shared.specs.Running.{most_of, RunsDaemon}
+use Rattle.door_model.specs.Connections.{most_from}
+use Rattle.daemon_shared.specs.Running.{RunsDaemon}
 use Rattle.front_session.specs.Sharing.{untold}
 use Rattle.lab_line.specs.declared.line.Lab.{Lab}
 use Rattle.lab_program.specs.Opening.{charter_by}
@@ -19,7 +20,7 @@ use Rattle.lab_program.specs.declared.why.Why.{Why}
 abbrev pub RunsOver : Lab → ℕ → Worst → DoorView → DoorView → Type 0
 RunsOver lab opening worst d d' =
     ((worst ≡ NoMemory) × (d' ≡ d))
-    ⊎ ((daemon : Daemon) × RunsDaemon (charter_by lab opening) None (most_of None) worst daemon d d')
+    ⊎ ((daemon : Daemon) × RunsDaemon (charter_by lab opening) None (most_from 0 None) worst daemon d d')
 
 -- the daemon served those who came, whose connections go untold behind their fronts; or no thread could be had for control or for standard
 -- input, and nobody is taken in

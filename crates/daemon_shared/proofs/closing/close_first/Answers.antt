@@ -1,6 +1,6 @@
 use Rattle.std.proofs.Common.{◌≡◌, ◌++◌, ◌∙◌, ap, subst}
 use Rattle.std.specs.Option.{option_to_list}
-use Rattle.daemon_shared.specs.Worsts.{worse_of}
+use Rattle.door_model.specs.Worsts.{worse_of}
 use Rattle.daemon_shared.proofs.RunLemmas.{serving_root, first_ready, first_keeps, first_owed, leaves_first}
 use Rattle.daemon_shared.proofs.closing.close_first.Goals as goal
 

@@ -1,21 +1,21 @@
 // The worst that the endings of all sessions call for.
 ghost use Rattle.std.specs.Prelude.{◌≡◌};
-ghost use Rattle.daemon_shared.specs.Running.{most_of};
-ghost use Rattle.daemon_shared.specs.Worsts.{called_by, rank_of, worse_of};
+ghost use Rattle.door_model.specs.Connections.{most_from};
+ghost use Rattle.door_model.specs.Worsts.{called_by, rank_of, worse_of};
 
 use session_model::{Ending, Worst};
 
-/// How many connections are taken in at most: so neither their numbers nor those of their standard
-/// input, 2,147,483,648 more, meet the root's, 4,294,967,295.
+/// How many connections are taken in at most, by their numbers.
 const MOST_CONNECTIONS: u32 = 2_147_483_646;
 
-/// How many connections are taken in at most, where a limit is set too.
-pub fn most_of(limit: Option<u32>) -> u32
-    ensures { result ≡ most_of limit }
+/// How many connections are taken in at most, numbered from the first on, where a limit is set too.
+pub fn most_from(first: u32, limit: Option<u32>) -> u32
+    ensures { result ≡ most_from first limit }
 {
+    let left = MOST_CONNECTIONS.saturating_sub(first);
     match limit {
-        Some(limit) => limit.min(MOST_CONNECTIONS),
-        None => MOST_CONNECTIONS,
+        Some(limit) => limit.min(left),
+        None => left,
     }
 }
 

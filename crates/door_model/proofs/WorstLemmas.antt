@@ -5,7 +5,7 @@ use Rattle.std.proofs.lemmas.List.Elements.{All-push, All-cons, All-tail, All-we
 use Rattle.std.proofs.lemmas.Bool.Decides.{nat_tests}
 use Rattle.session_model.specs.declared.ending.Worst.{Worst}
 use Rattle.session_model.specs.declared.ending.Worst.TheVariants as worst
-use Rattle.daemon_shared.specs.Worsts.{rank_of, worse_of, IsWorst}
+use Rattle.door_model.specs.Worsts.{rank_of, worse_of, IsWorst}
 
 pub worst_one : (w : Worst) → IsWorst w (w ∷ [])
 worst_one w = (Contains-push [] w, All-push (λ y. rank_of w ≤ rank_of y) [] w (All-nil (λ y. rank_of w ≤ rank_of y)) (omega arith))

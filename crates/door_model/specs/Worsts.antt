@@ -1,4 +1,4 @@
--- What the endings of all sessions call for: the worst of them (own: the statuses of this project).
+-- What the endings of all sessions call for: the worst of them. own: the statuses of this project.
 use Rattle.std.specs.Prelude.{ℕ, ◌≤◌, List, All, Contains, nat_lt, if◌then◌else◌}
 use Rattle.session_model.specs.declared.ending.Ending.{Ending}
 use Rattle.session_model.specs.declared.ending.Ending.TheVariants as ending

@@ -1,0 +1,2 @@
+pub mod WorstLemmas
+pub mod ListLemmas

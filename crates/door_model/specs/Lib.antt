@@ -1,0 +1,2 @@
+pub mod Worsts
+pub mod Connections
