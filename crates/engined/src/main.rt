@@ -1,7 +1,8 @@
-//! The daemon `engined`: real standard input and output, the system's clock and a door over TCP,
-//! handed to the one top call.
+//! The daemon `engined`: real standard input and output, the system's clock and a door over TCP whose connections end each other's
+//! pauses, handed to the one top call.
 #![tactic(auto)]
 
+use bell_ports::{Bell, BellDoor};
 use engine_ports::{HeldStreams, ReadSource, SystemClock, TcpDoor, WriteSink};
 use engine_program::run_engined;
 use engine_text::Text;
@@ -36,7 +37,8 @@ fn main(rt: HostRuntime) -> ExitCode {
     let mut source = ReadSource::new(rt.stdin());
     let mut sink = WriteSink::new(io::writer(&rt));
     let mut clock = SystemClock::new(&rt);
-    let mut door = TcpDoor::new(&rt, rt.alloc());
+    let bell = Bell::new();
+    let mut door = BellDoor::new(&rt, &bell, TcpDoor::new(&rt, rt.alloc()));
     let status = run_engined(
         &rt,
         rt.alloc(),
