@@ -61,10 +61,21 @@ the_list_is_the_daemons = refl
 size_of_an_exec : row_by (codes "POST") [] (codes "exec/0123/resize") ≡ Some (to.LeftOut left.Resize)
 size_of_an_exec = refl
 
+containers_are_removed_one_by_one : row_by (codes "POST") [] (codes "containers/prune") ≡ Some (to.LeftOut left.Prune)
+containers_are_removed_one_by_one = refl
+
 info_is_read_alone : row_by (codes "POST") [] (codes "info") ≡ None
 info_is_read_alone = refl
 
 -- ---- queries
+
+no_volume_is_without_a_name : row_by (codes "POST") (codes "filters=%7B%7D") (codes "volumes/prune") ≡ Some to.PrunedVolumes
+unfolding decoded
+no_volume_is_without_a_name = refl
+
+all_volumes_are_left_out : row_by (codes "POST") (codes "filters=%7B%22all%22%3A%5B%22true%22%5D%7D") (codes "volumes/prune") ≡ Some (to.LeftOut left.Prune)
+unfolding decoded
+all_volumes_are_left_out = refl
 
 one_image_is_fetched : row_by (codes "POST") (codes "fromImage=engine%2Ftools&tag=latest") (codes "images/create") ≡ Some to.Pulled
 unfolding decoded

@@ -1,5 +1,5 @@
 -- What the daemon leaves out, and what one without a swarm doesn't keep (Docker Engine API v1.43, ContainerTop, ContainerStats,
--- ContainerChanges, ContainerExport, ContainerArchive, ContainerResize, ExecResize, PluginList, and the operations of a swarm; own: which).
+-- ContainerChanges, ContainerExport, ContainerArchive, ContainerResize, ContainerPrune, ExecResize, PluginList, and the operations of a swarm; own: which).
 use Rattle.std.specs.Prelude.{ℕ, List, ◌++◌, Bool, ◌==◌, ◌&&◌, ◌||◌, if◌then◌else◌, Option, Some, None, option_map, nat_eq, codes}
 use Rattle.std.specs.List.{before_first, starts_with, ends_with}
 use Rattle.std.specs.Str.{bytes_eq}
@@ -41,7 +41,10 @@ other_get path =
 
 -- what is asked for beside images, networks and builds
 abbrev pub other_post : List ℕ → Option Row
-other_post path = if is_resize path then Some (to.LeftOut left.Resize) else None
+other_post path =
+    if bytes_eq path (codes "containers/prune") then Some (to.LeftOut left.Prune)
+    else if is_resize path then Some (to.LeftOut left.Resize)
+    else None
 
 abbrev pub left_text : LeftOut → List ℕ
 left_text left.Top = codes "{\"message\":\"top is left out\"}"
@@ -50,6 +53,7 @@ left_text left.Changes = codes "{\"message\":\"changes is left out\"}"
 left_text left.Export = codes "{\"message\":\"export is left out\"}"
 left_text left.Archive = codes "{\"message\":\"archive is left out\"}"
 left_text left.Resize = codes "{\"message\":\"resize is left out\"}"
+left_text left.Prune = codes "{\"message\":\"prune is left out\"}"
 
 -- what a daemon that is in no swarm answers
 unfoldable pub no_swarm_text : List ℕ

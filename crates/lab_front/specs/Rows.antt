@@ -6,6 +6,7 @@ use Rattle.std.specs.Str.{bytes_eq}
 use Rattle.http_edge.specs.Message.{Request}
 use Rattle.lab_front.specs.Left.{other_get, other_post}
 use Rattle.lab_front.specs.Naming.{image_get, image_delete}
+use Rattle.lab_front.specs.Pruning.{volumes_row}
 use Rattle.lab_front.specs.Queries.{is_between, query_of, value_of, is_listed, is_latest, is_tools}
 use Rattle.lab_front.specs.declared.table.Network.TheVariants as network
 use Rattle.lab_front.specs.declared.table.Row.{Row}
@@ -76,6 +77,7 @@ post_row path query =
     else if bytes_eq path (codes "images/prune") then Some to.PrunedImages
     else if bytes_eq path (codes "networks/prune") then Some to.PrunedNetworks
     else if bytes_eq path (codes "build/prune") then Some to.PrunedBuilds
+    else if bytes_eq path (codes "volumes/prune") then Some (volumes_row query)
     else other_post path
 
 abbrev pub row_by : List ℕ → List ℕ → List ℕ → Option Row

@@ -115,6 +115,7 @@ text_of to.NoNetwork = no_network_text
 text_of to.PrunedImages = codes "{\"ImagesDeleted\":null,\"SpaceReclaimed\":0}"
 text_of to.PrunedNetworks = codes "{\"NetworksDeleted\":null}"
 text_of to.PrunedBuilds = codes "{\"CachesDeleted\":null,\"SpaceReclaimed\":0}"
+text_of to.PrunedVolumes = codes "{\"VolumesDeleted\":null,\"SpaceReclaimed\":0}"
 text_of to.Plugins = codes "[]"
 text_of to.NoSwarm = no_swarm_text
 text_of (to.LeftOut left) = left_text left

@@ -7,7 +7,7 @@ use crate::query::{spells, value_of};
 use crate::table::Row;
 
 /// Whether filters leave the image in the list by asking for nothing.
-fn filters_none(value: &[u8]) -> bool
+pub(crate) fn filters_none(value: &[u8]) -> bool
     ensures { result ≡ spec.filters_none value.now }
 {
     spells(value, "") || spells(value, "{}")

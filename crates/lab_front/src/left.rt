@@ -15,6 +15,8 @@ pub enum LeftOut {
     Archive,
     /// Also that of an exec.
     Resize,
+    /// Of containers, and of volumes with filters.
+    Prune,
 }
 
 /// Whether a path is that of what managers of a swarm keep.
@@ -81,11 +83,13 @@ pub(crate) fn other_get(path: &str) -> Option<Row>
 pub(crate) fn other_post(path: &str) -> Option<Row>
     ensures { result ≡ spec.other_post path.now }
 {
-    if is_resize(path) {
-        Some(Row::LeftOut(LeftOut::Resize))
-    } else {
-        None
+    if path == "containers/prune" {
+        return Some(Row::LeftOut(LeftOut::Prune));
     }
+    if is_resize(path) {
+        return Some(Row::LeftOut(LeftOut::Resize));
+    }
+    None
 }
 
 /// The answer to a call that is left out.
@@ -99,6 +103,7 @@ pub(crate) fn left_text(left: LeftOut) -> &'static str
         LeftOut::Export => "{\"message\":\"export is left out\"}",
         LeftOut::Archive => "{\"message\":\"archive is left out\"}",
         LeftOut::Resize => "{\"message\":\"resize is left out\"}",
+        LeftOut::Prune => "{\"message\":\"prune is left out\"}",
     }
 }
 

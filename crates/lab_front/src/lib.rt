@@ -5,6 +5,7 @@ mod images;
 mod left;
 mod naming;
 mod path;
+mod pruning;
 mod query;
 mod table;
 mod texts;

@@ -7,6 +7,7 @@ use crate::images::{list_row, pull_row};
 use crate::left::{LeftOut, other_get, other_post};
 use crate::naming::{image_delete, image_get};
 use crate::path::path_of;
+use crate::pruning::volumes_row;
 use crate::query::query_of;
 use http_edge::RequestView;
 
@@ -49,6 +50,8 @@ pub enum Row {
     PrunedImages,
     PrunedNetworks,
     PrunedBuilds,
+    /// Volumes without a name, of which there is none.
+    PrunedVolumes,
     /// The list of plugins.
     Plugins,
     /// What managers of a swarm keep.
@@ -113,6 +116,9 @@ fn post_row(path: &str, query: &str) -> Option<Row>
     }
     if path == "build/prune" {
         return Some(Row::PrunedBuilds);
+    }
+    if path == "volumes/prune" {
+        return Some(volumes_row(query));
     }
     other_post(path)
 }

@@ -136,6 +136,7 @@ pub fn text_of(row: Row) -> &'static str
         Row::PrunedImages => "{\"ImagesDeleted\":null,\"SpaceReclaimed\":0}",
         Row::PrunedNetworks => "{\"NetworksDeleted\":null}",
         Row::PrunedBuilds => "{\"CachesDeleted\":null,\"SpaceReclaimed\":0}",
+        Row::PrunedVolumes => "{\"VolumesDeleted\":null,\"SpaceReclaimed\":0}",
         Row::Plugins => "[]",
         Row::NoSwarm => no_swarm_text(),
         Row::LeftOut(left) => left_text(left),
