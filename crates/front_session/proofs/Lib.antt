@@ -4,3 +4,4 @@ mod LookLemmas
 mod HandLemmas
 mod ReadLemmas
 mod LawLemmas
+mod StandardFacts

@@ -4,5 +4,7 @@ pub mod Front
 pub mod Steps
 pub mod Reads
 pub mod Views
+pub mod Resting
 pub mod Sharing
+pub mod Showing
 pub mod Laws

@@ -1,6 +1,7 @@
 // A connection's source, as its session sees it.
 ghost use Rattle.std.specs.Prelude.{◌≡◌};
 ghost use Rattle.engine_ports.specs.Source.{untold_source};
+ghost use Rattle.front_session.specs.Showing.{shown_by};
 ghost use Rattle.front_session.specs.Views.{source_over};
 
 use crate::fronting::read_on;
@@ -8,6 +9,7 @@ use crate::sharing::Showing;
 use crate::stepping::FrontState;
 use crate::wiring::Ways;
 use engine_ports::{Got, Source};
+use lab_shown::{Asked, asked_by};
 use std::sync::Wait;
 
 /// A connection's source as its session sees it: the requests of the table are answered through the sink, once the
@@ -39,6 +41,16 @@ impl<'a, R, S, K> FrontSource<'a, R, S, K> {
     }
 }
 
+/// By what the next piece is shown, behind these bytes that a front handed on.
+fn shown_by(front: &FrontState, bytes: &[u8]) -> Option<Asked>
+    ensures { result ≡ shown_by front.now.stage bytes.now }
+{
+    if front.is_open() {
+        return None;
+    }
+    asked_by(bytes)
+}
+
 impl<R: Wait + Sync, S: Source, K: Showing> Source for FrontSource<'_, R, S, K> {
     ghost use Rattle.std.specs.Prelude.{◌<◌, length};
     ghost use Rattle.engine_ports.specs.Source.{ReadSays};
@@ -56,8 +68,8 @@ impl<R: Wait + Sync, S: Source, K: Showing> Source for FrontSource<'_, R, S, K> 
     {
         match read_on(self.rt, &mut self.ways, &mut self.front, into) {
             Got::Bytes(count) => {
-                if !self.front.is_open() && into[..count].starts_with(b"GET ") {
-                    self.ways.sink.expect();
+                if let Some(asked) = shown_by(&self.front, &into[..count]) {
+                    self.ways.sink.expect(asked);
                 }
                 Got::Bytes(count)
             }

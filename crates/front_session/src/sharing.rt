@@ -5,22 +5,22 @@ ghost use Rattle.front_session.specs.Sharing.{sink_over};
 
 use crate::resting::rest_behind;
 use engine_ports::{Failed, NoMemory, Sink};
-use lab_shown::{OneSink, Taking, write_shown};
+use lab_shown::{Asked, OneSink, Taking, write_shown};
 use std::alloc::Global;
 use std::sync::{Arc, Mutex, Wait};
 use std::{mem, time};
 
 /// A sink that can be told what is written next.
 pub trait Showing: Sink {
-    /// The next piece answers a request to read: an inspect is shown with more members.
-    fn expect(&self);
+    /// The next piece answers a request that asks so, and is shown by that.
+    fn expect(&self, asked: Asked);
 }
 
-/// The place of a sink, and whether the next piece is shown so.
+/// The place of a sink, and by what the next piece is shown, if it isn't written as it is.
 #[derive(Drop)]
 struct Held<K> {
     sink: Option<K>,
-    shows: bool,
+    shows: Option<Asked>,
 }
 
 /// A sink behind a lock, as one of those who share it sees it: it tells no bytes, and counts the faults of its own
@@ -43,7 +43,7 @@ impl<'a, R: Wait, K: Drop> SharedSink<'a, R, K> {
     {
         let held = Held {
             sink: None,
-            shows: false,
+            shows: None,
         };
         let sink = Arc::new(alloc, Mutex::new(held))?;
         let again = Arc::try_clone(&sink)?;
@@ -81,14 +81,13 @@ impl<R: Wait + time::Clock + Sync, K: Sink + Drop> Sink for SharedSink<'_, R, K>
     // It may wait, and rests behind the head of a takeover.
     fn write(&mut self, piece: &[u8]) -> Result<(), Failed> {
         let mut held = self.sink.lock(self.rt);
-        let shows = mem::replace(&mut held.shows, false);
+        let shows = mem::replace(&mut held.shows, None);
         let written = match held.sink.take() {
             Some(sink) => {
                 let mut one = OneSink { sink };
-                let written = if shows {
-                    write_shown(&mut one, piece)
-                } else {
-                    one.take(piece)
+                let written = match shows {
+                    Some(asked) => write_shown(&mut one, asked, piece),
+                    None => one.take(piece),
                 };
                 let OneSink { sink } = one;
                 held.sink = Some(sink);
@@ -129,7 +128,7 @@ impl<R: Wait + time::Clock + Sync, K: Sink + Drop> Sink for SharedSink<'_, R, K>
 
 impl<R: Wait + time::Clock + Sync, K: Sink + Drop> Showing for SharedSink<'_, R, K> {
     // It may wait.
-    fn expect(&self) {
-        self.sink.lock(self.rt).shows = true;
+    fn expect(&self, asked: Asked) {
+        self.sink.lock(self.rt).shows = Some(asked);
     }
 }

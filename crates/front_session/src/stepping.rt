@@ -2,6 +2,7 @@
 ghost use Rattle.std.specs.Prelude.{◌≡◌, ◌<◌, ◌≤◌, ◌+◌, ◌++◌, [], length, IfOk};
 ghost use Rattle.http_edge.specs.Limits.{head_limit};
 ghost use Rattle.front_session.specs.Front.{front_at, new_front};
+ghost use Rattle.front_session.specs.Showing.{is_open};
 ghost use Rattle.front_session.specs.Steps.{Steps, stage_behind};
 ghost use Rattle.front_session.specs.declared.standing.Stage.TheVariants.{Within, Open, Ended};
 
@@ -116,7 +117,9 @@ fn step_at(
 
 impl FrontState {
     /// Whether all is handed on.
-    pub(crate) fn is_open(&self) -> bool {
+    pub(crate) fn is_open(&self) -> bool
+        ensures { result ≡ is_open self.now.stage }
+    {
         matches!(self.stage, Stage::Open)
     }
 

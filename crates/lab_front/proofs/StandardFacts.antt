@@ -1,6 +1,7 @@
 -- Worked examples of the table.
-use Rattle.std.proofs.Common.{◌≡◌, [], Some, None, codes, refl}
+use Rattle.std.proofs.Common.{◌≡◌, [], true, false, Some, None, codes, refl}
 use Rattle.lab_front.specs.Queries.{decoded}
+use Rattle.lab_front.specs.Forced.{is_forced}
 use Rattle.lab_front.specs.Rows.{path_of, row_by}
 use Rattle.lab_front.specs.declared.left.LeftOut.TheVariants as left
 use Rattle.lab_front.specs.declared.table.Network.TheVariants as network
@@ -96,3 +97,17 @@ filters_as_tools_write_them = refl
 other_filters_leave_it_out : row_by (codes "GET") (codes "filters=%7B%22dangling%22%3A%7B%22true%22%3Atrue%7D%7D") (codes "images/json") ≡ Some to.NoImages
 unfolding decoded
 other_filters_leave_it_out = refl
+
+-- ---- removals
+
+force_as_the_command_line_writes_it : is_forced (codes "DELETE /v1.43/volumes/data?force=1 HTTP/1.1\r\n") ≡ true
+unfolding decoded
+force_as_the_command_line_writes_it = refl
+
+force_as_the_library_writes_it : is_forced (codes "DELETE /v1.41/volumes/data?force=True HTTP/1.1\r\n") ≡ true
+unfolding decoded
+force_as_the_library_writes_it = refl
+
+no_force : is_forced (codes "DELETE /v1.43/volumes/data?force=0 HTTP/1.1\r\n") ≡ false
+unfolding decoded
+no_force = refl

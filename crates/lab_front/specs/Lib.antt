@@ -1,3 +1,4 @@
+pub mod Forced
 pub mod Left
 pub mod Naming
 pub mod Pruning

@@ -1,6 +1,7 @@
 //! The requests that a front before the daemon answers the same at each time.
 #![tactic(auto)]
 
+mod forced;
 mod images;
 mod left;
 mod naming;
@@ -11,6 +12,7 @@ mod table;
 mod texts;
 mod writing;
 
+pub use forced::is_forced;
 pub use left::LeftOut;
 pub use path::path_of;
 pub use table::{Network, Row, row_of};

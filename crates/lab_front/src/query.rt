@@ -21,7 +21,7 @@ fn place_of(bytes: &[u8], mark: u8) -> Option<usize>
 }
 
 /// Where the first such byte stands, or how many bytes there are.
-fn place_in(bytes: &[u8], mark: u8) -> usize
+pub(crate) fn place_in(bytes: &[u8], mark: u8) -> usize
     ensures place { result ≡ position_or_len (λ b. b == mark) bytes.now }
     ensures within { result ≤ length bytes.now }
 {
@@ -32,7 +32,7 @@ fn place_in(bytes: &[u8], mark: u8) -> usize
 }
 
 /// What stands behind a place.
-fn behind(bytes: &[u8], place: usize) -> &[u8]
+pub(crate) fn behind(bytes: &[u8], place: usize) -> &[u8]
     requires { place ≤ length bytes.now }
     ensures { result.now ≡ drop (place + 1) bytes.now }
 {

@@ -1,2 +1,4 @@
+mod RefusedLemmas
 mod SearchLemmas
 mod ShownLemmas
+mod StandardFacts

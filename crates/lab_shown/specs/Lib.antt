@@ -1,2 +1,4 @@
+pub mod Asked
+pub mod Refused
 pub mod Shown
 pub mod Texts

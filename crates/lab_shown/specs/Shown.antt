@@ -13,19 +13,22 @@ place_in text [] = None
 place_in text (b ∷ rest) =
     if starts_with nat_eq (b ∷ rest) text then Some 0 else option_map (λ k. k + 1) (place_in text rest)
 
--- the head of a JSON answer of status 200, and of such an answer with this body
-abbrev pub head_by : ℕ → Bool → Head
-head_by size close = record { status = 200; form = Json size; close = close }
+-- the head of a JSON answer of this status and length, and such an answer with this body
+abbrev pub head_by : ℕ → ℕ → Bool → Head
+head_by status size close = record { status = status; form = Json size; close = close }
 
-abbrev pub answer_of : Bool → List ℕ → List ℕ
-answer_of close body = head_text (head_by (length body) close) ++ body
+abbrev pub answer_of : ℕ → Bool → List ℕ → List ℕ
+answer_of status close body = head_text (head_by status (length body) close) ++ body
 
-abbrev pub is_head : List ℕ → ℕ → Bool → Bool
-is_head head size close = bytes_eq head (head_text (head_by size close))
+abbrev pub is_head : List ℕ → ℕ → ℕ → Bool → Bool
+is_head head status size close = bytes_eq head (head_text (head_by status size close))
 
 -- whether the connection closes behind the answer with this head, where it is one
-abbrev pub close_in : List ℕ → ℕ → Option Bool
-close_in head size = if is_head head size false then Some false else if is_head head size true then Some true else None
+abbrev pub close_in : List ℕ → ℕ → ℕ → Option Bool
+close_in head status size =
+    if is_head head status size false then Some false
+    else if is_head head status size true then Some true
+    else None
 
 -- a body with more members, by what stands between its first brace and the key of the host's settings, and behind that
 abbrev pub more : List ℕ → List ℕ → List ℕ
@@ -38,7 +41,7 @@ more_in body =
 
 -- an answer of this head and body, with more members, where it is one to an inspect
 abbrev pub shown_behind : List ℕ → List ℕ → Option (List ℕ)
-shown_behind head body = option_and_then (λ close. option_map (answer_of close) (more_in body)) (close_in head (length body))
+shown_behind head body = option_and_then (λ close. option_map (answer_of 200 close) (more_in body)) (close_in head 200 (length body))
 
 -- an answer to an inspect with more members, and another piece as it is: a body begins at the first brace
 abbrev pub shown : List ℕ → List ℕ

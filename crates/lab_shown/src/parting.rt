@@ -6,32 +6,32 @@ use crate::searching::{brace_in, place_in};
 use crate::texts::host_key;
 use http_edge::{Form, Head, head_line};
 
-/// The head of a JSON answer of so many bytes and status 200.
-pub(crate) fn head_of(size: u64, close: bool) -> Head
-    ensures { result ≡ spec.head_by size close }
+/// The head of a JSON answer of this status and so many bytes.
+pub(crate) fn head_of(status: u16, size: u64, close: bool) -> Head
+    ensures { result ≡ spec.head_by status size close }
 {
     Head {
-        status: 200,
+        status,
         form: Form::Json(size),
         close,
     }
 }
 
 /// Whether this is the head of such an answer.
-fn is_head(head: &[u8], size: u64, close: bool) -> bool
-    ensures { result ≡ spec.is_head head.now size close }
+fn is_head(head: &[u8], status: u16, size: u64, close: bool) -> bool
+    ensures { result ≡ spec.is_head head.now status size close }
 {
-    head == head_line(&head_of(size, close)).as_slice()
+    head == head_line(&head_of(status, size, close)).as_slice()
 }
 
 /// Whether the connection closes behind the answer with this head, where it is such a head.
-fn close_in(head: &[u8], size: u64) -> Option<bool>
-    ensures { result ≡ spec.close_in head.now size }
+pub(crate) fn close_in(head: &[u8], status: u16, size: u64) -> Option<bool>
+    ensures { result ≡ spec.close_in head.now status size }
 {
-    if is_head(head, size, false) {
+    if is_head(head, status, size, false) {
         return Some(false);
     }
-    if is_head(head, size, true) {
+    if is_head(head, status, size, true) {
         return Some(true);
     }
     None
@@ -77,12 +77,12 @@ fn parts_by(close: bool, body: &[u8]) -> Option<Parts<'_>>
 /// The parts of an answer to an inspect; none of another piece.
 pub(crate) fn parts_of(piece: &[u8]) -> Option<Parts<'_>>
     ensures some { IfSome result (λ p. (spec.shown piece.now
-        ≡ spec.answer_of p.close (spec.more p.before.now p.behind.now))
+        ≡ spec.answer_of 200 p.close (spec.more p.before.now p.behind.now))
         × (length p.before.now + length p.behind.now ≤ length piece.now)) }
     ensures none { IfNone result (spec.shown piece.now ≡ piece.now) }
 {
     let (head, body) = piece.split_at(brace_in(piece));
-    let Some(close) = close_in(head, body.len() as u64) else {
+    let Some(close) = close_in(head, 200, body.len() as u64) else {
         return None;
     };
     parts_by(close, body)

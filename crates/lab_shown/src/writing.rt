@@ -23,7 +23,7 @@ fn size_of(before: &[u8], behind: &[u8]) -> u64
         + behind.len() as u64
 }
 
-fn write_two<W: Taking>(sink: &mut W, first: &[u8], second: &[u8]) -> Result<(), Failed>
+pub(crate) fn write_two<W: Taking>(sink: &mut W, first: &[u8], second: &[u8]) -> Result<(), Failed>
     ensures { WriteSays result (first.now ++ second.now) (W.takes sink.old) (W.takes sink.new) }
 {
     sink.take(first)?;
@@ -75,15 +75,15 @@ fn write_parts<W: Taking>(
     behind: &[u8],
 ) -> Result<(), Failed>
     requires { length before.now + length behind.now ≤ 2 ^ 63 }
-    ensures { WriteSays result (spec.answer_of close (spec.more before.now behind.now))
+    ensures { WriteSays result (spec.answer_of 200 close (spec.more before.now behind.now))
         (W.takes sink.old) (W.takes sink.new) }
 {
     let size = size_of(before, behind);
-    write_behind(sink, &head_of(size, close), before, behind)
+    write_behind(sink, &head_of(200, size, close), before, behind)
 }
 
-/// Writes an answer to an inspect with more members, and another piece as it is. It takes no memory.
-pub fn write_shown<W: Taking>(sink: &mut W, piece: &[u8]) -> Result<(), Failed>
+/// Writes an answer to an inspect with more members, and another piece as it is.
+pub(crate) fn write_read<W: Taking>(sink: &mut W, piece: &[u8]) -> Result<(), Failed>
     ensures { WriteSays result (spec.shown piece.now) (W.takes sink.old) (W.takes sink.new) }
 {
     match parts_of(piece) {

@@ -7,4 +7,4 @@ use Rattle.lab_shown.proofs.writing.write_parts.Goals as goal
 pub returns : goal.returns
 returns g c =
     subst (λ head. WriteSays c.write_behind.result (head_text head ++ more c.args.before.now c.args.behind.now) (g.W.Taking.takes c.args.sink.now)
-    (g.W.Taking.takes c.write_behind.new.sink)) (c.head_of.ensures ∙ ap (λ n. head_by n c.args.close) c.size_of-size.ensures) c.write_behind.ensures
+    (g.W.Taking.takes c.write_behind.new.sink)) (c.head_of.ensures ∙ ap (λ n. head_by 200 n c.args.close) c.size_of-size.ensures) c.write_behind.ensures
