@@ -96,9 +96,9 @@ module _ (ch : Charter) (k : ℕ) where
   )
 
   -- inside of a stream: its head was lost, or a write of it
-  in_stream : (r : Request) (behind : List ℕ) (reply : Reply) (body rest : List ℕ) (s : Span) → (x : Streams ch k r behind reply body rest s)
+  in_stream : (r : Request) (behind : List ℕ) (reply : Reply) (place : ℕ) (body rest : List ℕ) (s : Span) → (x : Streams ch k r behind reply place body rest s)
       → Rose s.old.sink.faults s.new.sink.faults → HasEnded ch k E.WriteFault false s
-  in_stream r behind reply body rest s x rose = (
+  in_stream r behind reply place body rest s x rose = (
     x.now,
     x.quiet,
     record {
@@ -118,7 +118,7 @@ module _ (ch : Charter) (k : ℕ) where
         record {
           flow = Leaves F.WriteFault None;
           whole = x.sent ++ rest;
-          answered = stream_row ch k r behind reply body rest s x;
+          answered = stream_row ch k r behind reply place body rest s x;
           written = inr (refl, (rest, refl), rose);
           cause = (rose, tt);
           pumped = refl;
@@ -137,6 +137,6 @@ module _ (ch : Charter) (k : ℕ) where
     behind = λ flow e r behind x brings cause. by_answer flow e r behind [] s x (inl (brings, sym (append-nil x.sent))) cause;
     refused = λ status x. by_refusal (E.Refused status) status [] s x (x.refused, sym (x.whole ∙ append-nil x.sent));
     unsent = λ flow r behind rest x cause rose. by_answer flow E.WriteFault r behind rest s x (inr (refl, (rest, refl), rose)) cause;
-    untold = λ r behind reply body rest x rose. in_stream r behind reply body rest s x rose;
+    untold = λ r behind reply place body rest x rose. in_stream r behind reply place body rest s x rose;
     unrefused = λ status rest x rose. by_refusal E.WriteFault status rest s x (status, x.refused, (rest, sym x.whole), rose);
   }

@@ -88,23 +88,23 @@ module _ (ch : Charter) (k : ℕ) where
   )
 
   -- a stream of which a write failed, told in part
-  stream_so : (r : Request) (behind : List ℕ) (reply : Reply) (body rest : List ℕ) (s : Span) → (x : Streams ch k r behind reply body rest s)
+  stream_so : (r : Request) (behind : List ℕ) (reply : Reply) (place : ℕ) (body rest : List ℕ) (s : Span) → (x : Streams ch k r behind reply place body rest s)
       → IsBody ch reply false x.at x.now body → IsAnswered ch k r behind x.mid x.now (Leaves F.WriteFault None) (x.sent ++ rest) (x.m ∷ x.late)
-  stream_so r behind reply body rest s x told =
+  stream_so r behind reply place body rest s x told =
       subst (λ w. IsAnswered ch k r behind x.mid x.now (Leaves F.WriteFault None) w (x.m ∷ x.late))
       (append-nil (head_of_stream (terms_of r) Takeover.None reply ++ x.chunks) ∙ x.whole)
       (InChunks F.WriteFault (head_of_stream (terms_of r) Takeover.None reply) body x.chunks (x.m ∷ x.late)
       (OfStream x.c reply F.WriteFault x.at x.m body x.late x.asks x.made x.since told (ends_lost ch reply body x.late x.at x.now) x.comes) x.cut)
 
-  pub stream_row : (r : Request) (behind : List ℕ) (reply : Reply) (body rest : List ℕ) (s : Span) → (x : Streams ch k r behind reply body rest s)
+  pub stream_row : (r : Request) (behind : List ℕ) (reply : Reply) (place : ℕ) (body rest : List ℕ) (s : Span) → (x : Streams ch k r behind reply place body rest s)
       → IsAnswered ch k r behind x.mid x.now (Leaves F.WriteFault None) (x.sent ++ rest) (x.m ∷ x.late)
-  stream_row r behind reply body rest s x = elim (x.told) [
+  stream_row r behind reply place body rest s x = elim (x.told) [
     | inl h ↦ subst (λ ms. IsAnswered ch k r behind x.mid x.now (Leaves F.WriteFault None) (x.sent ++ rest) (x.m ∷ ms)) (sym h.1)
         (subst (λ w. IsAnswered ch k r behind x.mid x.now (Leaves F.WriteFault None) w (x.m ∷ []))
         (sym (append-nil (head_of_stream (terms_of r) Takeover.None reply))
         ∙ ap (λ y. head_of_stream (terms_of r) Takeover.None reply ++ y) (sym (no_chunks body x.chunks h.0 x.cut)) ∙ x.whole)
         (HeadIsLost x.c Takeover.None reply x.m x.asks (made_before_at x.mid x.at x.now x.m x.c reply x.made x.since) x.form))
-    | inr told ↦ stream_so r behind reply body rest s x told
+    | inr told ↦ stream_so r behind reply place body rest s x told
   ]
 
   -- a ticket that is held may be dropped, for want of memory
@@ -200,8 +200,8 @@ module _ (ch : Charter) (k : ℕ) where
     handed = x.ticket.handed;
   }
 
-  streams_so : (r : Request) (behind : List ℕ) (reply : Reply) (body rest : List ℕ) (s : Span) → Streams ch k r behind reply body rest s → IsProgress ch k s
-  streams_so r behind reply body rest s x = record {
+  streams_so : (r : Request) (behind : List ℕ) (reply : Reply) (place : ℕ) (body rest : List ℕ) (s : Span) → Streams ch k r behind reply place body rest s → IsProgress ch k s
+  streams_so r behind reply place body rest s x = record {
     done = x.stands.done;
     tail = x.tail;
     mid = x.mid;
@@ -212,7 +212,7 @@ module _ (ch : Charter) (k : ℕ) where
     requests = x.stands.requests;
     answered = x.stands.answered;
     underway = One r behind x.now x.begins
-        (decided r behind x.mid x.now (Leaves F.WriteFault None) x.sent rest (x.m ∷ x.late) (stream_row r behind reply body rest s x)) x.quiet;
+        (decided r behind x.mid x.now (Leaves F.WriteFault None) x.sent rest (x.m ∷ x.late) (stream_row r behind reply place body rest s x)) x.quiet;
     wrote = x.wrote;
     handed = x.handed;
   }
@@ -254,7 +254,7 @@ module _ (ch : Charter) (k : ℕ) where
     reads = λ tail x. reads_so tail s x;
     waits = λ n r behind x. waits_so n r behind s x;
     early = λ n r behind rest x. waits_early_so n r behind rest s x;
-    streams = λ r behind reply body rest x. streams_so r behind reply body rest s x;
+    streams = λ r behind reply place body rest x. streams_so r behind reply place body rest s x;
     sends = λ flow r behind rest x. sends_so flow r behind rest s x;
     refuses = λ status rest x. refuses_so status rest s x;
   }

@@ -70,7 +70,7 @@ module _ (ch : Charter) (k : ℕ) where
       head = x.head;
       wrote = x.wrote;
     };
-    streams = λ r behind reply body rest x. record {
+    streams = λ r behind reply place body rest x. record {
       c = x.c;
       tail = x.tail;
       mid = x.mid;
@@ -88,6 +88,7 @@ module _ (ch : Charter) (k : ℕ) where
       form = x.form;
       made = x.made;
       told = x.told;
+      reaches = x.reaches;
       comes = x.comes;
       cut = x.cut;
       since = x.since;
@@ -211,7 +212,7 @@ module _ (ch : Charter) (k : ℕ) where
       head = refl;
       wrote = sym (append-nil s.written);
     };
-    streamed = λ behind m r c reply b x begins asks form made. record {
+    streamed = λ behind m r c reply b x begins asks form made reaches. record {
       c = c;
       tail = tail;
       mid = x.mid;
@@ -229,6 +230,7 @@ module _ (ch : Charter) (k : ℕ) where
       form = form;
       made = made_behind_at ch k m c x.mid s.to b reply x.quiet made;
       told = inl (refl, refl);
+      reaches = reaches;
       comes = none_handed reply;
       cut = none_chunked;
       since = quiet_same k b;
@@ -276,7 +278,7 @@ module _ (ch : Charter) (k : ℕ) where
       head = x.head ∙ sym (append_assoc x.sent part rest);
       wrote = ap (λ w. w ++ part) x.wrote ∙ append_assoc x.bytes x.sent part;
     };
-    streams = λ r behind reply body x. record {
+    streams = λ r behind reply place body x. record {
       c = x.c;
       tail = x.tail;
       mid = x.mid;
@@ -294,6 +296,7 @@ module _ (ch : Charter) (k : ℕ) where
       form = x.form;
       made = x.made;
       told = x.told;
+      reaches = x.reaches;
       comes = x.comes;
       cut = x.cut;
       since = x.since;

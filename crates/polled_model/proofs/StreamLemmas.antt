@@ -18,13 +18,13 @@ use Rattle.polled_model.proofs.AnswerLemmas.{chunked_on}
 
 module _ (ch : Charter) (k : ℕ) where
   -- what is sent and still to be sent, with these bytes more
-  more_bytes : (head chunks sent rest more : List ℕ) → head ++ chunks ≡ sent ++ rest → head ++ (chunks ++ more) ≡ sent ++ (rest ++ more)
+  pub more_bytes : (head chunks sent rest more : List ℕ) → head ++ chunks ≡ sent ++ rest → head ++ (chunks ++ more) ≡ sent ++ (rest ++ more)
   more_bytes head chunks sent rest more is =
       sym (append_assoc head chunks more) ∙ ap (λ y. y ++ more) is ∙ append_assoc sent rest more
 
-  pub streaming : (r : Request) (behind : List ℕ) (reply : Reply) (body rest : List ℕ) (s : Span) → StepsOfStreams ch k r behind reply body rest s
-  streaming r behind reply body rest s = record {
-    tells = λ part chunks ms b x quiet tells comes cut. record {
+  unfoldable pub streaming : (r : Request) (behind : List ℕ) (reply : Reply) (place : ℕ) (body rest : List ℕ) (s : Span) → StepsOfStreams ch k r behind reply place body rest s
+  streaming r behind reply place body rest s = record {
+    tells = λ next part chunks ms b x quiet tells reaches comes cut. record {
       c = x.c;
       tail = x.tail;
       mid = x.mid;
@@ -42,6 +42,7 @@ module _ (ch : Charter) (k : ℕ) where
       form = x.form;
       made = x.made;
       told = inr tells;
+      reaches = reaches;
       comes = comes;
       cut = chunked_on body part x.chunks chunks x.cut cut;
       since = quiet_on k x.at x.now b x.since (quiet_on k x.now s.to b x.quiet quiet);

@@ -1,4 +1,5 @@
 pub mod Progress
+pub mod Places
 pub mod Stages
 pub mod Steps
 pub mod Takeovers

@@ -11,7 +11,7 @@ use Rattle.engine_text.specs.declared.reply.LogSpec.{LogSpec}
 use Rattle.engine_text.specs.declared.reply.Reply.{Reply}
 use Rattle.engine_text.specs.declared.reply.Reply.TheVariants.{LogStream}
 use Rattle.engine_text.specs.declared.step.Step.{Step}
-use Rattle.machine_model.specs.History.{Charter, IsLegal, own_calls, input_of, is_own, state_after, moment_used}
+use Rattle.machine_model.specs.History.{Charter, IsLegal, calls_of, own_calls, input_of, is_own, state_after, moment_used}
 use Rattle.http_edge.specs.Message.{Request}
 use Rattle.http_edge.specs.Spelling.{Begins}
 use Rattle.api_routes.specs.Class.{class_of}
@@ -31,6 +31,7 @@ use Rattle.session_model.specs.Turning.{HasBegun, IsNotReady}
 use Rattle.polled_model.specs.declared.polled.Cause.{Cause}
 use Rattle.polled_model.specs.declared.polled.Polled.{Polled}
 use Rattle.polled_model.specs.declared.polled.Polled.TheVariants.{Done, Pending}
+use Rattle.polled_model.specs.Places.{first_place}
 use Rattle.polled_model.specs.Progress.{IsProgress, IsIdle, HasEnded}
 use Rattle.polled_model.specs.Stages.{HoldsTicket, Reads, Streams}
 use Rattle.polled_model.specs.Takeovers.{Input, Open, Takes}
@@ -104,7 +105,7 @@ IsLate ch k m a b =
 -- all of a stream is told and written that its connection has seen, and it isn't the stream's end
 abbrev pub IsUpToDate : Charter → ℕ → Span → Type 0
 IsUpToDate ch k s =
-    (r : Request) × (behind : List ℕ) × (reply : Reply) × (body : List ℕ) × (x : Streams ch k r behind reply body [] s)
+    (r : Request) × (behind : List ℕ) × (reply : Reply) × (place : ℕ) × (body : List ℕ) × (x : Streams ch k r behind reply place body [] s)
     × EndsSo ch reply F.Stopped body x.late x.at s.to × ComesTo reply F.Stopped x.late
 
 -- the next call of what is fed isn't ready, or all that was read is fed and the source registered; there may be nothing to feed
@@ -121,12 +122,17 @@ IsHalted ch k from v v' s =
     × (body : List ℕ) × (x : Takes ch k r t spec behind input followed body [] s) × InputWaits ch k spec input from s.to v v'
     × (followed ≡ None → EndsSo ch (LogStream spec) F.Stopped body x.late x.at s.to)
 
+-- the stream of this reply is told up to this place
+abbrev pub IsToldTo : Charter → ℕ → Reply → ℕ → Span → Type 0
+IsToldTo ch k reply place s =
+    (r : Request) × (behind : List ℕ) × (body : List ℕ) × (rest : List ℕ) × Streams ch k r behind reply place body rest s
+
 -- one turn more is wanted, or one part: a whole request was read whose call isn't made, a ticket is held, or a stream is told
 abbrev pub WantsTurn : Charter → ℕ → Span → Type 0
 WantsTurn ch k s =
     ((tail : List ℕ) × (r : Request) × (behind : List ℕ) × (c : Call) × Reads ch k tail s × Begins tail r behind × (call_of (class_of r) ≡ Some c))
     ⊎ (((n : ℕ) × (r : Request) × (c : Call) × (behind : List ℕ) × (bytes : List ℕ) × HoldsTicket ch k n r c behind bytes s)
-    ⊎ (((r : Request) × (behind : List ℕ) × (reply : Reply) × (body : List ℕ) × (rest : List ℕ) × Streams ch k r behind reply body rest s)
+    ⊎ (((reply : Reply) × (place : ℕ) × IsToldTo ch k reply place s)
     ⊎ ((r : Request) × (t : Takeover) × (spec : LogSpec) × (behind : List ℕ) × (input : Input) × (followed : Option Followed)
     × (body : List ℕ) × (rest : List ℕ) × Takes ch k r t spec behind input followed body rest s)))
 
@@ -134,20 +140,28 @@ WantsTurn ch k s =
 abbrev pub RoseBy : ℕ → ℕ → ℕ → Type 0
 RoseBy n before now = (before + n ≤ now) ⊎ (greatest_count ≤ now)
 
--- it did as much as one poll may: 16 calls, and one more is wanted; 64 reads that gave bytes; or 64 writes that took some
-abbrev pub IsTired : Charter → ℕ → List Step → Ports → Ports → Span → Type 0
-IsTired ch k own v v' s =
-    ((16 ≤ length (own_calls k own)) × WantsTurn ch k s)
+-- its stream is so many places further than a poll found it. Where the poll made a call of the connection, that began the stream, at its
+-- first place
+abbrev pub TellsOn : Charter → ℕ → ℕ → List Step → Span → Span → Type 0
+TellsOn ch k n [] was s =
+    (reply : Reply) × (from : ℕ) × (to : ℕ) × IsToldTo ch k reply from was × IsToldTo ch k reply to s × (from + n ≤ to)
+TellsOn ch k n calls was s = (reply : Reply) × (to : ℕ) × IsToldTo ch k reply to s × (first_place reply + n ≤ to)
+
+-- it did as much as one poll may: its calls, and the parts of its stream that it told, are 16, each part from where the last one ended and so
+-- a place at least, and one more is wanted; 64 reads that gave bytes; or 64 writes that took some
+abbrev pub IsTired : Charter → ℕ → List Step → Ports → Ports → Span → Span → Type 0
+IsTired ch k own v v' was s =
+    (((n : ℕ) × (16 ≤ length (own_calls k own) + n) × (1 ≤ n → TellsOn ch k n (calls_of k own) was s)) × WantsTurn ch k s)
     ⊎ (RoseBy 64 v.source.gave v'.source.gave ⊎ RoseBy 64 v.sink.took v'.sink.took)
 
--- the source or the sink registered in this poll, or the task was woken
-abbrev pub PausesFor : Cause → Charter → ℕ → Told → Type 0 → List Step → List Step → Ports → Ports → Span → Type 0
-PausesFor Cause.Source ch k told woken from own v v' s =
+-- a poll found the session so, made these calls and left it so: the source or the sink registered in it, or the task was woken
+abbrev pub PausesFor : Cause → Charter → ℕ → Told → Type 0 → List Step → Ports → Ports → Span → Span → Type 0
+PausesFor Cause.Source ch k told woken own v v' was s =
     Rose v.source.registered v'.source.registered × IsIdle ch k s
-PausesFor Cause.Sink ch k told woken from own v v' s = Rose v.sink.registered v'.sink.registered
-PausesFor Cause.NotYet ch k told woken from own v v' s =
-    woken × (IsLate ch k told.handed from s.to ⊎ (IsUpToDate ch k s ⊎ IsHalted ch k from v v' s))
-PausesFor Cause.Yield ch k told woken from own v v' s = woken × IsTired ch k own v v' s
+PausesFor Cause.Sink ch k told woken own v v' was s = Rose v.sink.registered v'.sink.registered
+PausesFor Cause.NotYet ch k told woken own v v' was s =
+    woken × (IsLate ch k told.handed was.to s.to ⊎ (IsUpToDate ch k s ⊎ IsHalted ch k was.to v v' s))
+PausesFor Cause.Yield ch k told woken own v v' was s = woken × IsTired ch k own v v' was s
 
 -- ---- how it ends
 
@@ -170,11 +184,11 @@ FeedsEndsSo k own s = (filter (feeds_end k) own ≡ []) ⊎ SourceEnded s.old.so
 -- ---- a poll
 
 -- what comes of a session that stood so
-abbrev pub Comes : Polled → Charter → ℕ → Told → Type 0 → (Span → Type 0) → List Step → List Step → Ports → Ports → Span → Type 0
-Comes (Done e) ch k told woken after from own v v' s =
+abbrev pub Comes : Polled → Charter → ℕ → Told → Type 0 → (Span → Type 0) → List Step → Ports → Ports → Span → Span → Type 0
+Comes (Done e) ch k told woken after own v v' was s =
     ((pumps : Bool) × HasEnded ch k e pumps s) × EndsNow e v v'
-Comes (Pending cause) ch k told woken after from own v v' s =
-    after s × IsProgress ch k s × PausesFor cause ch k told woken from own v v' s
+Comes (Pending cause) ch k told woken after own v v' was s =
+    after s × IsProgress ch k s × PausesFor cause ch k told woken own v v' was s
 
 -- a session of connection k was polled: it made calls of its own at the moment that it was told, read and wrote; and of
 -- whatever it had done before, this is what it has done now. Before and after say how the session itself stands
@@ -193,7 +207,7 @@ pub record Polls (k : ℕ) (told : Told) (result : Polled) (before after : Span 
   pub stand : AllStandAt p.charter k told.handed p.seen p.seen own
   pub within : IsTrue p.alone → StaysWithin p.charter p.seen q.seen (told.handed ∷ [])
   pub comes : (s : Span) → s.to ≡ p.seen → StandsAtPorts s v → before s
-      → Comes result p.charter k told woken after p.seen own v v' (grown s read written moments q.seen told.stop v')
+      → Comes result p.charter k told woken after own v v' s (grown s read written moments q.seen told.stop v')
   pub feeds : (s : Span) → s.to ≡ p.seen → StandsAtPorts s v → before s
       → FeedsEndsSo k own (grown s read written moments q.seen told.stop v')
 

@@ -19,6 +19,7 @@ use Rattle.session_model.specs.Exchange.{Flow, IsAnswered, IsBody, IsQuiet, IsMa
 use Rattle.session_model.specs.Moments.{ComesTo}
 use Rattle.session_model.specs.Responses.{terms_of, chunked_form, early_head, head_of_stream}
 use Rattle.session_model.specs.Session.{AreAnswered, Span}
+use Rattle.polled_model.specs.Places.{TellsUpTo}
 
 module _ (ch : Charter) (k : ℕ) where
   -- of what was read since a beginning of the history some first requests are answered, by these bytes, up to a place of
@@ -63,8 +64,8 @@ module _ (ch : Charter) (k : ℕ) where
     pub head : early_head (terms_of r) ≡ sent ++ rest
     pub wrote : s.written ≡ bytes ++ sent
 
-  -- streaming: this body of a stream is told by now, and these bytes of it are still to be written
-  pub record Streams (r : Request) (behind : List ℕ) (reply : Reply) (body rest : List ℕ) (s : Span) : Type 0 where
+  -- streaming: this body of a stream is told by now, up to a place, and these bytes of it are still to be written
+  pub record Streams (r : Request) (behind : List ℕ) (reply : Reply) (place : ℕ) (body rest : List ℕ) (s : Span) : Type 0 where
     pub c : Call
     pub tail : List ℕ
     pub mid : List Step
@@ -84,6 +85,7 @@ module _ (ch : Charter) (k : ℕ) where
     pub made : IsMadeAt ch k m c mid at reply
     -- nothing was asked of it yet, or what was told is a part of it
     pub told : ((body ≡ []) × (late ≡ [])) ⊎ IsBody ch reply false at now body
+    pub reaches : TellsUpTo ch reply at now place body
     -- for the journal no moment was read
     pub comes : ComesTo reply F.WriteFault late
     pub cut : IsChunked body chunks

@@ -28,6 +28,7 @@ use Rattle.session_model.specs.Moments.{ComesTo}
 use Rattle.session_model.specs.Responses.{terms_of, direct_bytes, answer_bytes, chunked_form, early_head, head_of_stream, journal_full_response, out_of_memory_response, stopping_response}
 use Rattle.session_model.specs.Session.{Cause, Span, ending_of, is_pumped}
 use Rattle.polled_model.specs.Progress.{IsProgress, HasEnded}
+use Rattle.polled_model.specs.Places.{TellsUpTo, first_place}
 use Rattle.polled_model.specs.Stages.{Reads, Waits, WaitsEarly, Streams, Sends, Refuses}
 
 -- a span that has come to a history, at these moments more
@@ -45,8 +46,8 @@ module _ (ch : Charter) (k : ℕ) where
     pub waits : (n : ℕ) (r : Request) (behind : List ℕ) → Waits ch k n r behind s → Waits ch k n r behind (record s { to = b })
     pub early : (n : ℕ) (r : Request) (behind rest : List ℕ)
         → WaitsEarly ch k n r behind rest s → WaitsEarly ch k n r behind rest (record s { to = b })
-    pub streams : (r : Request) (behind : List ℕ) (reply : Reply) (body rest : List ℕ)
-        → Streams ch k r behind reply body rest s → Streams ch k r behind reply body rest (record s { to = b })
+    pub streams : (r : Request) (behind : List ℕ) (reply : Reply) (place : ℕ) (body rest : List ℕ)
+        → Streams ch k r behind reply place body rest s → Streams ch k r behind reply place body rest (record s { to = b })
     pub sends : (flow : Flow) (r : Request) (behind rest : List ℕ)
         → Sends ch k flow r behind rest s → Sends ch k flow r behind rest (record s { to = b })
     pub refuses : (status : ℕ) (rest : List ℕ) → Refuses ch k status rest s → Refuses ch k status rest (record s { to = b })
@@ -73,8 +74,8 @@ module _ (ch : Charter) (k : ℕ) where
         → WaitsEarly ch k n r behind (early_head (terms_of r)) (come_to s b (m ∷ []))
     pub streamed : (behind : List ℕ) (m : ℕ) (r : Request) (c : Call) (reply : Reply) (b : List Step) → Reads ch k tail s
         → Begins tail r behind → class_of r ≡ Stream c Takeover.None → IsSome (chunked_form reply)
-        → IsMadeAt ch k m c s.to b reply
-        → Streams ch k r behind reply [] (head_of_stream (terms_of r) Takeover.None reply) (come_to s b (m ∷ []))
+        → IsMadeAt ch k m c s.to b reply → TellsUpTo ch reply b b (first_place reply) []
+        → Streams ch k r behind reply (first_place reply) [] (head_of_stream (terms_of r) Takeover.None reply) (come_to s b (m ∷ []))
     pub refused : (status : ℕ) → Reads ch k tail s → IsRefused tail status → Refuses ch k status (refusal_bytes status) s
 
   -- a wait goes on, is over, or is given up: at a stop, for want of memory, or since the peer is gone
@@ -99,11 +100,12 @@ module _ (ch : Charter) (k : ℕ) where
         → IsMade ch k k (Drop n) s.to b x → Sends ch k (Leaves f None) r behind rest (record s { to = b })
 
   -- a stream is told on, up to date too, or ends by what it is then
-  pub record StepsOfStreams (r : Request) (behind : List ℕ) (reply : Reply) (body rest : List ℕ) (s : Span) : Type 0 where
-    pub tells : (part chunks ms : List ℕ) (b : List Step) (x : Streams ch k r behind reply body rest s) → IsQuiet k s.to b
-        → IsBody ch reply false x.at b (body ++ part) → ComesTo reply F.WriteFault (x.late ++ ms) → IsChunked part chunks
-        → Streams ch k r behind reply (body ++ part) (rest ++ chunks) (come_to s b ms)
-    pub ends : (f : Followed) (part chunks ms : List ℕ) (b : List Step) (x : Streams ch k r behind reply body rest s)
+  pub record StepsOfStreams (r : Request) (behind : List ℕ) (reply : Reply) (place : ℕ) (body rest : List ℕ) (s : Span) : Type 0 where
+    pub tells : (next : ℕ) (part chunks ms : List ℕ) (b : List Step) (x : Streams ch k r behind reply place body rest s) → IsQuiet k s.to b
+        → IsBody ch reply false x.at b (body ++ part) → TellsUpTo ch reply x.at b next (body ++ part)
+        → ComesTo reply F.WriteFault (x.late ++ ms) → IsChunked part chunks
+        → Streams ch k r behind reply next (body ++ part) (rest ++ chunks) (come_to s b ms)
+    pub ends : (f : Followed) (part chunks ms : List ℕ) (b : List Step) (x : Streams ch k r behind reply place body rest s)
         → IsQuiet k s.to b → IsBody ch reply (is_whole f) x.at b (body ++ part) → EndsSo ch reply f (body ++ part) (x.late ++ ms) x.at b
         → ComesTo reply f (x.late ++ ms) → IsChunked part chunks
         → Sends ch k (flow_behind (terms_of r) f) r behind (rest ++ chunks ++ (if is_whole f then last_chunk else [])) (come_to s b ms)
@@ -112,8 +114,8 @@ module _ (ch : Charter) (k : ℕ) where
   pub record StepsOfWrites (part rest : List ℕ) (s : Span) : Type 0 where
     pub early : (n : ℕ) (r : Request) (behind : List ℕ) → WaitsEarly ch k n r behind (part ++ rest) s
         → WaitsEarly ch k n r behind rest (wrote_more s part)
-    pub streams : (r : Request) (behind : List ℕ) (reply : Reply) (body : List ℕ) → Streams ch k r behind reply body (part ++ rest) s
-        → Streams ch k r behind reply body rest (wrote_more s part)
+    pub streams : (r : Request) (behind : List ℕ) (reply : Reply) (place : ℕ) (body : List ℕ) → Streams ch k r behind reply place body (part ++ rest) s
+        → Streams ch k r behind reply place body rest (wrote_more s part)
     pub sends : (flow : Flow) (r : Request) (behind : List ℕ) → Sends ch k flow r behind (part ++ rest) s
         → Sends ch k flow r behind rest (wrote_more s part)
     pub refuses : (status : ℕ) → Refuses ch k status (part ++ rest) s → Refuses ch k status rest (wrote_more s part)
@@ -135,7 +137,7 @@ module _ (ch : Charter) (k : ℕ) where
     -- as a write failed, or the peer was gone
     pub unsent : (flow : Flow) (r : Request) (behind rest : List ℕ) → Sends ch k flow r behind rest s
         → Cause flow s.old s.new → Rose s.old.sink.faults s.new.sink.faults → HasEnded ch k E.WriteFault (is_pumped flow) s
-    pub untold : (r : Request) (behind : List ℕ) (reply : Reply) (body rest : List ℕ) → Streams ch k r behind reply body rest s
+    pub untold : (r : Request) (behind : List ℕ) (reply : Reply) (place : ℕ) (body rest : List ℕ) → Streams ch k r behind reply place body rest s
         → Rose s.old.sink.faults s.new.sink.faults → HasEnded ch k E.WriteFault false s
     pub unrefused : (status : ℕ) (rest : List ℕ) → Refuses ch k status rest s
         → Rose s.old.sink.faults s.new.sink.faults → HasEnded ch k E.WriteFault false s
@@ -147,7 +149,7 @@ pub record StageLaws (ch : Charter) (k : ℕ) (s : Span) : Type 0 where
   pub reads : (tail : List ℕ) → StepsOfReads ch k tail s
   pub waits : (n : ℕ) (r : Request) (behind : List ℕ) → StepsOfWaits ch k n r behind s
   pub early : (n : ℕ) (r : Request) (behind rest : List ℕ) → StepsOfEarlyWaits ch k n r behind rest s
-  pub streams : (r : Request) (behind : List ℕ) (reply : Reply) (body rest : List ℕ) → StepsOfStreams ch k r behind reply body rest s
+  pub streams : (r : Request) (behind : List ℕ) (reply : Reply) (place : ℕ) (body rest : List ℕ) → StepsOfStreams ch k r behind reply place body rest s
   pub writes : (part rest : List ℕ) → StepsOfWrites ch k part rest s
   pub endings : Endings ch k s
 
@@ -156,7 +158,7 @@ pub record ProgressLaws (ch : Charter) (k : ℕ) (s : Span) : Type 0 where
   pub reads : (tail : List ℕ) → Reads ch k tail s → IsProgress ch k s
   pub waits : (n : ℕ) (r : Request) (behind : List ℕ) → Waits ch k n r behind s → IsProgress ch k s
   pub early : (n : ℕ) (r : Request) (behind rest : List ℕ) → WaitsEarly ch k n r behind rest s → IsProgress ch k s
-  pub streams : (r : Request) (behind : List ℕ) (reply : Reply) (body rest : List ℕ) → Streams ch k r behind reply body rest s → IsProgress ch k s
+  pub streams : (r : Request) (behind : List ℕ) (reply : Reply) (place : ℕ) (body rest : List ℕ) → Streams ch k r behind reply place body rest s → IsProgress ch k s
   pub sends : (flow : Flow) (r : Request) (behind rest : List ℕ) → Sends ch k flow r behind rest s → IsProgress ch k s
   pub refuses : (status : ℕ) (rest : List ℕ) → Refuses ch k status rest s → IsProgress ch k s
 

@@ -62,3 +62,25 @@ gives_chunk terms (reply.Answer status bytes) a front body whole some is line al
   record { bytes_are = whole_chunk bytes front (rest_of a.out) some (line ∙ ap (λ l. hex_text (length l) ++ codes "\r\n") is) all; behind = behind },
 )
 gives_chunk terms given a front body whole some is line all behind = absurd whole
+
+-- ---- a part of a stream as a chunk, behind which more come
+
+pub no_part : (body : List ℕ) → length body ≡ 0 → one_chunk body ≡ []
+no_part [] none = refl
+no_part (b ∷ body) none = absurd (omega (arith, none))
+
+pub part_chunk : (body : List ℕ) (len : ℕ) (front rest : List ℕ) → 0 < len → len ≡ length body → front ≡ hex_text len ++ codes "\r\n"
+    → rest ≡ front ++ body ++ codes "\r\n" → rest ≡ one_chunk body
+part_chunk [] len front rest some is line all = absurd (omega (arith, some, is))
+part_chunk (b ∷ body) len front rest some is line all =
+    all ∙ ap (λ l. l ++ (b ∷ body) ++ codes "\r\n") (line ∙ ap (λ n. hex_text n ++ codes "\r\n") is)
+
+-- ---- and as the last one
+
+pub last_alone : (body front rest : List ℕ) → length body ≡ 0 → front ≡ codes "0\r\n\r\n" → rest ≡ front ++ [] ++ [] → rest ≡ one_chunk body ++ last_chunk
+last_alone body front rest none line all = no_chunk body rest none (all ∙ ap (λ l. l ++ [] ++ []) line)
+
+pub last_part : (body : List ℕ) (len : ℕ) (front rest : List ℕ) → 0 < len → len ≡ length body → front ≡ hex_text len ++ codes "\r\n"
+    → rest ≡ front ++ body ++ (codes "\r\n" ++ last_chunk) → rest ≡ one_chunk body ++ last_chunk
+last_part body len front rest some is line all =
+    whole_chunk body front rest (omega (arith, some, is)) (line ∙ ap (λ n. hex_text n ++ codes "\r\n") is) all

@@ -1,3 +1,5 @@
 pub mod TurnLemmas
 pub mod ByteLemmas
 pub mod AnswerLemmas
+pub mod OpenLemmas
+pub mod TellLemmas

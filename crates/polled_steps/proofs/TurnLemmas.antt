@@ -21,10 +21,10 @@ use Rattle.polled_steps.specs.declared.turning.Asked.{Asked}
 use Rattle.polled_steps.specs.declared.turning.Taken.{Taken}
 
 -- a clock that tells no moments hands any
-untold : (handed : ℕ) → ClockHanded untold_clock (handed ∷ []) untold_clock
+pub untold : (handed : ℕ) → ClockHanded untold_clock (handed ∷ []) untold_clock
 untold handed = record { handed = tt; stops = (clock_none untold_clock).stops }
 
-came : (k handed : ℕ) (c : Call) (x : Turned) (p q : PassView) → IsTrue p.pair → IsFalse (ends_ticket c) → Turn k handed (Some c) x p q
+pub came : (k handed : ℕ) (c : Call) (x : Turned) (p q : PassView) → IsTrue p.pair → IsFalse (ends_ticket c) → Turn k handed (Some c) x p q
     → TurnComes k handed c x p q untold_clock untold_clock
 came k handed c x p q pair kind turn = turn_comes k handed c x p q untold_clock untold_clock pair (no_drop c kind) (untold handed) turn
 

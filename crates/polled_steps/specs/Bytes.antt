@@ -19,10 +19,12 @@ body_bytes Body.None = []
 body_bytes (Body.Reply reply) = reply_bytes reply
 body_bytes (Body.Text text) = text
 body_bytes (Body.Fixed fixed) = message_text (fixed_text fixed)
+body_bytes (Body.Part bytes) = bytes.items
 
--- the end of the one chunk that a body is, and the last chunk
+-- the end of a chunk that a body is; and the last chunk behind that
 abbrev pub tail_bytes : Tail → List ℕ
 tail_bytes Tail.None = []
+tail_bytes Tail.Line = codes "\r\n"
 tail_bytes Tail.Chunk = codes "\r\n" ++ last_chunk
 
 -- what is still to be written of each part

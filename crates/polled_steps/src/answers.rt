@@ -12,7 +12,6 @@ ghost use Rattle.exchange_laws.specs.Fixed.{fixed_status, fixed_text};
 ghost use Rattle.polled_steps.specs.Bytes.{body_bytes, rest_of};
 ghost use Rattle.polled_steps.specs.Answers.{AnswersChunk, AnswersDirect, AnswersReply, GoesBehind, HasStatus, IsAnswer as Gives, IsBroken};
 
-use crate::front::Front;
 use crate::outgoing::{Body, Outgoing, Tail, answer_body};
 use crate::texts::{chunk_front, head_front, last_front, refusal_front};
 use api_routes::{DirectAnswer, DirectKind};
@@ -129,7 +128,7 @@ pub fn direct(alloc: Global, terms: Terms, answer: DirectAnswer) -> Answer
 }
 
 /// An answer, behind which the session goes on as its request asks.
-fn sends(terms: Terms, out: Outgoing) -> Answer
+pub(crate) fn sends(terms: Terms, out: Outgoing) -> Answer
     ensures { Gives result (flow_of terms) (rest_of out) }
 {
     let next = behind_whole(terms);
@@ -187,7 +186,7 @@ pub fn broken(ending: Ending) -> Answer
     ensures { IsBroken result ending }
 {
     Answer {
-        out: Outgoing::new(Front::new(), Body::None, Tail::None),
+        out: Outgoing::none(),
         next: Behind::Ends(ending),
     }
 }

@@ -3,9 +3,12 @@
 #![tactic(auto)]
 
 mod answers;
+mod chunks;
 mod front;
+mod opening;
 mod outgoing;
 mod sending;
+mod telling;
 mod texts;
 mod turning;
 
@@ -13,6 +16,9 @@ pub use answers::{
     Answer, Behind, broken, direct, early, journal_full, out_of_memory, refusal, replied,
     replied_early, stopping,
 };
+pub use chunks::{chunk, last, stream_head};
+pub use opening::{Opened, open_once};
 pub use outgoing::Outgoing;
 pub use sending::{Sent, send};
+pub use telling::{Told, first_of, tell_once};
 pub use turning::{Asked, Taken, ask_once, drop_ticket, take_once};

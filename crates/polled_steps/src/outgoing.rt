@@ -14,6 +14,8 @@ pub enum Body {
     Reply(Reply),
     Text(Text),
     Fixed(Fixed),
+    /// A part of a stream.
+    Part(Vec<u8>),
 }
 
 impl Body {
@@ -25,6 +27,7 @@ impl Body {
             Body::Reply(reply) => answer_body(reply),
             Body::Text(text) => text.as_slice(),
             Body::Fixed(fixed) => fixed.as_slice(),
+            Body::Part(bytes) => bytes.as_slice(),
         }
     }
 }
@@ -48,6 +51,8 @@ pub fn answer_body(reply: &Reply) -> &[u8]
 #[derive(Clone, Copy, Debug, PartialEq, Eq)]
 pub enum Tail {
     None,
+    /// The end of the body's chunk.
+    Line,
     /// The end of the body's one chunk, and the last chunk.
     Chunk,
 }
@@ -58,6 +63,7 @@ impl Tail {
     {
         match self {
             Tail::None => b"",
+            Tail::Line => b"\r\n",
             Tail::Chunk => b"\r\n0\r\n\r\n",
         }
     }
@@ -86,7 +92,7 @@ fn left(part: &[u8], sent: usize) -> &[u8]
 }
 
 impl Outgoing {
-    ghost use Rattle.std.specs.Prelude.{◌++◌, ◌≤◌, drop, length};
+    ghost use Rattle.std.specs.Prelude.{◌++◌, ◌≤◌, [], drop, length};
     ghost use Rattle.polled_steps.specs.Bytes.{next_of, rest_of};
 
     pub fn new(front: Front, body: Body, tail: Tail) -> Outgoing
@@ -100,6 +106,13 @@ impl Outgoing {
             body_sent: 0,
             tail_sent: 0,
         }
+    }
+
+    /// Nothing.
+    pub fn none() -> Outgoing
+        ensures { rest_of result ≡ [] }
+    {
+        Outgoing::new(Front::new(), Body::None, Tail::None)
     }
 
     /// The next bytes; none where all were written.

@@ -14,7 +14,13 @@ use session_model::Turned;
 use std::alloc::Global;
 
 // A turn with a call.
-fn turn<T: Turns>(turns: &mut T, alloc: Global, conn: u32, handed: u64, call: &Call) -> Turned
+pub(crate) fn turn<T: Turns>(
+    turns: &mut T,
+    alloc: Global,
+    conn: u32,
+    handed: u64,
+    call: &Call,
+) -> Turned
     requires number { IsNumber (T.pass turns.old).number conn }
     requires may { MayAsk (T.pass turns.old).charter conn (T.pass turns.old).seen (Some call.now) }
     ensures { Turn conn handed (Some call.now) result (T.pass turns.old) (T.pass turns.new) }

@@ -1,5 +1,5 @@
 -- The steps of a session whose request is whole: its call was made, or not.
-use Rattle.std.proofs.Common.{arith, ◌≡◌, ◌≤◌, ◌+◌, ◌-◌, inl, ℕ, Bool, true, false, List, [], ◌∷◌, refl, sym, ◌∙◌, ap, subst, None, Some, Option}
+use Rattle.std.proofs.Common.{arith, ◌≡◌, ◌<◌, ◌≤◌, ◌+◌, ◌-◌, inl, ℕ, Bool, true, false, List, [], ◌∷◌, refl, sym, ◌∙◌, ap, subst, None, Some, Option}
 use Rattle.std.specs.Prelude.{IsFalse, IsSome}
 use Rattle.std.proofs.lemmas.Bool.{false≢true}
 use Rattle.engine_text.specs.declared.call.Call.{Call}
@@ -26,13 +26,15 @@ use Rattle.session_poll.specs.declared.session.Session.{Session}
 use Rattle.session_poll.specs.declared.state.State.{State}
 use Rattle.session_poll.specs.declared.state.Step.TheVariants as came
 use Rattle.session_poll.specs.Asking.{GoesBy, IsAsking, calls_of}
-use Rattle.session_poll.specs.Going.{Steps}
+use Rattle.session_poll.specs.Going.{IsSpent, Steps, TellsBy}
+use Rattle.session_poll.specs.Left.{left_of, steps_left}
 use Rattle.session_poll.specs.Standing.{IsIn, unread}
+use Rattle.session_poll.proofs.LeftLemmas.{turn_less, uncalled_less}
 use Rattle.session_poll.proofs.MoveLemmas.{steps_turn, tired_of_turns}
 use Rattle.session_poll.proofs.ReadMoveLemmas.{decided_whole}
 use Rattle.session_poll.proofs.StepLemmas.{calls_by}
 
-is_called : {A : Type 0} (o : Option A) (c : A) → o ≡ Some c → o ≡ None → ⊥
+pub is_called : {A : Type 0} (o : Option A) (c : A) → o ≡ Some c → o ≡ None → ⊥
 is_called o c some none = false≢true (subst IsSome (sym some ∙ none) refl)
 
 -- ---- where the session stands behind the call
@@ -99,6 +101,26 @@ counted_by (Asked.Begun n) turns left some is = omega (arith, some, is)
 counted_by Asked.JournalFull turns left some is = omega (arith, some, is)
 counted_by Asked.NoMemory turns left some is = omega (arith, some, is)
 
+-- it streams nothing
+pub call_tells : (asked : Asked) (terms : Terms) (early : Bool) (old state : State) (b b' : Budget) → GoesBy asked terms early state → b'.turns ≤ b.turns
+    → TellsBy old state b b'
+call_tells (Asked.Replied r) terms early old state b b' (answer, at, gives) fewer = subst (λ y. TellsBy old y b b') (sym at) fewer
+call_tells (Asked.Begun n) terms true old state b b' (out, at, bytes) fewer = subst (λ y. TellsBy old y b b') (sym at) fewer
+call_tells (Asked.Begun n) terms false old state b b' at fewer = subst (λ y. TellsBy old y b b') (sym at) fewer
+call_tells Asked.JournalFull terms early old state b b' (answer, at, gives) fewer = subst (λ y. TellsBy old y b b') (sym at) fewer
+call_tells Asked.NoMemory terms early old state b b' (answer, at, gives) fewer = subst (λ y. TellsBy old y b b') (sym at) fewer
+
+-- and less is left
+pub call_less : (x : Session) (asked : Asked) (c : Call) (terms : Terms) (early : Bool) (state : State) (b : Budget) → x.state ≡ State.Asks c terms early
+    → GoesBy asked terms early state → 1 ≤ b.turns
+    → left_of (record x { state = state }) (record b { turns = b.turns - calls_of asked }) < left_of x b
+call_less x (Asked.Replied r) c terms early state b asks by some = turn_less x state b some
+call_less x (Asked.Begun n) c terms early state b asks by some = turn_less x state b some
+call_less x Asked.JournalFull c terms early state b asks (answer, at, gives) some =
+    uncalled_less x state b (let e = ap steps_left asks in omega (arith, e)) (ap steps_left at)
+call_less x Asked.NoMemory c terms early state b asks (answer, at, gives) some =
+    uncalled_less x state b (let e = ap steps_left asks in omega (arith, e)) (ap steps_left at)
+
 module _ (k : ℕ) (told : Told) (x : Session) (c : Call) (terms : Terms) (early : Bool) (p q : PassView) (b b' : Budget) where
   pub call_made : (asked : Asked) (state : State) → x.state ≡ State.Asks c terms early → IsFalse (is_feed c) → AsksOnce k told.handed c asked p q
       → GoesBy asked terms early state → 1 ≤ b.turns → b' ≡ record b { turns = b.turns - calls_of asked }
@@ -113,12 +135,24 @@ module _ (k : ℕ) (told : Told) (x : Session) (c : Call) (terms : Terms) (early
 -- a turn more is wanted
 pub call_wanted : (k : ℕ) (told : Told) (x : Session) (p : PassView) (b : Budget) → IsAsking x.state → b.turns ≡ 0
     → (v : Ports) → Steps p.charter k told (came.Pauses Pause.Yield) x x p p v v b b
-call_wanted k told x p b asking none v = tired_of_turns p.charter k told x p b v none (λ s so. wants x.state asking s so.0.stands)
+call_wanted k told x p b asking none v = tired_of_turns p.charter k told x p b v (spent x.state asking) (λ s so. wants x.state asking s so.0.stands)
   where
+    spent : (state : State) → IsAsking state → IsSpent state b
+    spent (State.Asks c terms early) asking = none
+    spent State.Reads asking = absurd asking
+    spent (State.Waits ticket terms) asking = absurd asking
+    spent (State.WaitsEarly ticket terms out) asking = absurd asking
+    spent (State.Opens c terms) asking = absurd asking
+    spent (State.Streams given terms place out) asking = absurd asking
+    spent (State.Sends answer) asking = absurd asking
+    spent (State.Refuses out status) asking = absurd asking
+
     wants : (state : State) → IsAsking state → (s : Span) → IsIn p.charter k state x s → WantsTurn p.charter k s
     wants (State.Asks c terms early) asking s (r, tail, read, reads, begins, class, is, is') = inl (tail, r, unread x, c, reads, begins, ap call_of class)
     wants State.Reads asking s stands = absurd asking
     wants (State.Waits ticket terms) asking s stands = absurd asking
     wants (State.WaitsEarly ticket terms out) asking s stands = absurd asking
+    wants (State.Opens c terms) asking s stands = absurd asking
+    wants (State.Streams given terms place out) asking s stands = absurd asking
     wants (State.Sends answer) asking s stands = absurd asking
     wants (State.Refuses out status) asking s stands = absurd asking

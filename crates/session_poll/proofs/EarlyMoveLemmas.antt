@@ -52,7 +52,7 @@ use Rattle.session_poll.specs.declared.state.Step.TheVariants as came
 use Rattle.session_poll.specs.declared.waiting.Over.TheVariants as over
 use Rattle.session_poll.specs.declared.waiting.Waited.TheVariants as waited
 use Rattle.session_poll.specs.declared.writing.Wrote.TheVariants as wrote
-use Rattle.session_poll.specs.Going.{IsPolled, Steps, StepsBySink, ports_of}
+use Rattle.session_poll.specs.Going.{IsPolled, IsSpent, Steps, StepsBySink, ports_of}
 use Rattle.session_poll.specs.Standing.{IsAt, IsIn, unread}
 use Rattle.session_poll.specs.Waiting.{HasOpened, WaitedSays}
 use Rattle.session_poll.specs.Writing.{WroteSays}
@@ -98,7 +98,7 @@ module _ (k : ℕ) (told : Told) (x : Session) (n : ℕ) (terms : Terms) (out : 
 
   -- a turn more is wanted
   pub early_wanted : (v : Ports) (b : Budget) → b.turns ≡ 0 → Steps p.charter k told (came.Pauses Pause.Yield) x x p p v v b b
-  early_wanted v b none = tired_of_turns p.charter k told x p b v none
+  early_wanted v b none = tired_of_turns p.charter k told x p b v (subst (λ y. IsSpent y b) (sym opens) none)
       (λ s so. let here = early_at s so.0 in inr (inl (n, here.0, here.3.c, unread x, here.3.bytes, here.3.ticket)))
 
   -- it waits on, behind a turn that made no call
@@ -119,7 +119,7 @@ module _ (k : ℕ) (told : Told) (x : Session) (n : ℕ) (terms : Terms) (out : 
   early_late q v b begun f =
       let held : HasBegun p.charter k n q.seen = subst (λ c. HasBegun c k n q.seen) f.moves.stays.charter (still_begun k told.handed n T.NotYet p q tt f begun) in
       steps_turn p.charter k told (came.Pauses Pause.NotYet) x x (Take n) T.NotYet p q v b b refl f refl refl (omega arith)
-      (λ s is ports (at, rose). ((early_on q s is f.came.0 at, rose), (n, held, f.came.1)))
+      (λ s is ports (at, rose). ((early_on q s is f.came.0 at, rose), inl (n, held, f.came.1)))
 
   -- it is taken, behind a head that is written
   pub early_taken : (q : PassView) (v : Ports) (b b' : Budget) (r : Reply) (answer : Answer) → rest_of out ≡ [] → IsLegal p.charter p.seen → 1 ≤ b.turns

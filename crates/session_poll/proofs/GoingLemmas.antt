@@ -1,6 +1,6 @@
 -- A session goes on within a poll: by a turn, a drop, a read, a write, or none of them, and by one behind the other.
 use Rattle.std.proofs.Common.{arith, ◌≡◌, ◌≤◌, ◌+◌, ◌-◌, inl, inr, ℕ, List, [], ◌∷◌, ◌++◌, length, length-append, refl, sym, ◌∙◌, ap, subst, append_assoc, append-nil}
-use Rattle.std.specs.Prelude.{◌<◌, ◌⊎◌, IsFalse, leb, true, false}
+use Rattle.std.specs.Prelude.{◌<◌, ◌⊎◌, All, IsFalse, leb, true, false}
 use Rattle.std.proofs.lemmas.Bool.Decides.{leb_tells}
 use Rattle.std.proofs.lemmas.List.Elements.{All-append, All-cons, All-nil, filter-append}
 use Rattle.engine_ports.specs.Clock.{untold_clock}
@@ -9,9 +9,12 @@ use Rattle.engine_ports.specs.Sink.{SinkTook}
 use Rattle.engine_ports.specs.Source.{SourceGave}
 use Rattle.engine_ports.proofs.PortLemmas.{source_none, source_on, sink_none, sink_on}
 use Rattle.engine_text.specs.declared.call.Call.{Call}
+use Rattle.engine_text.specs.declared.reply.Reply.{Reply}
+use Rattle.engine_text.specs.declared.reply.Reply.TheVariants as reply
 use Rattle.engine_text.specs.declared.step.Step.{Step}
 use Rattle.machine_model.specs.Statuses.{is_feed}
-use Rattle.machine_model.specs.History.{is_own, own_calls}
+use Rattle.machine_model.specs.History.{bears, calls_of}
+use Rattle.session_model.specs.declared.turned.Part.{Part}
 use Rattle.session_model.specs.declared.turned.Turned.{Turned}
 use Rattle.session_model.specs.Moments.{StaysWithin}
 use Rattle.session_model.specs.Pass.{PassView}
@@ -19,12 +22,13 @@ use Rattle.session_model.specs.Session.{Span}
 use Rattle.session_model.proofs.AddsLemmas.{adds_none, owns, owns_on}
 use Rattle.session_model.proofs.TurnLemmas.{stays_on, stays_same}
 use Rattle.exchange_laws.specs.Turns.{TurnComes}
+use Rattle.polled_steps.specs.Telling.{AsksPart, moments_of}
 use Rattle.polled_steps.specs.Turning.{DropsSo}
 use Rattle.polled_model.specs.Polls.{AllStandAt, Ports, RoseBy, StandsAtPorts, gone_on, outside_of}
 use Rattle.polled_model.specs.Steps.{come_to}
 use Rattle.session_poll.specs.Going.{Goes, Spends}
 use Rattle.session_poll.specs.declared.budget.Budget.{Budget}
-use Rattle.session_poll.proofs.StepLemmas.{drop_added, fed_on, stand_on, stand_since, turn_added}
+use Rattle.session_poll.proofs.StepLemmas.{drop_added, fed_on, quiet_added, stand_on, stand_since, turn_added}
 
 -- ---- a span, by one name and by another
 
@@ -82,6 +86,15 @@ module _ (k handed : ℕ) where
 
   -- ---- a step
 
+  -- of a part of a stream
+  pub handed_by : (given : Reply) → All IsHanded (moments_of given handed)
+  handed_by (reply.JournalStream count) = All-nil IsHanded
+  handed_by given = All-cons IsHanded handed [] refl (All-nil IsHanded)
+
+  pub within_by : (given : Reply) (p q : PassView) → StaysWithin p.charter p.seen q.seen (moments_of given handed) → StaysWithin p.charter p.seen q.seen (handed ∷ [])
+  within_by (reply.JournalStream count) p q none = omega (arith, none)
+  within_by given p q some = some
+
   -- a turn came to that
   unfoldable pub goes_turn : (c : Call) (result : Turned) (before after : Span → Type 0) (p q : PassView) (v : Ports) → IsFalse (is_feed c)
       → TurnComes k handed c result p q untold_clock untold_clock
@@ -125,6 +138,29 @@ module _ (k handed : ℕ) where
         fed = added.fed;
         within = λ alone. let none = subst (StaysWithin p.charter p.seen q.seen) d.none (d.moves.within alone) in omega (arith, none);
         comes = λ s is ports so. subst after (sym (as_drop s q.seen v ports)) (comes s is ports so);
+      }
+
+  -- a part of a stream was asked for
+  unfoldable pub goes_part : (given : Reply) (place : ℕ) (part : Part) (old new : List ℕ) (before after : Span → Type 0) (p q : PassView) (v : Ports)
+      → AsksPart k handed given place part old new p q
+      → ((s : Span) → s.to ≡ p.seen → StandsAtPorts s v → before s → after (come_to s q.seen (moments_of given handed))) → Goes k handed before after p q v v
+  goes_part given place part old new before after p q v asks comes =
+      let added = quiet_added p.charter k handed p.seen q.seen asks.quiet in
+      record {
+        read = [];
+        written = [];
+        moments = moments_of given handed;
+        own = added.own;
+        source = source_none v.source.source;
+        sink = sink_none v.sink.sink;
+        seen = added.seen;
+        stays = asks.moves.stays;
+        adds = λ every. owns k p q asks.moves.adds;
+        at_moment = handed_by given;
+        stand = added.stand;
+        fed = added.fed;
+        within = λ alone. within_by given p q (subst (StaysWithin p.charter p.seen q.seen) asks.moments (asks.moves.within alone));
+        comes = λ s is ports so. subst after (sym (as_turn s (moments_of given handed) q.seen v ports)) (comes s is ports so);
       }
 
   -- bytes were read, some or none
@@ -256,7 +292,7 @@ once_more m x y some is = more (leb_tells y x)
 pub spends_on : (k : ℕ) (xs ys : List Step) (u v w : Ports) (a b c : Budget) → Spends k xs u v a b → Spends k ys v w b c → Spends k (xs ++ ys) u w a c
 spends_on k xs ys u v w a b c f g = record {
   turns =
-      let calls = ap length (filter-append (is_own k) xs ys) ∙ length-append (own_calls k xs) (own_calls k ys) in
+      let calls = ap length (filter-append (bears k) xs ys) ∙ length-append (calls_of k xs) (calls_of k ys) in
       omega (arith, calls, f.turns, g.turns);
   reads = rose_on (a.reads - b.reads) (b.reads - c.reads) (a.reads - c.reads) u.source.gave v.source.gave w.source.gave (omega arith) f.reads g.reads;
   writes = rose_on (a.writes - b.writes) (b.writes - c.writes) (a.writes - c.writes) u.sink.took v.sink.took w.sink.took (omega arith) f.writes g.writes;

@@ -8,5 +8,10 @@ pub mod SendMoveLemmas
 pub mod AskMoveLemmas
 pub mod WaitMoveLemmas
 pub mod EarlyMoveLemmas
+pub mod PlaceLemmas
+pub mod TellLemmas
+pub mod ToldLemmas
+pub mod StreamMoveLemmas
+pub mod PartMoveLemmas
 pub mod PollLemmas
 pub mod LeftLemmas

@@ -7,15 +7,18 @@ use Rattle.engine_ports.specs.Sink.{SinkTook}
 use Rattle.engine_ports.specs.Source.{SourceGave}
 use Rattle.engine_ports.proofs.PortLemmas.{rose_since, sink_none}
 use Rattle.engine_text.specs.declared.call.Call.{Call}
+use Rattle.engine_text.specs.declared.reply.Reply.{Reply}
 use Rattle.engine_text.specs.declared.step.Step.{Step}
 use Rattle.machine_model.specs.Statuses.{is_feed}
-use Rattle.machine_model.specs.History.{Charter, own_calls}
+use Rattle.machine_model.specs.History.{Charter, calls_of}
 use Rattle.session_model.specs.declared.ending.Ending.{Ending}
 use Rattle.session_model.specs.declared.ending.Ending.TheVariants as E
+use Rattle.session_model.specs.declared.turned.Part.{Part}
 use Rattle.session_model.specs.declared.turned.Turned.{Turned}
 use Rattle.session_model.specs.Pass.{PassView}
 use Rattle.session_model.specs.Session.{Span}
 use Rattle.exchange_laws.specs.Turns.{TurnComes}
+use Rattle.polled_steps.specs.Telling.{AsksPart, moments_of}
 use Rattle.polled_steps.specs.Turning.{DropsSo}
 use Rattle.polled_model.specs.declared.polled.Cause.{Cause}
 use Rattle.polled_model.specs.Polls.{EndsNow, Ports, StandsAtPorts, Told, WantsTurn, outside_of}
@@ -24,9 +27,9 @@ use Rattle.session_poll.specs.declared.budget.Budget.{Budget}
 use Rattle.session_poll.specs.declared.session.Session.{Session}
 use Rattle.session_poll.specs.declared.state.Step.{Step as Came}
 use Rattle.session_poll.specs.declared.state.Step.TheVariants as came
-use Rattle.session_poll.specs.Going.{After, IsPolled, Spends, SpendsFor, Steps}
-use Rattle.session_poll.proofs.GoingLemmas.{goes_as, goes_drop, goes_none, goes_on, goes_read, goes_turn, goes_written, kept_by, spends_on}
-use Rattle.session_poll.proofs.StepLemmas.{calls_by, drop_added, turn_added}
+use Rattle.session_poll.specs.Going.{After, IsPolled, IsSpent, Spends, SpendsFor, Steps}
+use Rattle.session_poll.proofs.GoingLemmas.{goes_as, goes_drop, goes_none, goes_on, goes_part, goes_read, goes_turn, goes_written, kept_by, spends_on}
+use Rattle.session_poll.proofs.StepLemmas.{calls_by, drop_added, quiet_added, turn_added}
 use Rattle.session_poll.proofs.ThereLemmas.{still_told}
 
 -- nothing is spent
@@ -58,7 +61,7 @@ module _ (ch : Charter) (k : ℕ) (told : Told) where
   spends_for (came.Ends e) own v v' b b' spent = tt
 
   -- calls were made, as many as the budget lost
-  spends_calls : (own : List Step) (v : Ports) (b b' : Budget) → b.turns ≤ length (own_calls k own) + b'.turns → b'.reads ≡ b.reads → b'.writes ≡ b.writes
+  spends_calls : (own : List Step) (v : Ports) (b b' : Budget) → b.turns ≤ length (calls_of k own) + b'.turns → b'.reads ≡ b.reads → b'.writes ≡ b.writes
       → Spends k own v v b b'
   spends_calls own v b b' turns reads writes = record {
     turns = turns;
@@ -101,6 +104,19 @@ module _ (ch : Charter) (k : ℕ) (told : Told) where
       record {
         goes = goes_drop k told.handed n (IsPolled ch k told.stop x) (After step ch k told x' p.seen v v b) p q v d comes;
         spends = spends_for step added.own v v b b (spends_calls added.own v b b (omega arith) refl refl);
+      }
+
+  -- a part of a stream was asked for
+  pub steps_part : (step : Came) (x x' : Session) (given : Reply) (place : ℕ) (part : Part) (old new : List ℕ) (p q : PassView) (v : Ports) (b b' : Budget)
+      → AsksPart k told.handed given place part old new p q → b'.turns ≡ b.turns → b'.reads ≡ b.reads → b'.writes ≡ b.writes
+      → Comes step x x' p v v b' (λ s. come_to s q.seen (moments_of given told.handed))
+      → Steps ch k told step x x' p q v v b b'
+  unfolding goes_part
+  steps_part step x x' given place part old new p q v b b' asks turns reads writes comes =
+      let added = quiet_added p.charter k told.handed p.seen q.seen asks.quiet in
+      record {
+        goes = goes_part k told.handed given place part old new (IsPolled ch k told.stop x) (After step ch k told x' p.seen v v b') p q v asks comes;
+        spends = spends_for step added.own v v b b' (spends_calls added.own v b b' (omega (arith, turns)) reads writes);
       }
 
   -- bytes were written, some or none
@@ -157,7 +173,7 @@ module _ (ch : Charter) (k : ℕ) (told : Told) where
     pub tired_of_writes : (v : Ports) → b.writes ≡ 0 → Steps ch k told (came.Pauses Cause.Yield) x x p p v v b b
     tired_of_writes v none = steps_still (came.Pauses Cause.Yield) x x p v b (λ s is ports so. (so, inr (inr none)))
 
-    pub tired_of_turns : (v : Ports) → b.turns ≡ 0 → ((s : Span) → IsPolled ch k told.stop x s → WantsTurn ch k s)
+    pub tired_of_turns : (v : Ports) → IsSpent x.state b → ((s : Span) → IsPolled ch k told.stop x s → WantsTurn ch k s)
         → Steps ch k told (came.Pauses Cause.Yield) x x p p v v b b
     tired_of_turns v none wants = steps_still (came.Pauses Cause.Yield) x x p v b (λ s is ports so. (so, inl (none, wants s so)))
 

@@ -1,35 +1,40 @@
 -- What a poll says, of the steps that it made.
-use Rattle.std.proofs.Common.{arith, ◌≡◌, ◌-◌, inl, inr, ℕ, Bool, List, ◌++◌, length, refl, sym, ap, subst}
+use Rattle.std.proofs.Common.{arith, ◌≡◌, ◌≤◌, ◌+◌, ◌-◌, ◌∙◌, inl, inr, ℕ, Bool, List, ◌++◌, length, refl, sym, ap, subst}
 use Rattle.std.specs.Prelude.{None}
 use Rattle.engine_ports.specs.Door.{Outside}
 use Rattle.engine_text.specs.declared.step.Step.{Step}
 use Rattle.futures.specs.declared.task.context.Context.{Context}
-use Rattle.machine_model.specs.History.{Charter, Extends, IsLegal}
+use Rattle.machine_model.specs.History.{Charter, Extends, IsLegal, calls_of, own_calls}
 use Rattle.session_model.specs.declared.ending.Ending.{Ending}
 use Rattle.session_model.specs.Pass.{PassView}
 use Rattle.session_model.specs.Session.{Span}
-use Rattle.session_model.proofs.HistoryLemmas.{extends_on}
+use Rattle.session_model.proofs.HistoryLemmas.{extends_on, quiet_extends}
 use Rattle.polled_model.specs.declared.polled.Cause.{Cause}
 use Rattle.polled_model.specs.declared.polled.Polled.TheVariants.{Done, Pending}
-use Rattle.polled_model.specs.Polls.{PausesFor, Polls, Ports, RoseBy, StandsAtPorts, Told, gone_on, stops_after, told_stop}
+use Rattle.polled_model.specs.Polls.{PausesFor, Polls, Ports, RoseBy, StandsAtPorts, TellsOn, Told, gone_on, stops_after, told_stop}
 use Rattle.session_poll.specs.declared.budget.Budget.{Budget}
 use Rattle.session_poll.specs.declared.session.Session.{Session}
 use Rattle.session_poll.specs.declared.state.Step.{Step as Came}
 use Rattle.session_poll.specs.declared.state.Step.TheVariants as came
-use Rattle.session_poll.specs.Going.{After, Goes, HasGone, IsPolled, Spends, Steps, WaitsFor, WakesFor, whole_budget}
+use Rattle.session_poll.specs.Going.{After, Goes, HasGone, HasTold, IsPolled, IsSpent, Spends, Steps, WaitsFor, WakesFor, whole_budget}
 use Rattle.session_poll.specs.Standing.{CanPoll, HasPiece, HasRead, IsAt, IsIn, IsWoken, unread}
 use Rattle.session_poll.specs.Asking.{IsAsking}
+use Rattle.session_poll.specs.Streaming.{IsOpening, MayTell}
 use Rattle.session_poll.specs.declared.state.State.{State}
 use Rattle.session_poll.proofs.WaitMoveLemmas.{begun_held}
 use Rattle.session_model.specs.Turning.{HasBegun}
 use Rattle.session_model.specs.declared.terms.Terms.{Terms}
 use Rattle.engine_text.specs.declared.call.Call.{Call}
+use Rattle.engine_text.specs.declared.reply.Reply.{Reply}
+use Rattle.attach_hub.specs.Streams.{StandsIn}
 use Rattle.polled_steps.specs.declared.outgoing.Outgoing.{Outgoing}
 use Rattle.polled_model.specs.Stages as stage
 use Rattle.session_poll.proofs.GoingLemmas.{goes_none, goes_on, goes_read, rose_kept, spends_on}
 use Rattle.session_poll.proofs.MoveLemmas.{ends_since, spends_none}
 use Rattle.session_poll.proofs.StandingLemmas.{standing}
+use Rattle.session_poll.proofs.PlaceLemmas.{stands_later}
 use Rattle.session_poll.proofs.ThereLemmas.{told_so}
+use Rattle.session_poll.proofs.ToldLemmas.{calls_among, tells_on}
 
 -- ---- steps since the poll began
 
@@ -110,37 +115,71 @@ module _ (ch : Charter) (k : ℕ) (x : Session) (seen : List Step) (v : Ports) w
       let here : IsIn ch k (State.WaitsEarly n terms out) x s = subst (λ state. IsIn ch k state x s) opens at.stands in
       subst (HasBegun ch k n) is (begun_held ch k n here.0 here.3.c (unread x) here.3.bytes s here.3.ticket)
 
+  pub can_open : (c : Call) (terms : Terms) → x.state ≡ State.Opens c terms → CanPoll ch k x seen v → IsOpening x.state
+  can_open c terms opens (s, is, ports, at) =
+      let here : IsIn ch k (State.Opens c terms) x s = subst (λ state. IsIn ch k state x s) opens at.stands in
+      subst IsOpening (sym opens) (here.0, here.5)
+
+  pub can_tell : (given : Reply) (terms : Terms) (place : ℕ) (out : Outgoing) → x.state ≡ State.Streams given terms place out → CanPoll ch k x seen v
+      → MayTell ch seen x.state
+  can_tell given terms place out streams (s, is, ports, at) =
+      let here : IsIn ch k (State.Streams given terms place out) x s = subst (λ state. IsIn ch k state x s) streams at.stands in
+      subst (MayTell ch seen) (sym streams) (
+        here.4.form,
+        subst (λ h. StandsIn ch h given place) is
+            (stands_later given ch here.4.at here.4.now s.to place here.1 (quiet_extends k here.4.now s.to here.4.quiet) here.4.reaches),
+      )
+
 -- ---- what it waits for
 
 tired : (x y left : ℕ) → left ≡ 0 → RoseBy (64 - left) x y → RoseBy 64 x y
 tired x y left none rose = subst (λ m. RoseBy (64 - m) x y) none rose
 
-pauses_so : (cause : Cause) (ch : Charter) (k : ℕ) (told : Told) (cx : Context) (a b own : List Step) (u v w : Ports) (left : Budget) (s : Span)
-    → Extends a b → RoseBy 0 u.source.registered v.source.registered → RoseBy 0 u.sink.registered v.sink.registered → Spends k own u w whole_budget left
-    → WakesFor cause cx → WaitsFor cause ch k told.handed b v w left s
-    → PausesFor cause ch k told (IsWoken cx) a own u w s
-pauses_so Cause.Source ch k told cx a b own u v w left s before source sink spent woken (rose, idle) =
-    (rose_kept u.source.registered v.source.registered w.source.registered source rose, idle)
-pauses_so Cause.Sink ch k told cx a b own u v w left s before source sink spent woken rose =
-    rose_kept u.sink.registered v.sink.registered w.sink.registered sink rose
-pauses_so Cause.NotYet ch k told cx a b own u v w left s before source sink spent woken (n, begun, (at, from, to, late)) =
-    (woken.0, inl (n, begun, (at, extends_on a b at before from, to, late)))
-pauses_so Cause.Yield ch k told cx a b own u v w left s before source sink spent woken (inl (none, wants)) =
-    let calls = spent.turns in (woken.0, inl (omega (arith, calls, none), wants))
-pauses_so Cause.Yield ch k told cx a b own u v w left s before source sink spent woken (inr (inl none)) =
-    (woken.0, inr (inl (tired u.source.gave w.source.gave left.reads none spent.reads)))
-pauses_so Cause.Yield ch k told cx a b own u v w left s before source sink spent woken (inr (inr none)) =
-    (woken.0, inr (inr (tired u.sink.took w.sink.took left.writes none spent.writes)))
+module _ (ch : Charter) (k : ℕ) (told : Told) (own : List Step) (u v w : Ports) (left : Budget) (x z : Session) (was s : Span) (spent : Spends k own u w whole_budget left)
+    (before : IsAt ch k x was) (behind : IsAt ch k z s) where
+  no_call : left.turns ≡ 0 → (n : ℕ) × (16 ≤ length (own_calls k own) + n) × (1 ≤ n → TellsOn ch k n (calls_of k own) was s)
+  no_call none =
+      let calls = spent.turns in let own' = calls_among k own in
+      (0, omega (arith, calls, own', none), λ some. absurd (omega (arith, some)))
+
+  -- its calls and the parts of its stream are as many as one poll may make
+  spent_so : (state : State) → IsIn ch k state z s → HasTold x.state state left → IsSpent state left
+      → (n : ℕ) × (16 ≤ length (own_calls k own) + n) × (1 ≤ n → TellsOn ch k n (calls_of k own) was s)
+  spent_so (State.Streams given terms place out) here tells none =
+      let calls = spent.turns in let own' = calls_among k own in (
+        left.turns,
+        omega (arith, calls, own'),
+        λ some. tells_on ch k (calls_of k own) x z was s given terms place out left (omega (arith, calls)) none before.stands here tells,
+      )
+  spent_so State.Reads here tells none = no_call none
+  spent_so (State.Asks call terms early) here tells none = no_call none
+  spent_so (State.Waits ticket terms) here tells none = no_call none
+  spent_so (State.WaitsEarly ticket terms out) here tells none = no_call none
+  spent_so (State.Opens call terms) here tells none = no_call none
+  spent_so (State.Sends answer) here tells none = no_call none
+  spent_so (State.Refuses out status) here tells none = no_call none
+
+  pauses_so : (cause : Cause) (cx : Context) (b : List Step) → Extends was.to b → RoseBy 0 u.source.registered v.source.registered
+      → RoseBy 0 u.sink.registered v.sink.registered → WakesFor cause cx → HasTold x.state z.state left → WaitsFor cause ch k told.handed z.state b v w left s
+      → PausesFor cause ch k told (IsWoken cx) own u w was s
+  pauses_so Cause.Source cx b on source sink woken tells (rose, idle) = (rose_kept u.source.registered v.source.registered w.source.registered source rose, idle)
+  pauses_so Cause.Sink cx b on source sink woken tells rose = rose_kept u.sink.registered v.sink.registered w.sink.registered sink rose
+  pauses_so Cause.NotYet cx b on source sink woken tells (inl (n, begun, (at, from, to, late))) =
+      (woken.0, inl (n, begun, (at, extends_on was.to b at on from, to, late)))
+  pauses_so Cause.NotYet cx b on source sink woken tells (inr up) = (woken.0, inr (inl up))
+  pauses_so Cause.Yield cx b on source sink woken tells (inl (none, wants)) = (woken.0, inl (spent_so z.state behind.stands tells none, wants))
+  pauses_so Cause.Yield cx b on source sink woken tells (inr (inl none)) = (woken.0, inr (inl (tired u.source.gave w.source.gave left.reads none spent.reads)))
+  pauses_so Cause.Yield cx b on source sink woken tells (inr (inr none)) = (woken.0, inr (inr (tired u.sink.took w.sink.took left.writes none spent.writes)))
 
 -- ---- a poll
 
 module _ (k : ℕ) (told : Told) (x y z : Session) (cx : Context) (p q r : PassView) (u v w : Ports) (b c : Budget) where
   -- that waits
   pub polls_pending : (cause : Cause) → HasGone p.charter k told x y p q u v b → Steps p.charter k told (came.Pauses cause) y z q r v w b c
-      → WakesFor cause cx → IsLegal r.charter r.seen
+      → WakesFor cause cx → IsLegal r.charter r.seen → HasTold x.state z.state c
       → Polls k told (Pending cause) (IsAt p.charter k x) (IsAt p.charter k z) (IsWoken cx) p r u w
   unfolding goes_on
-  polls_pending cause f g woken legal =
+  polls_pending cause f g woken legal tells =
       let h : Goes k told.handed (IsPolled p.charter k told.stop x) (After (came.Pauses cause) p.charter k told z q.seen v w c) p r u w =
       goes_on k told.handed (IsPolled p.charter k told.stop x) (IsPolled p.charter k told.stop y) (After (came.Pauses cause) p.charter k told z q.seen v w c) p q r u v w
       f.goes g.goes in
@@ -164,8 +203,8 @@ module _ (k : ℕ) (told : Told) (x y z : Session) (cx : Context) (p q r : PassV
             let so = h.comes (told_stop s told.stop) is (stands_told s told u ports) (told_so p.charter k told.stop x s at) in (
               so.0.0,
               standing p.charter k z _ so.0.0,
-              pauses_so cause p.charter k told cx p.seen q.seen (f.goes.own ++ g.goes.own) u v w c _ (f.goes.own, f.goes.seen)
-                  f.spends.source_waits f.spends.sink_waits spent woken so.1,
+              pauses_so p.charter k told (f.goes.own ++ g.goes.own) u v w c x z s _ spent at so.0.0 cause cx q.seen
+                  (f.goes.own, f.goes.seen ∙ ap (λ l. l ++ f.goes.own) (sym is)) f.spends.source_waits f.spends.sink_waits woken tells so.1,
             );
         feeds = λ s is ports at. inl h.fed;
       }

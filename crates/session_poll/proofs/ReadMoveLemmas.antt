@@ -205,6 +205,7 @@ module _ (ch : Charter) (k : ℕ) (told : Told) (x : Session) (p : PassView) (v 
       → IsIn ch k state (behind_request reader n state) s
   begins_so reader n (State.Asks c terms early) s w (class, is, is') =
       (request_in reader, w.tail, w.read, w.reads, w.begins, class, is, is')
+  begins_so reader n (State.Opens c terms) s w (class, is) = (request_in reader, w.tail, w.read, w.reads, w.begins, class, is)
   begins_so reader n (State.Sends answer) s w (inl (direct, class, gives)) = (
     request_in reader,
     flow_of (terms_of (request_in reader)),
@@ -234,6 +235,7 @@ module _ (ch : Charter) (k : ℕ) (told : Told) (x : Session) (p : PassView) (v 
   begins_so reader n State.Reads s w none = absurd none
   begins_so reader n (State.Waits ticket terms) s w none = absurd none
   begins_so reader n (State.WaitsEarly ticket terms out) s w none = absurd none
+  begins_so reader n (State.Streams given terms place out) s w none = absurd none
   begins_so reader n (State.Refuses out status) s w none = absurd none
 
   -- its call is to be made, or it is answered at once

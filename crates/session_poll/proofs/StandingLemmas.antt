@@ -24,6 +24,8 @@ in_progress ch k State.Reads x s (bytes, read, reads) = (progress ch k s).reads 
 in_progress ch k (State.Asks call terms early) x s (r, tail, read, reads, begins, asks, is, is') = (progress ch k s).reads tail reads
 in_progress ch k (State.Waits ticket terms) x s (r, is, read, waits) = (progress ch k s).waits ticket r _ waits
 in_progress ch k (State.WaitsEarly ticket terms out) x s (r, is, read, waits) = (progress ch k s).early ticket r _ _ waits
+in_progress ch k (State.Opens call terms) x s (r, tail, read, reads, begins, opens, is) = (progress ch k s).reads tail reads
+in_progress ch k (State.Streams given terms place out) x s (r, body, is, read, streams) = (progress ch k s).streams r _ given place body _ streams
 in_progress ch k (State.Sends answer) x s (r, flow, read, sends, behind, decided) = (progress ch k s).sends flow r _ _ sends
 in_progress ch k (State.Refuses out status) x s refuses = (progress ch k s).refuses status _ refuses
 
@@ -39,6 +41,8 @@ in_beside ch k (State.Asks call terms early) x s b stays (r, tail, read, reads, 
     (r, tail, read, stays.reads tail reads, begins, asks, is, is')
 in_beside ch k (State.Waits ticket terms) x s b stays (r, is, read, waits) = (r, is, read, stays.waits ticket r _ waits)
 in_beside ch k (State.WaitsEarly ticket terms out) x s b stays (r, is, read, waits) = (r, is, read, stays.early ticket r _ _ waits)
+in_beside ch k (State.Opens call terms) x s b stays (r, tail, read, reads, begins, opens, is) = (r, tail, read, stays.reads tail reads, begins, opens, is)
+in_beside ch k (State.Streams given terms place out) x s b stays (r, body, is, read, streams) = (r, body, is, read, stays.streams r _ given place body _ streams)
 in_beside ch k (State.Sends answer) x s b stays (r, flow, read, sends, behind, decided) = (r, flow, read, stays.sends flow r _ _ sends, behind, decided)
 in_beside ch k (State.Refuses out status) x s b stays refuses = stays.refuses status _ refuses
 

@@ -10,7 +10,7 @@ use Rattle.engine_text.specs.declared.reply.Reply.{Reply}
 use Rattle.engine_text.specs.declared.reply.Reply.TheVariants as reply
 use Rattle.engine_text.specs.declared.step.Step.{Step}
 use Rattle.machine_model.specs.Statuses.{is_feed}
-use Rattle.machine_model.specs.History.{Charter, Extends, HasNone, input_of, is_own, moment_used, own_calls, state_after}
+use Rattle.machine_model.specs.History.{Charter, Extends, HasNone, bears, calls_of, input_of, is_own, moment_used, own_calls, state_after}
 use Rattle.session_model.specs.declared.turned.Turned.{Turned}
 use Rattle.session_model.specs.declared.turned.Turned.TheVariants as T
 use Rattle.session_model.specs.Exchange.{AtSome, IsMade, IsMadeAt, IsQuiet}
@@ -101,7 +101,7 @@ pub record Added (ch : Charter) (k m calls : ℕ) (a b : List Step) : Type 0 whe
   pub seen : b ≡ a ++ own
   pub stand : AllStandAt ch k m a a own
   pub fed : filter (feeds_end k) own ≡ []
-  pub counted : calls ≤ length (own_calls k own)
+  pub counted : calls ≤ length (calls_of k own)
 
 pub quiet_added : (ch : Charter) (k m : ℕ) (a b : List Step) → IsQuiet k a b → Added ch k m 0 a b
 quiet_added ch k m a b (others, none, is) = record {
@@ -113,12 +113,12 @@ quiet_added ch k m a b (others, none, is) = record {
 }
 
 -- its own call is one
-own_first : (k t : ℕ) (c : Call) (before behind : List Step) → 1 ≤ length (own_calls k (before ++ Step.Call k t c ∷ behind))
+own_first : (k t : ℕ) (c : Call) (before behind : List Step) → 1 ≤ length (calls_of k (before ++ Step.Call k t c ∷ behind))
 own_first k t c before behind =
     let e : (k == k) ≡ true = grind arith in
-    let one : own_calls k (Step.Call k t c ∷ behind) ≡ Step.Call k t c ∷ own_calls k behind = rw e refl in
-    let all = ap length (filter-append (is_own k) before (Step.Call k t c ∷ behind))
-    ∙ length-append (own_calls k before) (own_calls k (Step.Call k t c ∷ behind)) in
+    let one : calls_of k (Step.Call k t c ∷ behind) ≡ Step.Call k t c ∷ calls_of k behind = rw e refl in
+    let all = ap length (filter-append (bears k) before (Step.Call k t c ∷ behind))
+    ∙ length-append (calls_of k before) (calls_of k (Step.Call k t c ∷ behind)) in
     omega (arith, all, ap length one)
 
 -- of a call that was made

@@ -8,6 +8,7 @@ use Rattle.engine_ports.specs.Sink.{SinkTook}
 use Rattle.engine_ports.specs.Source.{SourceEnded, SourceGave, SourceView}
 use Rattle.engine_ports.proofs.PortLemmas.{rose_since, rose_until, sink_on, source_on}
 use Rattle.engine_text.specs.declared.call.Call.{Call}
+use Rattle.engine_text.specs.declared.reply.Reply.{Reply}
 use Rattle.http_edge.specs.Message.{Request}
 use Rattle.machine_model.specs.History.{Charter}
 use Rattle.session_model.specs.declared.followed.Followed.TheVariants as F
@@ -76,6 +77,36 @@ module _ (ch : Charter) (k : ℕ) (s : Span) (o : Outside) where
     wrote = x.wrote;
   }
 
+  pub streams_there : (r : Request) (behind : List ℕ) (given : Reply) (place : ℕ) (body rest : List ℕ) → stage.Streams ch k r behind given place body rest s
+      → stage.Streams ch k r behind given place body rest there
+  streams_there r behind given place body rest x = record {
+    c = x.c;
+    tail = x.tail;
+    mid = x.mid;
+    at = x.at;
+    now = x.now;
+    bytes = x.bytes;
+    sent = x.sent;
+    chunks = x.chunks;
+    early = x.early;
+    m = x.m;
+    late = x.late;
+    stands = x.stands;
+    begins = x.begins;
+    asks = x.asks;
+    form = x.form;
+    made = x.made;
+    told = x.told;
+    reaches = x.reaches;
+    comes = x.comes;
+    cut = x.cut;
+    since = x.since;
+    quiet = x.quiet;
+    whole = x.whole;
+    wrote = x.wrote;
+    handed = x.handed;
+  }
+
   pub sends_there : (flow : Flow) (r : Request) (behind rest : List ℕ) → stage.Sends ch k flow r behind rest s → stage.Sends ch k flow r behind rest there
   sends_there flow r behind rest x = record {
     tail = x.tail;
@@ -113,6 +144,9 @@ module _ (ch : Charter) (k : ℕ) (s : Span) (o : Outside) where
       (r, tail, read, reads_there tail reads, begins, asks, is, is')
   in_there (State.Waits ticket terms) x faults stops (r, is, read, waits) = (r, is, read, waits_there ticket r _ waits)
   in_there (State.WaitsEarly ticket terms out) x faults stops (r, is, read, waits) = (r, is, read, early_there ticket r _ _ waits)
+  in_there (State.Opens call terms) x faults stops (r, tail, read, reads, begins, opens, is) = (r, tail, read, reads_there tail reads, begins, opens, is)
+  in_there (State.Streams given terms place out) x faults stops (r, body, is, read, streams) =
+      (r, body, is, read, streams_there r _ given place body _ streams)
   in_there (State.Sends answer) x faults stops (r, flow, read, sends, behind, decided) =
       (r, flow, read, sends_there flow r _ _ sends, behind, (decided.0, decided.1, cause_on flow s.old s.new o decided.0 faults stops decided.2))
   in_there (State.Refuses out status) x faults stops refuses = refuses_there status _ refuses

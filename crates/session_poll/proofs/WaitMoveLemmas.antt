@@ -45,7 +45,7 @@ use Rattle.session_poll.specs.declared.state.Step.TheVariants as came
 use Rattle.session_poll.specs.declared.waiting.Over.{Over}
 use Rattle.session_poll.specs.declared.waiting.Over.TheVariants as over
 use Rattle.session_poll.specs.declared.waiting.Waited.TheVariants as waited
-use Rattle.session_poll.specs.Going.{After, Goes, IsPolled, Steps, ports_of}
+use Rattle.session_poll.specs.Going.{After, Goes, IsPolled, IsSpent, Steps, ports_of}
 use Rattle.session_poll.specs.Standing.{IsAt, IsIn, unread}
 use Rattle.session_poll.specs.Waiting.{AnswersOver, IsWaiting, OverSays, WaitedSays, calls_by as over_calls}
 use Rattle.session_poll.proofs.GoingLemmas.{goes_drop, goes_on, goes_written}
@@ -131,7 +131,7 @@ module _ (k : ℕ) (told : Told) (x : Session) (n : ℕ) (terms : Terms) (p : Pa
 
   -- a turn more is wanted
   pub wait_wanted : (v : Ports) (b : Budget) → b.turns ≡ 0 → Steps p.charter k told (came.Pauses Pause.Yield) x x p p v v b b
-  wait_wanted v b none = tired_of_turns p.charter k told x p b v none
+  wait_wanted v b none = tired_of_turns p.charter k told x p b v (subst (λ y. IsSpent y b) (sym waits) none)
       (λ s so. let here = waits_at s so.0 in inr (inl (n, here.0, here.3.0, unread x, s.written, here.3.2)))
 
   -- it waits on, behind a turn that made no call
@@ -152,7 +152,7 @@ module _ (k : ℕ) (told : Told) (x : Session) (n : ℕ) (terms : Terms) (p : Pa
   ticket_late q v b begun f =
       let held : HasBegun p.charter k n q.seen = subst (λ c. HasBegun c k n q.seen) f.moves.stays.charter (still_begun k told.handed n T.NotYet p q tt f begun) in
       steps_turn p.charter k told (came.Pauses Pause.NotYet) x x (Take n) T.NotYet p q v b b refl f refl refl (omega arith)
-      (λ s is ports (at, rose). ((waits_on q s is f.came.0 at, rose), (n, held, f.came.1)))
+      (λ s is ports (at, rose). ((waits_on q s is f.came.0 at, rose), inl (n, held, f.came.1)))
 
   -- it is taken
   pub ticket_taken : (q : PassView) (v : Ports) (b b' : Budget) (r : Reply) (answer : Answer) → 1 ≤ b.turns → b' ≡ record b { turns = b.turns - 1 }

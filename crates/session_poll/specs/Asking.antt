@@ -2,8 +2,9 @@
 use Rattle.std.specs.Prelude.{ℕ, ◌≡◌, ◌⊎◌, Bool, true, false}
 use Rattle.http_edge.specs.Message.{Request}
 use Rattle.api_routes.specs.Class.{class_of}
-use Rattle.api_routes.specs.declared.class.Class.TheVariants.{Ask, Direct}
+use Rattle.api_routes.specs.declared.class.Class.TheVariants.{Ask, Direct, Stream}
 use Rattle.api_routes.specs.declared.class.DirectAnswer.{DirectAnswer}
+use Rattle.api_routes.specs.declared.class.Takeover.{Takeover}
 use Rattle.session_model.specs.declared.terms.Terms.{Terms}
 use Rattle.session_model.specs.Exchange.{flow_of, is_early}
 use Rattle.session_model.specs.Responses.{direct_bytes, early_head, journal_full_response, out_of_memory_response, terms_of}
@@ -23,6 +24,7 @@ AnswersAtOnce r a =
 -- a request is whole: its call is to be made, or it is answered at once
 abbrev pub BeginsBy : Request → State → Type 0
 BeginsBy r (State.Asks call terms early) = (class_of r ≡ Ask call) × (terms ≡ terms_of r) × (early ≡ is_early r call)
+BeginsBy r (State.Opens call terms) = (class_of r ≡ Stream call Takeover.None) × (terms ≡ terms_of r)
 BeginsBy r (State.Sends answer) = AnswersAtOnce r answer
 BeginsBy r state = ⊥
 

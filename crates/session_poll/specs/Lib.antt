@@ -4,5 +4,6 @@ pub mod Left
 pub mod Writing
 pub mod Asking
 pub mod Waiting
+pub mod Streaming
 pub mod Sending
 pub mod Reading

@@ -3,10 +3,11 @@ use Rattle.std.specs.Prelude.{ℕ}
 use Rattle.machine_model.specs.History.{Charter}
 use Rattle.session_model.specs.Pass.{PassView}
 use Rattle.polled_model.specs.Polls.{Ports, Told}
-use Rattle.session_poll.specs.Going.{Steps}
+use Rattle.session_poll.specs.Going.{Steps, TellsBy}
 use Rattle.session_poll.specs.Left.{LeavesLess}
 use Rattle.session_poll.specs.declared.budget.Budget.{Budget}
 use Rattle.session_poll.specs.declared.session.Session.{Session}
+use Rattle.session_poll.specs.declared.state.State.{State}
 use Rattle.session_poll.specs.declared.state.Step.{Step as Came}
 use Rattle.session_poll.specs.declared.state.Step.TheVariants as came
 
@@ -17,6 +18,9 @@ StepsAlone k result x x' =
 
 abbrev pub LeavesLessAlone : Came → Session → Session → Type 0
 LeavesLessAlone result x x' = (b : Budget) → LeavesLess result x x' b b
+
+abbrev pub TellsAlone : State → State → Type 0
+TellsAlone state state' = (b : Budget) → TellsBy state state' b b
 
 -- it waits for nothing
 abbrev pub NeverPauses : Came → Type 0

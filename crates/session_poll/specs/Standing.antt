@@ -13,7 +13,8 @@ use Rattle.http_edge.specs.Spelling.{Begins}
 use Rattle.request_pieces.specs.Pushing.{IsFresh}
 use Rattle.request_pieces.specs.Standing.{HasTaken}
 use Rattle.api_routes.specs.Class.{class_of}
-use Rattle.api_routes.specs.declared.class.Class.TheVariants.{Ask}
+use Rattle.api_routes.specs.declared.class.Class.TheVariants.{Ask, Stream}
+use Rattle.api_routes.specs.declared.class.Takeover.{Takeover}
 use Rattle.session_model.specs.declared.followed.Followed.TheVariants as F
 use Rattle.session_model.specs.Exchange.{Flow, Leaves, IsQuiet, is_early}
 use Rattle.session_model.specs.Pass.{PassView}
@@ -78,6 +79,12 @@ module _ (ch : Charter) (k : ℕ) where
       (r : Request) × (terms ≡ terms_of r) × HasRead x [] × stage.Waits ch k ticket r (unread x) s
   IsIn (State.WaitsEarly ticket terms out) x s =
       (r : Request) × (terms ≡ terms_of r) × HasRead x [] × stage.WaitsEarly ch k ticket r (unread x) (rest_of out) s
+  IsIn (State.Opens call terms) x s =
+      (r : Request) × (tail : List ℕ) × HasRead x [] × stage.Reads ch k tail s × Begins tail r (unread x)
+      × (class_of r ≡ Stream call Takeover.None) × (terms ≡ terms_of r)
+  IsIn (State.Streams reply terms place out) x s =
+      (r : Request) × (body : List ℕ) × (terms ≡ terms_of r) × HasRead x []
+      × stage.Streams ch k r (unread x) reply place body (rest_of out) s
   IsIn (State.Sends answer) x s =
       (r : Request) × (flow : Flow) × HasRead x [] × stage.Sends ch k flow r (unread x) (rest_of answer.out) s
       × GoesBehind answer.next flow × IsDecided flow s

@@ -6,7 +6,7 @@ ghost use Rattle.polled_steps.specs.Turning.{IsAskedWhole};
 ghost use Rattle.session_poll.specs.Asking.{BeginsBy, GoesBy, HoldsBy, calls_of};
 
 use crate::state::State;
-use api_routes::{Class, Routes};
+use api_routes::{Class, Routes, Takeover};
 use engine_text::Call;
 use http_edge::RequestView;
 use polled_steps::{Asked, direct, early, journal_full, out_of_memory, replied};
@@ -24,6 +24,7 @@ pub(crate) fn begin(alloc: Global, routes: &Routes, request: &RequestView<'_>) -
             let early = is_early(request, &call);
             State::Asks { call, terms, early }
         }
+        Ok(Class::Stream(call, Takeover::None)) => State::Opens { call, terms },
         Ok(Class::Stream(_, _)) => State::Sends(out_of_memory(terms)),
         Err(_) => State::Sends(out_of_memory(terms)),
     }

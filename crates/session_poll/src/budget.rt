@@ -10,6 +10,8 @@ pub(crate) const MOVES: u32 = 64;
 #[derive(Clone, Copy, Debug, PartialEq, Eq)]
 pub(crate) struct Budget {
     pub(crate) turns: u32,
+    /// How many parts of the stream that is told.
+    pub(crate) parts: u32,
     pub(crate) reads: u32,
     pub(crate) writes: u32,
 }
@@ -18,10 +20,11 @@ impl Budget {
     ghost use Rattle.std.specs.Prelude.{◌≡◌};
 
     pub(crate) fn new() -> Budget
-        ensures { result ≡ record { turns = 16; reads = 64; writes = 64 } }
+        ensures { result ≡ record { turns = 16; parts = 16; reads = 64; writes = 64 } }
     {
         Budget {
             turns: TURNS,
+            parts: TURNS,
             reads: MOVES,
             writes: MOVES,
         }

@@ -7,6 +7,7 @@ mod laws;
 mod pausing;
 mod session;
 mod state;
+mod streaming;
 mod told;
 mod waiting;
 mod writing;

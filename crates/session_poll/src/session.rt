@@ -3,13 +3,15 @@ ghost use Rattle.std.specs.Prelude.{◌≡◌, IfOk, IsTrue};
 ghost use Rattle.futures.specs.Task.{Keeps};
 ghost use Rattle.session_model.specs.Pass.{IsConnection, IsNumber};
 ghost use Rattle.polled_model.specs.Polls.{Polls};
-ghost use Rattle.session_poll.specs.Going.{IsArmedBy, IsWokenBy, Steps, ports_of, told_of};
+ghost use Rattle.session_poll.specs.Going.{IsArmedBy, IsWokenBy, Steps, TellsBy, ports_of, told_of};
 ghost use Rattle.session_poll.specs.Left.{LeavesLess};
 ghost use Rattle.session_poll.specs.Standing.{CanPoll, IsAt, IsNew, IsWoken};
 
 mod asking;
+mod opening;
 mod reading;
 mod sending;
+mod streaming;
 mod waiting;
 
 use crate::budget::Budget;
@@ -123,6 +125,7 @@ impl Session {
             self.old self.new (T.pass turns.old) (T.pass turns.new)
             (ports_of (S.gives source.old) (K.takes sink.old))
             (ports_of (S.gives source.new) (K.takes sink.new)) budget.old budget.new }
+        ensures tells { TellsBy self.old.state self.new.state budget.old budget.new }
         ensures less { LeavesLess result self.old self.new budget.old budget.new }
         ensures conn { self.new.conn ≡ self.old.conn }
         ensures woken { IsWokenBy result cx.new }
@@ -139,6 +142,8 @@ impl Session {
                 let (ticket, terms) = (*ticket, *terms);
                 self.wait_early_on(ticket, terms, told, turns, sink, cx, budget)
             }
+            State::Opens { .. } => self.open_on(told, turns, cx, budget),
+            State::Streams { .. } => self.stream_on(told, turns, sink, cx, budget),
             State::Sends(_) => self.send_on(sink, cx, budget),
             State::Refuses { .. } => self.refuse_on(sink, cx, budget),
         }

@@ -1,5 +1,7 @@
 // Where a session stands.
-use engine_text::Call;
+ghost use Rattle.std.specs.Prelude.{◌≡◌};
+
+use engine_text::{Call, Reply};
 use polled_model::Cause;
 use polled_steps::{Answer, Outgoing};
 use session_model::{Ending, Terms};
@@ -26,6 +28,18 @@ pub(crate) enum State {
         terms: Terms,
         out: Outgoing,
     },
+    /// A request for a stream is whole, and its call is to be made.
+    Opens {
+        call: Call,
+        terms: Terms,
+    },
+    /// A reply gave a stream, which is told up to a place.
+    Streams {
+        reply: Reply,
+        terms: Terms,
+        place: u64,
+        out: Outgoing,
+    },
     /// An answer is on its way out.
     Sends(Answer),
     /// A refusal is on its way out.
@@ -41,4 +55,11 @@ pub(crate) enum Step {
     On,
     Pauses(Cause),
     Ends(Ending),
+}
+
+/// It stands so from now on.
+pub(crate) fn stand(state: &mut State, next: State)
+    ensures { state.new ≡ next }
+{
+    *state = next;
 }

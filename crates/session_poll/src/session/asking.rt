@@ -3,7 +3,7 @@ ghost use Rattle.std.specs.Prelude.{◌≡◌, IsTrue};
 ghost use Rattle.futures.specs.Task.{Keeps};
 ghost use Rattle.session_model.specs.Pass.{IsNumber};
 ghost use Rattle.session_poll.specs.Asking.{IsAsking};
-ghost use Rattle.session_poll.specs.Going.{IsWokenBy, StepsByTurn, told_of};
+ghost use Rattle.session_poll.specs.Going.{IsWokenBy, StepsByTurn, TellsBy, told_of};
 ghost use Rattle.session_poll.specs.Left.{LeavesLess};
 
 use crate::asking::{calls_of, go_by};
@@ -30,6 +30,7 @@ impl Session {
         requires asks { IsAsking self.old.state }
         ensures steps { StepsByTurn self.old.conn (told_of told.now) result self.old self.new
             (T.pass turns.old) (T.pass turns.new) budget.old budget.new }
+        ensures tells { TellsBy self.old.state self.new.state budget.old budget.new }
         ensures less { LeavesLess result self.old self.new budget.old budget.new }
         ensures conn { self.new.conn ≡ self.old.conn }
         ensures woken { IsWokenBy result cx.new }

@@ -1,9 +1,9 @@
 // A session between two requests, or inside one that isn't whole.
 ghost use Rattle.std.specs.Prelude.{◌≡◌, ◌<◌, ◌⊎◌, ℕ, List, false, IsTrue, length};
 ghost use Rattle.futures.specs.Task.{Keeps};
-ghost use Rattle.session_poll.specs.Going.{IsWokenBy, StepsBySource};
+ghost use Rattle.session_poll.specs.Going.{IsWokenBy, StepsBySource, TellsBy};
 ghost use Rattle.session_poll.specs.Left.{LeavesLess};
-ghost use Rattle.session_poll.specs.Reading.{LeavesLessAlone, NeverPauses, StepsAlone};
+ghost use Rattle.session_poll.specs.Reading.{LeavesLessAlone, NeverPauses, StepsAlone, TellsAlone};
 ghost use Rattle.session_poll.specs.Standing.{HasPiece, HasRead};
 ghost use Rattle.session_poll.specs.declared.state.State.{State as Stands};
 
@@ -11,7 +11,7 @@ use crate::asking::begin;
 use crate::budget::Budget;
 use crate::pausing::yields;
 use crate::session::Session;
-use crate::state::{State, Step};
+use crate::state::{State, Step, stand};
 use api_routes::Routes;
 use engine_ports::Got;
 use futures::task::{Context, Poll};
@@ -37,6 +37,7 @@ impl Session {
         requires piece { HasPiece self.old.from self.old.to (length self.old.piece.items) }
         ensures steps { StepsBySource self.old.conn result self.old self.new
             (S.gives source.old) (S.gives source.new) budget.old budget.new }
+        ensures tells { TellsBy self.old.state self.new.state budget.old budget.new }
         ensures less { LeavesLess result self.old self.new budget.old budget.new }
         ensures conn { self.new.conn ≡ self.old.conn }
         ensures woken { IsWokenBy result cx.new }
@@ -56,6 +57,7 @@ impl Session {
         requires piece { HasPiece self.old.from self.old.to (length self.old.piece.items) }
         requires some { (self.old.from < self.old.to) ⊎ IsTrue self.old.ended }
         ensures steps { StepsAlone self.old.conn result self.old self.new }
+        ensures tells { TellsAlone self.old.state self.new.state }
         ensures less { LeavesLessAlone result self.old self.new }
         ensures conn { self.new.conn ≡ self.old.conn }
         ensures never { NeverPauses result }
@@ -71,10 +73,8 @@ impl Session {
             Pushed::End => Step::Ends(Ending::Closed),
             Pushed::CutShort => Step::Ends(Ending::CutShort),
             Pushed::Bad { status, .. } => {
-                self.state = State::Refuses {
-                    out: refusal(status),
-                    status,
-                };
+                let out = refusal(status);
+                stand(&mut self.state, State::Refuses { out, status });
                 Step::On
             }
             Pushed::Request(used) => {
@@ -98,6 +98,7 @@ impl Session {
         requires goes_on { self.old.ended ≡ false }
         ensures steps { StepsBySource self.old.conn result self.old self.new
             (S.gives source.old) (S.gives source.new) budget.old budget.new }
+        ensures tells { TellsBy self.old.state self.new.state budget.old budget.new }
         ensures less { LeavesLess result self.old self.new budget.old budget.new }
         ensures conn { self.new.conn ≡ self.old.conn }
         ensures woken { IsWokenBy result cx.new }

@@ -1,7 +1,7 @@
 // A session that writes: an answer, a refusal, or a head that comes early.
 ghost use Rattle.std.specs.Prelude.{◌≡◌};
 ghost use Rattle.futures.specs.Task.{Keeps};
-ghost use Rattle.session_poll.specs.Going.{IsWokenBy, StepsBySink};
+ghost use Rattle.session_poll.specs.Going.{IsWokenBy, StepsBySink, TellsBy};
 ghost use Rattle.session_poll.specs.Left.{LeavesLess};
 ghost use Rattle.session_poll.specs.Sending.{IsRefusing, IsSending};
 
@@ -26,6 +26,7 @@ impl Session {
         requires { IsSending self.old.state }
         ensures steps { StepsBySink self.old.conn result self.old self.new
             (K.takes sink.old) (K.takes sink.new) budget.old budget.new }
+        ensures tells { TellsBy self.old.state self.new.state budget.old budget.new }
         ensures less { LeavesLess result self.old self.new budget.old budget.new }
         ensures conn { self.new.conn ≡ self.old.conn }
         ensures woken { IsWokenBy result cx.new }
@@ -59,6 +60,7 @@ impl Session {
         requires { IsRefusing self.old.state }
         ensures steps { StepsBySink self.old.conn result self.old self.new
             (K.takes sink.old) (K.takes sink.new) budget.old budget.new }
+        ensures tells { TellsBy self.old.state self.new.state budget.old budget.new }
         ensures less { LeavesLess result self.old self.new budget.old budget.new }
         ensures conn { self.new.conn ≡ self.old.conn }
         ensures woken { IsWokenBy result cx.new }

@@ -3,7 +3,7 @@ ghost use Rattle.std.specs.Prelude.{◌≡◌, IsTrue};
 ghost use Rattle.futures.specs.Task.{Keeps};
 ghost use Rattle.session_model.specs.Pass.{IsNumber};
 ghost use Rattle.session_model.specs.Turning.{HasBegun};
-ghost use Rattle.session_poll.specs.Going.{IsWokenBy, StepsByTurnAndSink, told_of};
+ghost use Rattle.session_poll.specs.Going.{IsWokenBy, StepsByTurnAndSink, TellsBy, told_of};
 ghost use Rattle.session_poll.specs.Left.{LeavesLess};
 ghost use Rattle.session_poll.specs.Waiting.{HasOpened, IsOpening, IsWaiting};
 
@@ -41,6 +41,7 @@ impl Session {
         ensures steps { StepsByTurnAndSink self.old.conn (told_of told.now) result self.old self.new
             (T.pass turns.old) (T.pass turns.new) (K.takes sink.old) (K.takes sink.new)
             budget.old budget.new }
+        ensures tells { TellsBy self.old.state self.new.state budget.old budget.new }
         ensures less { LeavesLess result self.old self.new budget.old budget.new }
         ensures conn { self.new.conn ≡ self.old.conn }
         ensures woken { IsWokenBy result cx.new }
@@ -79,6 +80,7 @@ impl Session {
         ensures steps { StepsByTurnAndSink self.old.conn (told_of told.now) result self.old self.new
             (T.pass turns.old) (T.pass turns.new) (K.takes sink.old) (K.takes sink.new)
             budget.old budget.new }
+        ensures tells { TellsBy self.old.state self.new.state budget.old budget.new }
         ensures less { LeavesLess result self.old self.new budget.old budget.new }
         ensures conn { self.new.conn ≡ self.old.conn }
         ensures woken { IsWokenBy result cx.new }
@@ -118,6 +120,7 @@ impl Session {
         ensures steps { StepsByTurnAndSink self.old.conn (told_of told.now) result self.old self.new
             (T.pass turns.old) (T.pass turns.new) (K.takes sink.old) (K.takes sink.new)
             budget.old budget.new }
+        ensures tells { TellsBy self.old.state self.new.state budget.old budget.new }
         ensures less { LeavesLess result self.old self.new budget.old budget.new }
         ensures conn { self.new.conn ≡ self.old.conn }
         ensures woken { IsWokenBy result cx.new }

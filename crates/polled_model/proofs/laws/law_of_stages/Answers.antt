@@ -10,7 +10,7 @@ returns c ch k s = record {
   reads = λ tail. reading ch k tail s;
   waits = λ n r behind. waiting ch k n r behind s;
   early = λ n r behind rest. waiting_early ch k n r behind rest s;
-  streams = λ r behind reply body rest. streaming ch k r behind reply body rest s;
+  streams = λ r behind reply place body rest. streaming ch k r behind reply place body rest s;
   writes = λ part rest. writing ch k part rest s;
   endings = ending ch k s;
 }

@@ -1,8 +1,9 @@
 use Rattle.std.proofs.Common.{refl, sym, ◌∙◌, subst}
 use Rattle.polled_model.specs.Polls.{Told}
 use Rattle.session_poll.specs.declared.state.Step.TheVariants as came
-use Rattle.session_poll.specs.Going.{HasGone, ports_of}
+use Rattle.session_poll.specs.Going.{HasGone, HasTold, ports_of}
 use Rattle.session_poll.proofs.PollLemmas.{can_now, gone_none, gone_on_by, polls_done, polls_pending, step_since}
+use Rattle.session_poll.proofs.ToldLemmas.{told_none, told_on}
 use Rattle.session_poll.proofs.session.Session.poll.Goals as goal
 
 pub more-init : goal.more-init
@@ -13,6 +14,7 @@ more-init g c =
     record {
       gone = subst (HasGone p.charter c.args.self.now.conn told c.args.self.now c.args.self.now p p v v) (sym c.new-budget.ensures)
           (gone_none p.charter c.args.self.now.conn told c.args.self.now p v);
+      told = subst (HasTold c.args.self.now.state c.args.self.now.state) (sym c.new-budget.ensures) (told_none c.args.self.now.state);
       conn = refl;
       kept = λ fact holds. holds;
     }
@@ -30,6 +32,7 @@ more-preserved g c =
       gone = gone_on_by p.charter c.args.self.now.conn told c.args.self.now c.more.self c.step.new.self p q r u v w c.more.budget c.step.new.budget c.more.invariant.gone
           (step_since c.args.self.now.conn told c.args.self.now c.more.self p q u v c.more.budget c.more.invariant.gone c.more.invariant.conn came.On c.step.new.self r w
           c.step.new.budget c.in-On.ensures.steps);
+      told = told_on c.args.self.now.state c.more.self.state c.step.new.self.state c.more.budget c.step.new.budget c.more.invariant.told c.in-On.ensures.tells;
       conn = c.in-On.ensures.conn ∙ c.more.invariant.conn;
       kept = λ fact holds. c.in-On.ensures.kept fact (c.more.invariant.kept fact holds);
     }
@@ -54,6 +57,7 @@ returns-in-Pauses-clause-polls g c =
     (step_since c.args.self.now.conn told c.args.self.now c.more.self p q u v c.more.budget c.more.invariant.gone c.more.invariant.conn (came.Pauses c.in-Pauses.cause)
     c.step.new.self r w c.step.new.budget c.in-Pauses.ensures.steps)
     c.in-Pauses.ensures.woken (g.met.T.Turns.sound c.step.new.turns)
+    (told_on c.args.self.now.state c.more.self.state c.step.new.self.state c.more.budget c.step.new.budget c.more.invariant.told c.in-Pauses.ensures.tells)
 
 pub returns-in-Ends-clause-polls : goal.returns-in-Ends-clause-polls
 returns-in-Ends-clause-polls g c =

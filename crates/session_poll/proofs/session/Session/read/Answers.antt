@@ -7,6 +7,7 @@ use Rattle.session_poll.specs.Going.{Steps, ports_of}
 use Rattle.session_poll.specs.declared.session.Session.{Session}
 use Rattle.session_poll.proofs.MoveLemmas.{tired_of_reads}
 use Rattle.session_poll.proofs.ReadMoveLemmas.{all_read, bytes_read, source_ended, source_failed, source_waits, still_fits}
+use Rattle.session_poll.proofs.ToldLemmas.{tells_same}
 use Rattle.session_poll.proofs.session.Session.read.Goals as goal
 
 pub returns-then-budget-eq0-clause-steps : goal.returns-then-budget-eq0-clause-steps
@@ -62,3 +63,18 @@ returns-in-Pending-clause-steps g c ch told p u =
     source_waits ch c.args.self.now.conn told c.args.self.now p (ports_of v u) (ports_of v' u) c.args.budget.now x' c.requires.reads c.requires.reads refl refl
     (all_read x' c.requires.none ∙ sym (all_read c.args.self.now c.requires.none))
     (still_fits x'.from x'.to (length c.args.self.now.piece.items) (length x'.piece.items) (ap length items ∙ size) c.requires.piece) c.requires.none says.0 says.1 says.2 refl
+
+pub returns-then-budget-eq0-clause-tells : goal.returns-then-budget-eq0-clause-tells
+returns-then-budget-eq0-clause-tells g c = tells_same c.args.self.now.state c.args.budget.now _ refl refl
+
+pub returns-in-Ready-Bytes-clause-tells : goal.returns-in-Ready-Bytes-clause-tells
+returns-in-Ready-Bytes-clause-tells g c = tells_same c.args.self.now.state c.args.budget.now _ refl refl
+
+pub returns-in-Ready-End-clause-tells : goal.returns-in-Ready-End-clause-tells
+returns-in-Ready-End-clause-tells g c = tells_same c.args.self.now.state c.args.budget.now _ refl refl
+
+pub returns-in-Ready-Failed-clause-tells : goal.returns-in-Ready-Failed-clause-tells
+returns-in-Ready-Failed-clause-tells g c = tells_same c.args.self.now.state c.args.budget.now _ refl refl
+
+pub returns-in-Pending-clause-tells : goal.returns-in-Pending-clause-tells
+returns-in-Pending-clause-tells g c = tells_same c.args.self.now.state c.args.budget.now _ refl refl

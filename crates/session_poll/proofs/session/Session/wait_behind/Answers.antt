@@ -1,7 +1,10 @@
-use Rattle.std.proofs.Common.{arith, subst, sym}
+use Rattle.std.proofs.Common.{arith, refl, subst, sym}
 use Rattle.session_poll.specs.Going.{Steps, ports_of, told_of}
 use Rattle.session_poll.specs.Waiting.{WaitedSays}
 use Rattle.session_poll.specs.declared.waiting.Waited.TheVariants as waited
+use Rattle.session_poll.specs.declared.state.State.{State}
+use Rattle.session_poll.proofs.LeftLemmas.{turn_less}
+use Rattle.session_poll.proofs.ToldLemmas.{tells_same}
 use Rattle.session_poll.proofs.EarlyMoveLemmas.{behind_gone, behind_late, behind_short, behind_stopped, behind_taken, early_wanted}
 use Rattle.session_poll.proofs.session.Session.wait_behind.Goals as goal
 
@@ -61,3 +64,22 @@ returns-in-Over-Replied-clause-steps g c s =
     c.in-Over-Replied.reply c.replied_early.result (g.met.T.Turns.sound c.args.turns.now) (omega (arith, c.if-budget-eq0.false))
     (subst (λ o. WaitedSays c.args.self.now.conn c.args.told.now.handed c.args.ticket c.args.told.now.stop (waited.Over o) p q u u') c.in-Over-Replied.field-0-is
     c.in-Over-Replied.ensures) c.replied_early.ensures
+
+pub returns-then-budget-eq0-clause-tells : goal.returns-then-budget-eq0-clause-tells
+returns-then-budget-eq0-clause-tells g c = tells_same c.args.self.now.state c.args.budget.now c.args.budget.now refl refl
+
+pub returns-in-NotYet-clause-tells : goal.returns-in-NotYet-clause-tells
+returns-in-NotYet-clause-tells g c = tells_same c.args.self.now.state c.args.budget.now c.args.budget.now refl refl
+
+pub returns-in-Gone-clause-tells : goal.returns-in-Gone-clause-tells
+returns-in-Gone-clause-tells g c = tells_same c.args.self.now.state c.args.budget.now c.args.budget.now refl refl
+
+pub returns-in-Over-NoMemory-clause-tells : goal.returns-in-Over-NoMemory-clause-tells
+returns-in-Over-NoMemory-clause-tells g c = tells_same c.args.self.now.state c.args.budget.now c.args.budget.now refl refl
+
+pub returns-in-Over-Stopped-clause-tells : goal.returns-in-Over-Stopped-clause-tells
+returns-in-Over-Stopped-clause-tells g c = tells_same c.args.self.now.state c.args.budget.now c.args.budget.now refl refl
+
+pub returns-in-Over-Replied-clause-less : goal.returns-in-Over-Replied-clause-less
+returns-in-Over-Replied-clause-less g c =
+    turn_less c.args.self.now (State.Sends c.replied_early.result) c.args.budget.now (omega (arith, c.if-budget-eq0.false))

@@ -1,6 +1,8 @@
-use Rattle.std.proofs.Common.{refl}
-use Rattle.session_poll.specs.Going.{ports_of, told_of}
+use Rattle.std.proofs.Common.{refl, subst, sym}
+use Rattle.session_poll.specs.Going.{TellsBy, ports_of, told_of}
+use Rattle.session_poll.specs.declared.state.State.{State}
 use Rattle.session_poll.proofs.EarlyMoveLemmas.{behind_head, head_fault, head_some, head_tired, head_waits}
+use Rattle.session_poll.proofs.ToldLemmas.{early_tells}
 use Rattle.session_poll.proofs.session.Session.wait_early_on.Goals as goal
 
 pub returns-in-All-clause-steps : goal.returns-in-All-clause-steps
@@ -28,3 +30,10 @@ returns-in-Fault-clause-steps g c s =
     head_fault c.args.self.now.conn (told_of c.args.told.now) c.args.self.now c.args.ticket c.args.terms c.requires.waits.0 (g.T.Turns.pass c.args.turns.now) c.requires.waits.1 _
     (g.T.Turns.pass c.drop_ticket.new.turns) (ports_of s (g.K.PollSink.takes c.args.sink.now)) (ports_of s (g.K.PollSink.takes c.write_on.new.sink)) _ _
     c.drop_ticket.ensures c.in-Fault.ensures.says.0.0 c.in-Fault.ensures.says.0.1 refl
+
+pub returns-in-All-clause-tells : goal.returns-in-All-clause-tells
+returns-in-All-clause-tells g c =
+    subst (λ y. TellsBy y c.wait_behind.new.self.state c.args.budget.now c.wait_behind.new.budget) (sym c.in-WaitsEarly.is)
+    (early_tells c.in-WaitsEarly.ticket c.in-WaitsEarly.terms c.in-WaitsEarly.out c.write_on.new.out c.wait_behind.new.self.state c.args.budget.now c.wait_behind.new.budget
+    (subst (λ b. TellsBy (State.WaitsEarly c.in-WaitsEarly.ticket c.in-WaitsEarly.terms c.write_on.new.out) c.wait_behind.new.self.state b c.wait_behind.new.budget)
+    c.in-All.ensures.says.3 c.wait_behind.ensures.tells))
