@@ -1,0 +1,16 @@
+pub mod OtherLemmas
+pub mod CallLemmas
+pub mod LiveLemmas
+pub mod NumberLemmas
+pub mod ServedLemmas
+pub mod NewLemmas
+pub mod StandLemmas
+pub mod PollLemmas
+pub mod DoorLemmas
+pub mod AskLemmas
+pub mod WaitLemmas
+pub mod FirstLemmas
+pub mod LoopLemmas
+pub mod InPollLemmas
+pub mod FrontLemmas
+pub mod PauseLemmas

@@ -1,0 +1,5 @@
+pub mod Lives
+pub mod Running
+pub mod Pausing
+pub mod Standing
+pub mod Looping
