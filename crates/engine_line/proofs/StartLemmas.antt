@@ -7,9 +7,11 @@ use Rattle.clap.specs.Kinds.{Kinds}
 use Rattle.clap.specs.Walk.{Row}
 use Rattle.api_routes.specs.Numeral.{number_of}
 use Rattle.engine_line.specs.Options.{fault_in, rows_in, value_in}
-use Rattle.engine_line.specs.Lines.{if_between, moment_in, stepping_of, stepping_in, work_of, seed_of, clock_of, connections_of, entries_of, is_stdio, line_in, line_by, line_of}
+use Rattle.engine_line.specs.Lines.{if_between, moment_in, port_in, stepping_of, stepping_in, work_of, seed_of, clock_of, connections_of, entries_of, is_stdio, line_in, line_by, line_of}
 use Rattle.engine_line.specs.declared.line.Stepping.{Stepping}
+use Rattle.engine_line.specs.OneLine.{beginning_of, flag_next, line_with, one_line_of, option_next}
 use Rattle.engine_line.specs.declared.line.Line.{Line}
+use Rattle.engine_line.specs.declared.line.OneLine.{OneLine}
 
 -- ---- steps of reading that go on where the one before gave a value
 
@@ -98,4 +100,36 @@ pub start_within : (words : List (List ℕ)) (line : Line) (s : Stepping) → li
 start_within words line s is clock =
     let within : Within line.clock =
     subst (λ (o : Option Line). IfSome o StartsWithin) is (by_faults (fault_in words) (rows_in words)) in
+    subst Within clock within
+
+-- ---- the line of one thread
+
+abbrev OneStartsWithin : OneLine → Type 0
+OneStartsWithin line = Within line.clock
+
+with_within : (addr : List ℕ) (seed clock connections journal : Option (List ℕ)) (reboot : Bool) (rest : List (List ℕ))
+    → IfSome (line_with addr seed clock connections journal reboot rest) OneStartsWithin
+with_within addr seed clock connections journal reboot [] =
+    goes_by OneStartsWithin (port_in addr) _ (λ port.
+    goes_by OneStartsWithin (beginning_of seed reboot) _ (λ beginning.
+    goes_on Within OneStartsWithin (clock_of clock) _ (clock_within clock) (λ clock within.
+    goes_by OneStartsWithin (connections_of connections) _ (λ connections.
+    goes_by OneStartsWithin (entries_of journal) _ (λ entries. within)))))
+with_within addr seed clock connections journal reboot (word ∷ words) = tt
+
+one_within : (words : List (List ℕ)) → IfSome (one_line_of words) OneStartsWithin
+one_within [] = tt
+one_within (addr ∷ words) =
+    let seed = option_next (codes "--seed") words in
+    let clock = option_next (codes "--clock") seed.1 in
+    let connections = option_next (codes "--connections") clock.1 in
+    let journal = option_next (codes "--journal") connections.1 in
+    let reboot = flag_next (codes "--reboot") journal.1 in
+    with_within addr seed.0 clock.0 connections.0 journal.0 reboot.0 reboot.1
+
+-- so does a line of `engineone`
+pub one_start_within : (words : List (List ℕ)) (line : OneLine) (s : Stepping) → one_line_of words ≡ Some line → line.clock ≡ Some s
+    → s.start ≤ 9_000_000_000_000
+one_start_within words line s is clock =
+    let within : Within line.clock = subst (λ (o : Option OneLine). IfSome o OneStartsWithin) is (one_within words) in
     subst Within clock within

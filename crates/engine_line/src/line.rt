@@ -30,3 +30,24 @@ pub struct Line {
     /// The greatest number of entries of the journal.
     pub entries: u32,
 }
+
+/// How the daemon of a line of `engineone` begins.
+#[derive(Clone, Copy, Debug, PartialEq, Eq)]
+pub enum Beginning {
+    /// Without a history, by this seed of ids.
+    New { seed: [u8; 32] },
+    /// With the written history that standard input gives.
+    Reboot,
+}
+
+/// What a line of `engineone` asks for: sessions of the connections that come to a port of 127.0.0.1, in one thread.
+#[derive(Clone, Copy, Debug, PartialEq, Eq)]
+pub struct OneLine {
+    pub port: u16,
+    pub beginning: Beginning,
+    pub clock: Option<Stepping>,
+    /// How many connections are taken in at most.
+    pub connections: Option<u32>,
+    /// The greatest number of entries of the journal.
+    pub entries: u32,
+}
