@@ -7,12 +7,12 @@ use Rattle.engine_text.specs.declared.memory.NoMemory.{NoMemory}
 use Rattle.machine_model.specs.History.{Charter}
 use Rattle.session_model.specs.declared.ending.Ending.{Ending}
 use Rattle.session_model.specs.declared.ending.Ending.TheVariants as E
-use Rattle.engine_serve.specs.OwnClock.{unstopped}
 use Rattle.drill_session.specs.declared.drill.Drilled.{Drilled}
 use Rattle.drill_session.specs.declared.drill.Drilled.TheVariants.{Reported, Ended}
 use Rattle.drill_session.proofs.DrillLemmas.{unrefused}
 use Rattle.drill_model.proofs.UnrefusedLemmas.{IsUnrefused}
-use Rattle.engine_program.specs.Statuses.{status_of}
+use Rattle.engine_serve.specs.OwnClock.{unstopped}
+use Rattle.program_parts.specs.Statuses.{status_of}
 use Rattle.engine_program.specs.Drilling.{DrillsBy, TellsDrilled}
 
 three : (e : Ending) → IsUnrefused e → status_of e ≡ 3 → ⊥

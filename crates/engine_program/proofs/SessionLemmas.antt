@@ -8,9 +8,9 @@ use Rattle.engine_ports.specs.Door.{outside}
 use Rattle.machine_model.specs.History.{IsLegal}
 use Rattle.session_model.specs.declared.ending.Ending.TheVariants.{NoMemory}
 use Rattle.session_model.specs.Pass.{PassView}
-use Rattle.engine_serve.specs.OwnClock.{unstopped}
 use Rattle.engine_serve.proofs.ServeLemmas.{ended_unread}
 use Rattle.daemon_shared.specs.Running.{ServesBy}
+use Rattle.engine_serve.specs.OwnClock.{unstopped}
 
 -- nothing was read or written
 pub unread : (steps : Option (ℕ × ℕ)) (k : ℕ) (p : PassView) (s : SourceView) (u : SinkView) (t : ClockView)

@@ -21,20 +21,17 @@ use Rattle.daemon_core.specs.declared.daemon.Daemon.{Daemon}
 use Rattle.daemon_core.specs.Passing.{whole_pass}
 use Rattle.daemon_core.specs.Storing.{pass_of}
 use Rattle.daemon_core.proofs.OwnFacts.{no_other}
-use Rattle.engine_serve.specs.OwnClock.{unstopped}
 use Rattle.daemon_shared.specs.Running.{ServesBy}
 use Rattle.drill_session.specs.declared.drill.Drilled.{Drilled}
 use Rattle.drill_session.specs.declared.drill.Drilled.TheVariants.{Reported, Ended}
 use Rattle.drill_session.proofs.DrillLemmas.{no_read_fault, stopped_by}
+use Rattle.engine_serve.specs.OwnClock.{unstopped}
+use Rattle.program_parts.specs.Statuses.{status_of}
+use Rattle.program_parts.proofs.StatusLemmas.{never_rose}
 use Rattle.engine_program.specs.Opening.{charter_by, steps_of}
-use Rattle.engine_program.specs.Statuses.{status_of}
 use Rattle.engine_program.specs.Drilling.{DrillsBy, TellsDrilled, RunsDrill}
 use Rattle.engine_program.specs.Running.{RunsSession}
 use Rattle.engine_program.specs.Program.{RunsLine, RunsProgram}
-
-never_rose : Rose 0 0 → ⊥
-never_rose (inl less) = omega (arith, less)
-never_rose (inr top) = omega (arith, top)
 
 -- status 5 is that of a stopped session alone
 five : (e : Ending) → status_of e ≡ 5 → e ≡ E.Stopped
@@ -153,7 +150,7 @@ pub no_line : (words : List (List ℕ)) (status : ℕ) (o o' : Outside) (d d' : 
 no_line words status o o' d d' none (inl wants) = inl wants.0
 no_line words status o o' d d' none (inr runs) =
     let told : RunsLine None status o o' d d' = subst (λ (l : Option Line). RunsLine l status o o' d d') none runs in
-    inr told.0.0.status_is
+    inr told.0.0.0
 
 -- ---- nobody else calls
 

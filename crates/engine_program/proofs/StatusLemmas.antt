@@ -10,7 +10,6 @@ use Rattle.engine_line.specs.declared.line.Line.{Line}
 use Rattle.engine_line.specs.declared.line.Stepping.{Stepping}
 use Rattle.machine_model.specs.History.{Charter}
 use Rattle.session_model.specs.declared.ending.Ending.{Ending}
-use Rattle.session_model.specs.declared.ending.Ending.TheVariants as E
 use Rattle.session_model.specs.declared.ending.Worst.{Worst}
 use Rattle.session_model.specs.declared.ending.Worst.TheVariants as W
 use Rattle.session_model.specs.Session.{EndingCause}
@@ -18,63 +17,21 @@ use Rattle.session_model.specs.Guarantee.{Serves}
 use Rattle.session_model.specs.Pass.{PassView}
 use Rattle.session_model.proofs.CauseLemmas.{causes}
 use Rattle.daemon_core.specs.declared.daemon.Daemon.{Daemon}
-use Rattle.engine_serve.specs.OwnClock.{unstopped}
 use Rattle.door_model.specs.Connections.{most_from}
 use Rattle.door_model.specs.Worsts.{called_by}
 use Rattle.daemon_shared.specs.Running.{ServesBy, Life, Lived, AllLived, Halts, RunsDaemon}
+use Rattle.engine_serve.specs.OwnClock.{unstopped}
+use Rattle.program_parts.specs.Statuses.{status_by}
+use Rattle.program_parts.proofs.StatusLemmas.{fault_alone, faulted, stopped_alone, unstopped_by}
 use Rattle.engine_program.specs.Opening.{charter_by, steps_of}
-use Rattle.engine_program.specs.Statuses.{status_by}
 use Rattle.engine_program.specs.Listening.{ServesDoor, Listens}
 use Rattle.engine_program.specs.Laws.{HasFailed, SomeFailed, law_never_stopped, law_failed}
-
-never_rose : Rose 0 0 → ⊥
-never_rose (inl less) = omega (arith, less)
-never_rose (inr top) = omega (arith, top)
-
--- the statuses differ
-stopped_alone : (w : Worst) → status_by w ≡ 5 → w ≡ W.Stopped
-stopped_alone W.Stopped is = refl
-stopped_alone W.NoMemory is = absurd (omega (arith, is))
-stopped_alone W.Fault is = absurd (omega (arith, is))
-stopped_alone W.Refused is = absurd (omega (arith, is))
-stopped_alone W.Closed is = absurd (omega (arith, is))
-
-fault_alone : (w : Worst) → status_by w ≡ 4 → w ≡ W.Fault
-fault_alone W.Fault is = refl
-fault_alone W.NoMemory is = absurd (omega (arith, is))
-fault_alone W.Stopped is = absurd (omega (arith, is))
-fault_alone W.Refused is = absurd (omega (arith, is))
-fault_alone W.Closed is = absurd (omega (arith, is))
 
 -- ---- one connection
 
 served_cause : (k : ℕ) (e : Ending) (p q : PassView) (o o' : Outside) → Serves k e p q o o' → EndingCause (Some e) o o'
 served_cause k e p q o o' v =
     causes p.charter k e v.pumps (record { read = v.read; written = v.written; handed = v.goes.handed; from = p.seen; to = q.seen; old = o; new = o' }) v.session
-
--- by a clock of the line's own no session is stopped
-unstopped_by : (e : Ending) (o o' : Outside) → o.clock ≡ unstopped → o'.clock ≡ unstopped → EndingCause (Some e) o o' → status_by (called_by e) ≡ 5 → ⊥
-unstopped_by E.Stopped o o' old new cause is = never_rose (subst (λ (z : ClockView × ClockView). Rose z.0.stops z.1.stops) (λ i. (old i, new i)) cause)
-unstopped_by E.Closed o o' old new cause is = omega (arith, is)
-unstopped_by E.CutShort o o' old new cause is = omega (arith, is)
-unstopped_by (E.Refused status) o o' old new cause is = omega (arith, is)
-unstopped_by E.JournalFull o o' old new cause is = omega (arith, is)
-unstopped_by (E.Lagged next first) o o' old new cause is = omega (arith, is)
-unstopped_by E.ReadFault o o' old new cause is = omega (arith, is)
-unstopped_by E.WriteFault o o' old new cause is = omega (arith, is)
-unstopped_by E.NoMemory o o' old new cause is = omega (arith, is)
-
--- a session that calls for a fault had one
-faulted : (e : Ending) (o o' : Outside) → EndingCause (Some e) o o' → status_by (called_by e) ≡ 4 → Rose o.source.faults o'.source.faults ⊎ Rose o.sink.faults o'.sink.faults
-faulted E.ReadFault o o' cause is = inl cause
-faulted E.WriteFault o o' cause is = inr cause
-faulted E.Closed o o' cause is = absurd (omega (arith, is))
-faulted E.CutShort o o' cause is = absurd (omega (arith, is))
-faulted (E.Refused status) o o' cause is = absurd (omega (arith, is))
-faulted E.Stopped o o' cause is = absurd (omega (arith, is))
-faulted E.JournalFull o o' cause is = absurd (omega (arith, is))
-faulted (E.Lagged next first) o o' cause is = absurd (omega (arith, is))
-faulted E.NoMemory o o' cause is = absurd (omega (arith, is))
 
 failed_by : (steps : Option (ℕ × ℕ)) (k : ℕ) (e : Ending) (p q : PassView) (o o' : Outside) → ServesBy steps k e p q o o' → status_by (called_by e) ≡ 4
     → Rose o.source.faults o'.source.faults ⊎ Rose o.sink.faults o'.sink.faults

@@ -8,12 +8,13 @@ use Rattle.engine_text.specs.declared.memory.NoMemory.{NoMemory}
 use Rattle.engine_line.specs.declared.line.Line.{Line}
 use Rattle.machine_model.specs.History.{Charter}
 use Rattle.session_model.specs.declared.ending.Worst.TheVariants as worst
-use Rattle.engine_serve.specs.OwnClock.{unstopped}
 use Rattle.drill_session.specs.Running.{Drills}
 use Rattle.drill_session.specs.declared.drill.Drilled.{Drilled}
 use Rattle.drill_session.specs.declared.drill.Drilled.TheVariants.{Reported, Ended}
-use Rattle.engine_program.specs.Opening.{charter_by, steps_of, OpensAt}
-use Rattle.engine_program.specs.Statuses.{status_by, status_of}
+use Rattle.engine_serve.specs.OwnClock.{unstopped}
+use Rattle.program_parts.specs.Opening.{OpensAt}
+use Rattle.program_parts.specs.Statuses.{status_by, status_of}
+use Rattle.engine_program.specs.Opening.{charter_by, steps_of}
 
 -- by the handed clock; or by the line's, which is never stopped, and the handed one isn't asked
 abbrev pub DrillsBy : Option (ℕ × ℕ) → Charter → ℕ → Result Drilled NoMemory → ClockView → ClockView → Type 0

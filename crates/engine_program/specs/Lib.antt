@@ -1,5 +1,4 @@
 pub mod Opening
-pub mod Statuses
 pub mod Running
 pub mod Listening
 pub mod Drilling

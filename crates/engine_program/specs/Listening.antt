@@ -1,5 +1,5 @@
 -- What a run of a line that listens says: of the door, the daemon and the status (own).
-use Rattle.std.specs.Prelude.{ℕ, ◌≡◌, ◌⊎◌, ◌++◌, List, codes, decimal}
+use Rattle.std.specs.Prelude.{ℕ, ◌≡◌, ◌⊎◌, List}
 use Rattle.engine_ports.specs.Rose.{Rose}
 use Rattle.engine_ports.specs.Clock.{ClockView}
 use Rattle.engine_ports.specs.Door.{Outside, DoorView, SameDoor, Binds}
@@ -9,8 +9,10 @@ use Rattle.session_model.specs.declared.ending.Worst.TheVariants.{NoMemory, Faul
 use Rattle.daemon_core.specs.declared.daemon.Daemon.{Daemon}
 use Rattle.door_model.specs.Connections.{most_from}
 use Rattle.daemon_shared.specs.Running.{RunsDaemon}
-use Rattle.engine_program.specs.Opening.{charter_by, steps_of, OpensAt}
-use Rattle.engine_program.specs.Statuses.{status_by}
+use Rattle.program_parts.specs.Address.{addr_of}
+use Rattle.program_parts.specs.Opening.{OpensAt}
+use Rattle.program_parts.specs.Statuses.{status_by}
+use Rattle.engine_program.specs.Opening.{charter_by, steps_of}
 
 -- a new daemon of the line's seed and entries served those who came to the bound door, the line's
 -- connections at most; without memory for a daemon the door isn't touched
@@ -29,10 +31,6 @@ pub record FailsToBind (status : ℕ) (t t' : ClockView) (d d' : DoorView) : Typ
   pub clock : t' ≡ t
   pub same : SameDoor d d'
   pub faults : Rose d.faults d'.faults
-
--- the ADDR of a port of this machine alone
-abbrev pub addr_of : ℕ → List ℕ
-addr_of port = codes "127.0.0.1:" ++ decimal port
 
 -- the door is bound to this address first
 abbrev pub Listens : List ℕ → Line → ℕ → ClockView → ClockView → DoorView → DoorView → Type 0

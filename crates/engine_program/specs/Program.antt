@@ -1,14 +1,13 @@
 -- What running `engined` says, by the words after the program's name (own).
-use Rattle.std.specs.Prelude.{ℕ, ◌≡◌, ◌⊎◌, List, Option, Some, None, Result, codes}
-use Rattle.engine_ports.specs.Sink.{SinkView, WriteSays}
+use Rattle.std.specs.Prelude.{ℕ, ◌≡◌, ◌⊎◌, List, Option, Some, None, codes}
 use Rattle.engine_ports.specs.Door.{Outside, DoorView}
-use Rattle.engine_ports.specs.declared.ports.Failed.{Failed}
 use Rattle.engine_line.specs.Lines.{line_of}
 use Rattle.engine_line.specs.declared.line.Line.{Line}
 use Rattle.engine_line.specs.declared.line.Work.{Work}
 use Rattle.engine_line.specs.declared.line.Work.TheVariants.{Stdio, Listen, Drill}
 use Rattle.session_model.specs.declared.ending.Worst.TheVariants.{NoMemory}
-use Rattle.engine_program.specs.Statuses.{status_by}
+use Rattle.program_parts.specs.Statuses.{status_by}
+use Rattle.program_parts.specs.Telling.{TellsUsage}
 use Rattle.engine_program.specs.Running.{RunsSession}
 use Rattle.engine_program.specs.Listening.{ListenSays}
 use Rattle.engine_program.specs.Drilling.{DrillSays}
@@ -17,16 +16,10 @@ use Rattle.engine_program.specs.Drilling.{DrillSays}
 abbrev pub usage_line : List ℕ
 usage_line = codes "usage: engined --stdio | --listen ADDR | --drill N [--seed HEX] [--clock START:STEP] [--connections N] [--journal N]\n"
 
--- a text on its use is written, or its write failed; the status is 2
-pub record TellsUsage (text : List ℕ) (status : ℕ) (u u' : SinkView) : Type 0 where
-  pub status_is : status ≡ 2
-  pub written : Result (Unit {0}) Failed
-  pub sink : WriteSays written text u u'
-
--- and nothing is read, and the clock isn't asked
+-- how it is used is told, nothing is read, and the clock isn't asked
 abbrev pub OnlyTells : List ℕ → ℕ → Outside → Outside → Type 0
-OnlyTells text status o o' =
-    TellsUsage text status o.sink o'.sink × (o'.source ≡ o.source) × (o'.clock ≡ o.clock)
+OnlyTells usage status o o' =
+    TellsUsage usage status o.sink o'.sink × (o'.source ≡ o.source) × (o'.clock ≡ o.clock)
 
 -- a line that listens takes connections in at its ADDR; for every other, and for no line, the door is as before
 abbrev pub RunsWork : Work → Line → ℕ → Outside → Outside → DoorView → DoorView → Type 0

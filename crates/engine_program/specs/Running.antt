@@ -10,8 +10,9 @@ use Rattle.daemon_core.specs.declared.daemon.Daemon.{Daemon}
 use Rattle.daemon_core.specs.Passing.{whole_pass}
 use Rattle.daemon_core.specs.Storing.{pass_of}
 use Rattle.daemon_shared.specs.Running.{ServesBy}
-use Rattle.engine_program.specs.Opening.{charter_by, steps_of, OpensAt}
-use Rattle.engine_program.specs.Statuses.{status_of}
+use Rattle.program_parts.specs.Opening.{OpensAt}
+use Rattle.program_parts.specs.Statuses.{status_of}
+use Rattle.engine_program.specs.Opening.{charter_by, steps_of}
 
 -- what the session has seen is the whole history of its daemon; without memory for one, nothing
 abbrev pub SawAll : Ending → PassView → Type 0

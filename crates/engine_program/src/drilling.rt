@@ -2,17 +2,17 @@
 ghost use Rattle.std.specs.Prelude.{◌≡◌, ◌≤◌};
 ghost use Rattle.machine_model.specs.History.{greatest_moment};
 ghost use Rattle.drill_session.specs.Running as spec;
-ghost use Rattle.engine_program.specs.Opening.{StartsWithin};
+ghost use Rattle.program_parts.specs.Opening.{StartsWithin};
 ghost use Rattle.engine_program.specs.Drilling.{DrillsBy, RunsDrill, TellsDrilled, status_written};
 
-use crate::opening::{opening_by, steps_of};
-use crate::status::status_by;
+use crate::opening::steps_of;
 use door_model::called_by;
 use drill_session::{Drill, Drilled, drilled};
 use engine_line::Line;
 use engine_ports::{Clock, Failed, Sink};
 use engine_serve::OwnClock;
 use engine_text::NoMemory;
+use program_parts::{opening_by, status_by};
 use session_model::Worst;
 use std::alloc::Global;
 use std::sync::Wait;
@@ -69,7 +69,7 @@ pub fn run_line_drill<R: Threads + Wait + Sync, K: Sink, C: Clock>(
     sink: &mut K,
     clock: &mut C,
 ) -> u8
-    requires { StartsWithin line }
+    requires { StartsWithin line.clock }
     ensures { RunsDrill line requests result (K.takes sink.old) (K.takes sink.new)
         (C.times clock.old) (C.times clock.new) }
 {

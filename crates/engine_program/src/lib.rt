@@ -7,8 +7,6 @@ mod listening;
 mod opening;
 mod program;
 mod running;
-mod status;
-mod telling;
 
 pub use laws::{law_of_faults, law_of_stops};
 pub use program::run_engined;

@@ -1,26 +1,18 @@
 // A line that listens.
-ghost use Rattle.std.specs.Prelude.{◌≡◌, IfOk, string_bytes};
-ghost use Rattle.engine_program.specs.Opening.{StartsWithin};
-ghost use Rattle.engine_program.specs.Listening.{ServesDoor, Listens, addr_of};
+ghost use Rattle.program_parts.specs.Opening.{StartsWithin};
+ghost use Rattle.engine_program.specs.Listening.{ServesDoor, Listens};
 
-use crate::opening::{opening_by, steps_of};
-use crate::status::status_by;
+use crate::opening::steps_of;
 use api_routes::Routes;
 use daemon_shared::{Opening, run_daemon};
 use engine_line::Line;
 use engine_ports::{Clock, Door};
 use engine_serve::law_routes_are_shared;
+use program_parts::{opening_by, status_by};
 use session_model::Worst;
-use std::alloc::{AllocError, Global};
+use std::alloc::Global;
 use std::sync::Wait;
 use std::thread::Threads;
-
-/// The address of a port of this machine alone.
-pub fn address_of(alloc: Global, port: u16) -> Result<String, AllocError>
-    ensures { IfOk result (λ s. string_bytes s ≡ addr_of port) }
-{
-    format!(in alloc; "127.0.0.1:{port}")
-}
 
 /// Serves the connections of a bound door by a new daemon, as the line sets it.
 fn serve_door<R: Threads + Wait + Sync, C: Clock, D: Door>(
@@ -30,7 +22,7 @@ fn serve_door<R: Threads + Wait + Sync, C: Clock, D: Door>(
     clock: &mut C,
     door: &mut D,
 ) -> u8
-    requires { StartsWithin line }
+    requires { StartsWithin line.clock }
     ensures { ServesDoor line result (C.times clock.old) (C.times clock.new)
         (D.opens door.old) (D.opens door.new) }
 {
@@ -60,7 +52,7 @@ pub fn listen<R: Threads + Wait + Sync, C: Clock, D: Door>(
     clock: &mut C,
     door: &mut D,
 ) -> u8
-    requires { StartsWithin line }
+    requires { StartsWithin line.clock }
     ensures { Listens addr.now line result (C.times clock.old) (C.times clock.new)
         (D.opens door.old) (D.opens door.new) }
 {

@@ -3,17 +3,20 @@ ghost use Rattle.engine_ports.specs.Door.{outside};
 ghost use Rattle.engine_program.specs.Program.{RunsProgram};
 
 use crate::drilling::run_line_drill;
-use crate::listening::{address_of, listen};
+use crate::listening::listen;
 use crate::running::run_session;
-use crate::status::status_by;
-use crate::telling::{USAGE, tell};
 use engine_line::{Work, read_line};
 use engine_ports::{Clock, Door, Sink, Source};
 use engine_text::Text;
+use program_parts::{address_of, status_by, tell_usage};
 use session_model::Worst;
 use std::alloc::Global;
 use std::sync::Wait;
 use std::thread::Threads;
+
+/// What is written where the words aren't a line.
+const USAGE: &str =
+    "usage: engined --stdio | --listen ADDR | --drill N [--seed HEX] [--clock START:STEP] [--connections N] [--journal N]\n";
 
 /// Runs `engined` with the words after the program's name, and answers its status.
 pub fn run_engined<R: Threads + Wait + Sync, S: Source, K: Sink, C: Clock, D: Door>(
@@ -34,7 +37,7 @@ pub fn run_engined<R: Threads + Wait + Sync, S: Source, K: Sink, C: Clock, D: Do
         return status_by(Worst::NoMemory);
     };
     match line {
-        None => tell(sink, USAGE),
+        None => tell_usage(sink, USAGE),
         Some(line) => match line.work {
             Work::Stdio => run_session(rt, alloc, line, source, sink, clock),
             Work::Listen(port) => match address_of(alloc, port) {

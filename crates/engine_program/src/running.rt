@@ -4,11 +4,11 @@ ghost use Rattle.machine_model.specs.History.{greatest_moment};
 ghost use Rattle.engine_ports.specs.Door.{outside};
 ghost use Rattle.daemon_core.specs.Passing.{whole_pass};
 ghost use Rattle.daemon_core.specs.Storing.{pass_of};
-ghost use Rattle.engine_program.specs.Opening.{charter_by, StartsWithin};
+ghost use Rattle.program_parts.specs.Opening.{StartsWithin};
+ghost use Rattle.engine_program.specs.Opening.{charter_by};
 ghost use Rattle.engine_program.specs.Running.{RunsSession};
 
-use crate::opening::{opening_by, steps_of};
-use crate::status::status_by;
+use crate::opening::steps_of;
 use api_routes::Routes;
 use daemon_core::{Alone, Daemon};
 use daemon_shared::serve_by;
@@ -17,6 +17,7 @@ use engine_line::Line;
 use engine_ports::{Clock, Sink, Source};
 use engine_serve::law_routes_are_shared;
 use engine_text::NoMemory;
+use program_parts::{opening_by, status_by};
 use session_model::Worst;
 use std::alloc::Global;
 use std::sync::Wait;
@@ -41,7 +42,7 @@ pub fn run_session<R: Threads + Wait + Sync, S: Source, K: Sink, C: Clock>(
     sink: &mut K,
     clock: &mut C,
 ) -> u8
-    requires { StartsWithin line }
+    requires { StartsWithin line.clock }
     ensures { RunsSession line result
         (outside (S.gives source.old) (K.takes sink.old) (C.times clock.old))
         (outside (S.gives source.new) (K.takes sink.new) (C.times clock.new)) }

@@ -6,7 +6,7 @@ use Rattle.daemon_core.specs.Passing.{alone_pass, whole_pass}
 use Rattle.daemon_core.specs.Storing.{pass_of}
 use Rattle.daemon_shared.specs.Running.{ServesBy}
 use Rattle.engine_program.specs.Opening.{charter_by, steps_of}
-use Rattle.engine_program.specs.Statuses.{status_by}
+use Rattle.program_parts.specs.Statuses.{status_by}
 use Rattle.engine_program.proofs.SessionLemmas.{unread}
 use Rattle.engine_program.proofs.running.run_session.Goals as goal
 

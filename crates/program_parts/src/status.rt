@@ -1,6 +1,6 @@
 // The statuses that a run ends with.
 ghost use Rattle.std.specs.Prelude.{◌≡◌};
-ghost use Rattle.engine_program.specs.Statuses.{status_by};
+ghost use Rattle.program_parts.specs.Statuses.{status_by};
 
 use session_model::Worst;
 

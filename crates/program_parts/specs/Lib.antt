@@ -1,0 +1,4 @@
+pub mod Address
+pub mod Opening
+pub mod Statuses
+pub mod Telling
