@@ -1,0 +1,5 @@
+pub mod ReadLemmas
+pub mod TextLemmas
+pub mod ListenLemmas
+pub mod RebootLemmas
+pub mod StatusLemmas
