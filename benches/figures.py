@@ -4,10 +4,10 @@ its memory; beside Debian's docker.io and nginx, with the ratio; and which of th
 
 Usage: benches/figures.py WHERE [WHERE ..] [--dockc PATH] [--small]
 WHERE is the path of a daemon of this API, of which each part starts a new one, or the address of a new one that listens: rows among many
-containers, and of a log's record, stay empty then. Each is a column, named by its program or as in NAME=WHERE. PATH is dockc's, which
-replays journals; without it, the one that was built beside the first WHERE, if there is any. It needs wrk; docker's part needs root,
-docker.io and busybox-static, nginx's nginx-light: the column of a peer that isn't here stays empty. --small asks for a bit of all, to
-see that it works: such figures tell nothing. It isn't part of the gate.
+containers, and of a log's record, stay empty then; and of engineone those of takeovers. Each is a column, named by its program or as in
+NAME=WHERE. PATH is dockc's, which replays journals; without it, the one that was built beside the first WHERE, if there is any. It needs
+wrk; docker's part needs root, docker.io and busybox-static, nginx's nginx-light: the column of a peer that isn't here stays empty.
+--small asks for a bit of all, to see that it works: such figures tell nothing. It isn't part of the gate.
 """
 import argparse
 import contextlib
@@ -72,6 +72,11 @@ def asking(servers):
     return {name: Asked(server) for name, server in servers.items() if server.words}
 
 
+def taking_over(asks):
+    """Those of them that let connections be taken over."""
+    return {name: asked for name, asked in asks.items() if asked.server.takes_over}
+
+
 def take(figures, count, samples):
     """Notes the medians of samples, by their row and column, taken in turn."""
     for (key, name), each_second in in_turn(count, samples).items():
@@ -132,7 +137,7 @@ def calls(figures, few, static, size):
         asked.run("noise")
         asked.run("last", ends=False)
     take(figures, size.rounds, each("wait", few, Asked.waits))
-    take(figures, size.rounds, each("exec", few, lambda asked: asked.execs(exec_attached)))
+    take(figures, size.rounds, each("exec", taking_over(few), lambda asked: asked.execs(exec_attached)))
     take(figures, size.rounds, each("exec_detached", few, lambda asked: asked.execs(exec_detached)))
     take(figures, size.rounds, each("log_line", few, lambda asked: asked.logs("line")))
     files = each("log_whole", static, lambda server: lambda: rate(server.port, "/noise", SECONDS))
@@ -298,9 +303,11 @@ def measure(figures, daemons, peers, dockc, size):
         told(f"{time.monotonic() - begun:.0f} s: calls")
     with opened(daemons) as servers:
         asks = asking(servers | peers)
-        follow(figures, asks, size)
+        fed = taking_over(asks)
+        follow(figures, fed, size)
         for name, asked in asks.items():
-            attach(figures, name, asked, size)
+            if name in fed:
+                attach(figures, name, asked, size)
             events(figures, name, asked, size)
         waits(figures, asks, size)
     told(f"{time.monotonic() - begun:.0f} s: streams and waits")

@@ -110,6 +110,7 @@ class Server:
 
     def __init__(self, name, port, started=None, words=None, image="", room=None):
         self.name, self.port, self.started, self.words, self.image, self.room = name, port, started, words, image, room
+        self.takes_over = True
         self.process = started.pid if started else listener_at(port)
         self.is_ours = words is OURS
 
@@ -212,12 +213,14 @@ def engined(where, *words):
     name, place = named(where)
     if not os.path.exists(place):
         return Server(name, int(place.rpartition(":")[2]), None, OURS, "engine/tools")
-    port = free_port()
-    line = [os.path.abspath(place), "--listen", f"127.0.0.1:{port}", *words]
-    started = subprocess.Popen(line, stdin=subprocess.DEVNULL, stdout=subprocess.DEVNULL)
+    port, is_single = free_port(), os.path.basename(place) == "engineone"
+    listens = [f"127.0.0.1:{port}"] if is_single else ["--listen", f"127.0.0.1:{port}"]
+    started = subprocess.Popen([os.path.abspath(place), *listens, *words], stdin=subprocess.DEVNULL, stdout=subprocess.DEVNULL)
     if not wait_for(port):
         raise SystemExit(f"{name} didn't come up")
-    return Server(name, port, started, OURS, "engine/tools")
+    server = Server(name, port, started, OURS, "engine/tools")
+    server.takes_over = not is_single
+    return server
 
 
 def busybox():
