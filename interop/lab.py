@@ -33,9 +33,11 @@ class Lab:
         self.daemon = int(self.line["listening"].rpartition(":")[2])
         self.control = int(self.line["control"].rpartition(":")[2])
 
-    def ask(self, method, path, body=None, port=None):
+    def ask(self, method, path, body=None, port=None, **fields):
         link = http.client.HTTPConnection("127.0.0.1", port or self.daemon, timeout=20)
-        fields = {"Content-Type": "application/json"} if body else {}
+        fields = {name.replace("_", "-"): value for name, value in fields.items()}
+        if body:
+            fields["Content-Type"] = "application/json"
         link.request(method, path, json.dumps(body) if body else None, fields)
         answer = link.getresponse()
         it = answer.status, answer.read().decode()
@@ -129,6 +131,27 @@ while piece := link.recv(65536):
     got += piece
 same("three at once, each in its place", [got.find(it) for it in (b"OK", b"IndexServerAddress", b"MinAPIVersion")] == sorted(got.find(it) for it in (b"OK", b"IndexServerAddress", b"MinAPIVersion")) and min(got.find(it) for it in (b"OK", b"IndexServerAddress", b"MinAPIVersion")) > 0, True)
 
+# ---- the head of a wait
+def head_of_a_wait(fields):
+    """What came of the answer to a wait within half a second."""
+    link = socket.create_connection(("127.0.0.1", lab.daemon))
+    link.settimeout(0.5)
+    link.sendall(f"POST /v1.43/containers/early/wait HTTP/1.1\r\nHost: x\r\n{fields}\r\n".encode())
+    try:
+        got = link.recv(65536)
+    except TimeoutError:
+        got = b""
+    link.close()
+    return got.partition(b"\r\n")[0]
+
+
+same("a create", lab.ask("POST", "/v1.43/containers/create?name=early", {"Image": "engine/tools", "Cmd": ["deaf"]})[0], 201)
+same("and its start", lab.ask("POST", "/v1.43/containers/early/start")[0], 204)
+same("the head of a wait comes early", head_of_a_wait("Content-Length: 0\r\n"), b"HTTP/1.1 200 OK")
+same("to every client", head_of_a_wait("User-Agent: compose\r\n"), b"HTTP/1.1 200 OK")
+same("but where it says no", head_of_a_wait("X-Engine-Early: no\r\n"), b"")
+same("its removal", lab.ask("DELETE", "/v1.43/containers/early?force=1")[0], 204)
+
 # ---- a wait that a move ends
 same("a create", lab.ask("POST", "/v1.43/containers/create?name=long", {"Image": "engine/tools", "Cmd": ["sleep", "60000"]})[0], 201)
 same("its start", lab.ask("POST", "/v1.43/containers/long/start")[0], 204)
@@ -154,7 +177,7 @@ if dockc:
 # ---- its end by control, beside those that wait
 same("another create", lab.ask("POST", "/v1.43/containers/create?name=other", {"Image": "engine/tools", "Cmd": ["deaf"]})[0], 201)
 same("and start", lab.ask("POST", "/v1.43/containers/other/start")[0], 204)
-waiting, answers = in_thread(lambda: lab.ask("POST", "/v1.43/containers/other/wait"))
+waiting, answers = in_thread(lambda: lab.ask("POST", "/v1.43/containers/other/wait", X_Engine_Early="no"))
 events, told = in_thread(lambda: lab.ask("GET", "/v1.43/events"))
 idle = [socket.create_connection(("127.0.0.1", port)) for port in (lab.daemon, lab.control) * 5]
 half = socket.create_connection(("127.0.0.1", lab.daemon))

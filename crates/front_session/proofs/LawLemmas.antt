@@ -6,19 +6,21 @@ use Rattle.engine_ports.specs.Source.{SourceView, SourceGave}
 use Rattle.engine_ports.specs.Sink.{SinkView, SinkTook}
 use Rattle.engine_ports.proofs.PortLemmas.{source_none, source_on, sink_none, sink_on}
 use Rattle.http_edge.specs.Message.{Request}
-use Rattle.http_edge.specs.Spelling.{Begins, HasNoRequest, ReadsRequests}
+use Rattle.http_edge.specs.Spelling.{head_framing, Spells, Begins, HasNoRequest, ReadsRequests}
 use Rattle.http_edge.proofs.StreamLemmas.{one_request}
 use Rattle.http_edge.proofs.ReadingLemmas.{behind_less}
+use Rattle.lab_handed.specs.Early.{with_field, handed}
+use Rattle.lab_handed.proofs.SpellLemmas.{handed_spells}
 use Rattle.front_session.specs.Ways.{way_of}
 use Rattle.front_session.specs.Fronts.{Deed, Hands, Writes, answer_by, handing, writing, deeds_by, last_deeds, GoesOn, Lasts, Fronts, IsFronted}
 use Rattle.front_session.specs.Front.{new_front, Goes, DoesStill}
 use Rattle.front_session.specs.Reads.{Whole, whole, joined}
-use Rattle.front_session.specs.Laws.{handed_of, written_of, seen_by, seen_of, Runs, NoneYet, OneMore}
+use Rattle.front_session.specs.Laws.{handed_of, written_of, IsSeenAs, SeenBy, AreSeen, Runs, NoneYet, OneMore}
 use Rattle.front_session.specs.declared.choosing.Way.{Way}
-use Rattle.front_session.specs.declared.choosing.Way.TheVariants.{Answered, Closes, HandedOn, Opens}
+use Rattle.front_session.specs.declared.choosing.Way.TheVariants.{Answered, Closes, HandedOn, Early, Opens}
 use Rattle.front_session.specs.declared.standing.Stage.{Stage}
 use Rattle.front_session.specs.declared.standing.Stage.TheVariants.{Within, Open, Closed, Ended, Lost}
-use Rattle.front_session.proofs.BytesLemmas.{begins_told, same_front, within_none}
+use Rattle.front_session.proofs.BytesLemmas.{begins_told, way_spelled, early_framed, same_front, within_none}
 
 -- ---- something is done
 
@@ -43,6 +45,7 @@ done_step bytes (inl (r, behind, b)) shorter = by (way_of r) refl
     by (Closes row) is = last (Closes row) is (λ goes. goes)
     by (Answered row) is = one_by bytes behind r b (subst GoesOn (sym is) tt) (shorter behind (behind_less bytes behind r b))
     by (HandedOn n) is = one_by bytes behind r b (subst GoesOn (sym is) tt) (shorter behind (behind_less bytes behind r b))
+    by Early is = one_by bytes behind r b (subst GoesOn (sym is) tt) (shorter behind (behind_less bytes behind r b))
 
 done_up_to : (n : ℕ) (bytes : List ℕ) → length bytes ≤ n → IsDone bytes
 done_up_to zero bytes le = done_step bytes (begins_told bytes) (λ behind less. absurd (omega (arith, less, le)))
@@ -103,45 +106,78 @@ written_by : (texts : List (List ℕ)) (handed : List ℕ) → written_of (writi
 written_by texts handed =
     written_on (writing texts) (handing handed) ∙ (λ i. written_texts texts i ++ written_none handed i) ∙ append-nil (joined texts)
 
-abbrev Sees : List Request → List Request → List ℕ → List Deed → Type 0
-Sees requests seen bytes deeds =
-    (rest : List ℕ) × (left : List ℕ) × ReadsRequests bytes requests rest × ReadsRequests (handed_of deeds) seen left
-    × ((left ≡ rest) ⊎ (left ≡ []))
+-- what is handed on reads so
+abbrev Sees : List Request → (List Request → Type 0) → List ℕ → List Deed → Type 0
+Sees requests Are bytes deeds =
+    (rest : List ℕ) × (left : List ℕ) × (seen : List Request) × ReadsRequests bytes requests rest
+    × ReadsRequests (handed_of deeds) seen left × Are seen × ((left ≡ rest) ⊎ (left ≡ []))
 
 -- what comes last
-sees_last : (bytes : List ℕ) (deeds : List Deed) → Lasts bytes deeds → Sees [] [] bytes deeds
-sees_last bytes deeds (inl (none, e)) = (bytes, bytes, refl, ap handed_of e ∙ handed_all bytes, inl refl)
+sees_last : (bytes : List ℕ) (deeds : List Deed) → Lasts bytes deeds → Sees [] (AreSeen []) bytes deeds
+sees_last bytes deeds (inl (none, e)) = (bytes, bytes, [], refl, ap handed_of e ∙ handed_all bytes, refl, inl refl)
 sees_last bytes deeds (inr (r, behind, b, stops, e)) = by (way_of r) refl e
   where
-    all : deeds ≡ handing bytes → Sees [] [] bytes deeds
-    all e = (bytes, bytes, refl, ap handed_of e ∙ handed_all bytes, inl refl)
+    all : deeds ≡ handing bytes → Sees [] (AreSeen []) bytes deeds
+    all e = (bytes, bytes, [], refl, ap handed_of e ∙ handed_all bytes, refl, inl refl)
 
-    by : (w : Way) → way_of r ≡ w → deeds ≡ last_deeds (way_of r) r bytes → Sees [] [] bytes deeds
+    by : (w : Way) → way_of r ≡ w → deeds ≡ last_deeds (way_of r) r bytes → Sees [] (AreSeen []) bytes deeds
     by (Closes row) is e =
         let d : deeds ≡ Writes (answer_by r row) ∷ [] = e ∙ ap (λ w. last_deeds w r bytes) is in
-        (bytes, [], refl, ap handed_of d, inr refl)
+        (bytes, [], [], refl, ap handed_of d, refl, inr refl)
     by Opens is e = all (e ∙ ap (λ w. last_deeds w r bytes) is)
     by (Answered row) is e = all (e ∙ ap (λ w. last_deeds w r bytes) is)
     by (HandedOn n) is e = all (e ∙ ap (λ w. last_deeds w r bytes) is)
+    by Early is e = all (e ∙ ap (λ w. last_deeds w r bytes) is)
+
+-- a request that is handed on by these bytes, and what is seen of the others
+seen_first : (r q : Request) (rs : List Request) (bytes spelling out behind : List ℕ) (deeds later : List Deed) (Is : Request → Type 0)
+    → Spells spelling r → bytes ≡ spelling ++ behind → Spells out q → Is q → deeds ≡ handing out ++ later → Sees rs (AreSeen rs) behind later
+    → Sees (r ∷ rs) (λ seen. (first : Request) × (others : List Request) × (seen ≡ first ∷ others) × Is first × AreSeen rs others) bytes deeds
+seen_first r q rs bytes spelling out behind deeds later Is s e spells is d (rest, left, seen, reads, sees, are, ends) = (
+  rest,
+  left,
+  q ∷ seen,
+  (behind, (spelling, s, e), reads),
+  (handed_of later, (out, spells, ap handed_of d ∙ handed_on out later), sees),
+  (q, seen, refl, is, are),
+  ends,
+)
 
 pub sees_others : (rs : List Request) (bytes : List ℕ) (deeds : List Deed) → Fronts rs bytes deeds
-    → (rest : List ℕ) × (left : List ℕ) × ReadsRequests bytes rs rest × ReadsRequests (handed_of deeds) (seen_of rs) left
-    × ((left ≡ rest) ⊎ (left ≡ []))
+    → (rest : List ℕ) × (left : List ℕ) × (seen : List Request) × ReadsRequests bytes rs rest
+    × ReadsRequests (handed_of deeds) seen left × AreSeen rs seen × ((left ≡ rest) ⊎ (left ≡ []))
 sees_others [] bytes deeds a = sees_last bytes deeds a
 sees_others (r ∷ rs) bytes deeds a = by (sees_others rs a.1 a.2 a.7) (way_of r) refl a.5 a.6
   where
-    by : Sees rs (seen_of rs) a.1 a.2 → (w : Way) → way_of r ≡ w → GoesOn (way_of r) → deeds ≡ deeds_by (way_of r) r a.0 ++ a.2
-        → Sees (r ∷ rs) (seen_by (way_of r) r (seen_of rs)) bytes deeds
+    early : way_of r ≡ Early → deeds ≡ handing (handed a.0) ++ a.2 → Sees rs (AreSeen rs) a.1 a.2
+        → Spells (handed a.0) r ⊎ Spells (handed a.0) (with_field r) → Sees (r ∷ rs) (SeenBy Early r (AreSeen rs)) bytes deeds
+    early is d later (inl s) = seen_first r r rs bytes a.0 (handed a.0) a.1 deeds a.2 (IsSeenAs Early r) a.3 a.4 s (inl refl) d later
+    early is d later (inr s) = seen_first r (with_field r) rs bytes a.0 (handed a.0) a.1 deeds a.2 (IsSeenAs Early r) a.3 a.4 s (inr refl) d later
+
+    by : Sees rs (AreSeen rs) a.1 a.2 → (w : Way) → way_of r ≡ w → GoesOn (way_of r) → deeds ≡ deeds_by (way_of r) r a.0 ++ a.2
+        → Sees (r ∷ rs) (SeenBy (way_of r) r (AreSeen rs)) bytes deeds
     by later Opens is goes e = absurd (subst GoesOn is goes)
     by later (Closes row) is goes e = absurd (subst GoesOn is goes)
     by later (Answered row) is goes e =
         let d : deeds ≡ deeds_by (Answered row) r a.0 ++ a.2 = subst (λ w. deeds ≡ deeds_by w r a.0 ++ a.2) is e in
-        subst (λ w. Sees (r ∷ rs) (seen_by w r (seen_of rs)) bytes deeds) (sym is)
-        (later.0, later.1, (a.1, (a.0, a.3, a.4), later.2), subst (λ l. ReadsRequests l (seen_of rs) later.1) (sym (ap handed_of d)) later.3, later.4)
+        subst (λ w. Sees (r ∷ rs) (SeenBy w r (AreSeen rs)) bytes deeds) (sym is) (
+          later.0,
+          later.1,
+          later.2,
+          (a.1, (a.0, a.3, a.4), later.3),
+          subst (λ l. ReadsRequests l later.2 later.1) (sym (ap handed_of d)) later.4,
+          later.5,
+          later.6,
+        )
     by later (HandedOn n) is goes e =
         let d : deeds ≡ handing a.0 ++ a.2 = subst (λ w. deeds ≡ deeds_by w r a.0 ++ a.2) is e in
-        subst (λ w. Sees (r ∷ rs) (seen_by w r (seen_of rs)) bytes deeds) (sym is)
-        (later.0, later.1, (a.1, (a.0, a.3, a.4), later.2), (handed_of a.2, (a.0, a.3, ap handed_of d ∙ handed_on a.0 a.2), later.3), later.4)
+        subst (λ w. Sees (r ∷ rs) (SeenBy w r (AreSeen rs)) bytes deeds) (sym is)
+        (seen_first r r rs bytes a.0 a.0 a.1 deeds a.2 (IsSeenAs (HandedOn n) r) a.3 a.4 a.3 refl d later)
+    by later Early is goes e =
+        let d : deeds ≡ handing (handed a.0) ++ a.2 = subst (λ w. deeds ≡ deeds_by w r a.0 ++ a.2) is e in
+        let are = early_framed (head_framing a.3.head) r (sym (way_spelled a.0 r a.3) ∙ is) in
+        subst (λ w. Sees (r ∷ rs) (SeenBy w r (AreSeen rs)) bytes deeds) (sym is)
+        (early is d later (handed_spells a.0 r a.3 are.0 are.1))
 
 -- ---- reads
 

@@ -4,12 +4,13 @@ use Rattle.engine_ports.specs.Source.{SourceView, SourceGave}
 use Rattle.engine_ports.specs.Sink.{SinkView, SinkTook}
 use Rattle.http_edge.specs.Message.{Request}
 use Rattle.http_edge.specs.Spelling.{ReadsRequests}
+use Rattle.lab_handed.specs.Early.{with_field}
 use Rattle.front_session.specs.Ways.{way_of}
 use Rattle.front_session.specs.Fronts.{Deed, Hands, Writes, handing, writing, Fronts, IsFronted}
 use Rattle.front_session.specs.Front.{new_front}
 use Rattle.front_session.specs.Reads.{Whole, whole, Progress}
 use Rattle.front_session.specs.declared.choosing.Way.{Way}
-use Rattle.front_session.specs.declared.choosing.Way.TheVariants.{Answered, Closes}
+use Rattle.front_session.specs.declared.choosing.Way.TheVariants.{Answered, Closes, Early}
 use Rattle.front_session.specs.declared.standing.Stage.TheVariants.{Ended, Lost}
 
 -- ---- bytes
@@ -33,22 +34,30 @@ written_of [] = []
 written_of (Hands byte ∷ deeds) = written_of deeds
 written_of (Writes text ∷ deeds) = text ++ written_of deeds
 
--- the requests that the front doesn't answer
-abbrev pub seen_by : Way → Request → List Request → List Request
-seen_by (Answered row) request others = others
-seen_by (Closes row) request others = others
-seen_by way request others = request ∷ others
+-- a request as it is seen behind the front: as it came, or a wait with the field, where its head has room
+abbrev pub IsSeenAs : Way → Request → Request → Type 0
+IsSeenAs Early request seen = (seen ≡ request) ⊎ (seen ≡ with_field request)
+IsSeenAs way request seen = seen ≡ request
 
-abbrev pub seen_of : List Request → List Request
-seen_of [] = []
-seen_of (request ∷ others) = seen_by (way_of request) request (seen_of others)
+-- what is seen of a request and of others: nothing of what the front answers
+abbrev pub SeenBy : Way → Request → (List Request → Type 0) → List Request → Type 0
+SeenBy (Answered row) request Others seen = Others seen
+SeenBy (Closes row) request Others seen = Others seen
+SeenBy way request Others seen =
+    (first : Request) × (others : List Request) × (seen ≡ first ∷ others) × IsSeenAs way request first × Others others
 
--- what is handed on reads as the requests that the front doesn't answer, and the rest, or none of it behind an answer that closes
+-- the requests that the front doesn't answer, as they are seen
+abbrev pub AreSeen : List Request → List Request → Type 0
+AreSeen [] seen = seen ≡ []
+AreSeen (request ∷ requests) seen = SeenBy (way_of request) request (AreSeen requests) seen
+
+-- what is handed on reads as the requests that the front doesn't answer, as they are seen, and the rest, or none of it behind an answer that
+-- closes
 abbrev pub SessionsSeeOthers : Type 0
 SessionsSeeOthers =
     (requests : List Request) (bytes : List ℕ) (deeds : List Deed) → Fronts requests bytes deeds
-    → (rest : List ℕ) × (left : List ℕ) × ReadsRequests bytes requests rest × ReadsRequests (handed_of deeds) (seen_of requests) left
-    × ((left ≡ rest) ⊎ (left ≡ []))
+    → (rest : List ℕ) × (left : List ℕ) × (seen : List Request) × ReadsRequests bytes requests rest
+    × ReadsRequests (handed_of deeds) seen left × AreSeen requests seen × ((left ≡ rest) ⊎ (left ≡ []))
 
 -- ---- reads
 

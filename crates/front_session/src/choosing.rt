@@ -1,13 +1,15 @@
 // How a request is treated.
-ghost use Rattle.std.specs.Prelude.{◌≡◌};
+ghost use Rattle.std.specs.Prelude.{◌≡◌, length};
 ghost use Rattle.http_edge.specs.Reader.{request_of};
 ghost use Rattle.http_edge.specs.Asks.{closes};
 ghost use Rattle.http_edge.specs.declared.framing.Framing.TheVariants.{Length};
 ghost use Rattle.lab_front.specs.Rows.{path_of, row_of};
+ghost use Rattle.lab_handed.specs.Early.{takes_field};
 ghost use Rattle.front_session.specs.Ways as spec;
 
 use http_edge::{Framing, RequestView};
 use lab_front::{Row, path_of, row_of};
+use lab_handed::takes_field;
 
 /// How a request is treated.
 #[derive(Clone, Copy, Debug, PartialEq, Eq)]
@@ -18,6 +20,8 @@ pub enum Way {
     Closes(Row),
     /// It is handed on, with so many bytes of a body.
     HandedOn(usize),
+    /// It is handed on with a field that asks for its head early. It has no body.
+    Early,
     /// It is handed on, and so is all behind it.
     Opens,
 }
@@ -67,10 +71,22 @@ fn answer_way(closing: bool, row: Row) -> Way
     }
 }
 
-/// How a request is treated that has a body of so many bytes, and doesn't take its connection over.
-fn way_by(request: &RequestView<'_>, count: usize) -> Way
+/// How a request is treated that has a body of so many bytes, and isn't of the table.
+fn handed_way(count: usize, takes: bool) -> Way
+    ensures { result ≡ spec.handed_way count takes }
+{
+    if takes && count == 0 {
+        Way::Early
+    } else {
+        Way::HandedOn(count)
+    }
+}
+
+/// How a request is treated that has a body of so many bytes and so many fields, and doesn't take its connection over.
+fn way_by(request: &RequestView<'_>, count: usize, fields: usize) -> Way
+    requires { fields ≡ length (request_of request.now).fields }
     ensures { result ≡ spec.way_by count (closes (request_of request.now))
-        (row_of (request_of request.now)) }
+        (takes_field (request_of request.now)) (row_of (request_of request.now)) }
 {
     match row_of(request) {
         Some(row) => {
@@ -80,25 +96,27 @@ fn way_by(request: &RequestView<'_>, count: usize) -> Way
                 Way::HandedOn(count)
             }
         }
-        None => Way::HandedOn(count),
+        None => handed_way(count, takes_field(request, fields)),
     }
 }
 
-fn sized_way(request: &RequestView<'_>, count: usize) -> Way
+fn sized_way(request: &RequestView<'_>, count: usize, fields: usize) -> Way
+    requires { fields ≡ length (request_of request.now).fields }
     ensures { result ≡ spec.way_framed (Length count) (request_of request.now) }
 {
     if may_take_over(request) {
         return Way::Opens;
     }
-    way_by(request, count)
+    way_by(request, count, fields)
 }
 
-/// How a request is treated whose body is framed so.
-pub(crate) fn way_framed(request: &RequestView<'_>, framing: Framing) -> Way
+/// How a request with so many fields is treated whose body is framed so.
+pub(crate) fn way_framed(request: &RequestView<'_>, framing: Framing, fields: usize) -> Way
+    requires { fields ≡ length (request_of request.now).fields }
     ensures { result ≡ spec.way_framed framing (request_of request.now) }
 {
     match framing {
-        Framing::Length(count) => sized_way(request, count),
+        Framing::Length(count) => sized_way(request, count, fields),
         Framing::Chunked | Framing::Refused(_) => Way::Opens,
     }
 }

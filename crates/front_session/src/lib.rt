@@ -10,6 +10,7 @@ mod laws;
 mod looking;
 mod opening;
 mod parting;
+mod putting;
 mod reading;
 mod resting;
 mod sharing;

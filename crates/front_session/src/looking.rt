@@ -9,6 +9,7 @@ ghost use Rattle.front_session.specs.declared.standing.Stage.TheVariants.{Within
 use crate::choosing::{Way, way_framed};
 use crate::giving::Given;
 use crate::keeping::Owed;
+use crate::putting::put_field;
 use crate::standing::Stage;
 use crate::stepping::Act;
 use http_edge::{Ahead, Buffers, HEAD_LIMIT, HeadRead, RequestView};
@@ -27,7 +28,10 @@ fn treat(ahead: &mut Ahead, buffers: &mut Buffers, found: RequestSpans) -> (Term
 {
     let framing = buffers.take_head(ahead, found);
     let request = RequestView::new(buffers, found, 0);
-    (Terms::of(&request), way_framed(&request, framing))
+    (
+        Terms::of(&request),
+        way_framed(&request, framing, found.headers),
+    )
 }
 
 /// Takes the head that the bytes ahead begin with: its request is to be answered, or to be handed on. Answers where
@@ -57,6 +61,10 @@ fn decide(
             (Act::Answers(terms, row), Stage::Closed)
         }
         (_, Way::HandedOn(count)) => (Act::On, Stage::Within(count)),
+        (_, Way::Early) => {
+            put_field(owed);
+            (Act::On, Stage::Within(0))
+        }
         (_, Way::Opens) => (Act::On, Stage::Open),
     }
 }

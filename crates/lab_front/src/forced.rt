@@ -1,9 +1,9 @@
 // Whether a removal is asked for with force.
 ghost use Rattle.std.specs.Prelude.{◌≡◌, ◌==◌, option_map};
-ghost use Rattle.std.specs.List.{before_first, after_first};
+ghost use Rattle.std.specs.List.{before_first};
 ghost use Rattle.lab_front.specs.Forced as spec;
 
-use crate::query::{behind, place_in, spells, value_of};
+use crate::query::{behind_first, place_in, spells, value_of};
 
 /// Whether a value means no.
 fn is_no(value: &[u8]) -> bool
@@ -33,18 +33,11 @@ fn before(bytes: &[u8], mark: u8) -> &[u8]
     &bytes[..place_in(bytes, mark)]
 }
 
-/// What stands behind it.
-fn after(bytes: &[u8], mark: u8) -> &[u8]
-    ensures { result.now ≡ after_first (λ b. b == mark) bytes.now }
-{
-    behind(bytes, place_in(bytes, mark))
-}
-
 /// The query of a request that begins with these bytes.
 fn query_in(bytes: &[u8]) -> &[u8]
     ensures { result.now ≡ spec.query_in bytes.now }
 {
-    after(before(after(bytes, b' '), b' '), b'?')
+    behind_first(before(behind_first(bytes, b' '), b' '), b'?')
 }
 
 /// Whether a request that begins with these bytes asks for force. It takes no memory.

@@ -1,6 +1,6 @@
 // The values of a query.
 ghost use Rattle.std.specs.Prelude.{◌≡◌, ◌≤◌, ◌+◌, ◌==◌, ◌∷◌, length, drop, option_map};
-ghost use Rattle.std.specs.List.{position, position_or_len};
+ghost use Rattle.std.specs.List.{after_first, position, position_or_len};
 ghost use Rattle.lab_front.specs.Queries as spec;
 
 use crate::path::{cut_at, is_between};
@@ -40,6 +40,13 @@ pub(crate) fn behind(bytes: &[u8], place: usize) -> &[u8]
         return &[];
     }
     &bytes[place + 1..]
+}
+
+/// What stands behind the first such byte, or nothing.
+pub fn behind_first(bytes: &[u8], mark: u8) -> &[u8]
+    ensures { result.now ≡ after_first (λ b. b == mark) bytes.now }
+{
+    behind(bytes, place_in(bytes, mark))
 }
 
 /// The value of a pair, where it has this name.
