@@ -151,6 +151,8 @@ same("the head of a wait comes early", head_of_a_wait("Content-Length: 0\r\n"), 
 same("to every client", head_of_a_wait("User-Agent: compose\r\n"), b"HTTP/1.1 200 OK")
 same("but where it says no", head_of_a_wait("X-Engine-Early: no\r\n"), b"")
 same("its removal", lab.ask("DELETE", "/v1.43/containers/early?force=1")[0], 204)
+until = lab.ask("GET", f"/v1.43/events?until={(START + 1500) / 1000}")
+same("events up to a moment begin with the first", (until[0], [json.loads(it)["Action"] for it in until[1].splitlines()][:2]), (200, ["create", "start"]))
 
 # ---- a wait that a move ends
 same("a create", lab.ask("POST", "/v1.43/containers/create?name=long", {"Image": "engine/tools", "Cmd": ["sleep", "60000"]})[0], 201)

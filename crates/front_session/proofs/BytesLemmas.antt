@@ -1,5 +1,5 @@
 -- What is done with bytes that begin so.
-use Rattle.std.proofs.Common.{arith, ◌≡◌, ◌≤◌, ◌⊎◌, inl, inr, ℕ, zero, suc, List, [], ◌∷◌, ◌++◌, length, take, drop, map, Bool, true, false, ◌==◌, ◌&&◌, if◌then◌else◌, Option, Some, None, refl, sym, ap, subst, ◌∙◌, append_assoc, append-nil, length-append}
+use Rattle.std.proofs.Common.{arith, ◌≡◌, ◌≤◌, ◌⊎◌, inl, inr, ℕ, zero, suc, List, [], ◌∷◌, ◌++◌, length, take, drop, map, Bool, true, false, ◌==◌, if◌then◌else◌, Option, Some, None, refl, sym, ap, subst, ◌∙◌, append_assoc, append-nil, length-append}
 use Rattle.std.proofs.lemmas.Bool.Decides.{nat_tests}
 use Rattle.std.proofs.lemmas.List.{take-append-drop}
 use Rattle.httparse.proofs.GrammarLemmas.{request_unique}
@@ -24,13 +24,14 @@ use Rattle.json_answer.specs.Answer.{terms_of}
 use Rattle.json_answer.specs.declared.asking.Terms.{Terms}
 use Rattle.lab_front.specs.Rows.{row_of}
 use Rattle.lab_front.specs.declared.table.Row.{Row}
-use Rattle.lab_handed.specs.Early.{takes_field, handed as with_its_field}
+use Rattle.lab_handed.specs.Changes.{change_of, handed as changed_to}
+use Rattle.lab_handed.specs.declared.changing.Change.{Change}
 use Rattle.front_session.specs.Ways.{may_take_over, answer_way, handed_way, way_by, way_framed, way_of}
 use Rattle.front_session.specs.Fronts.{Deed, Writes, handing, answer_by, deeds_by, last_deeds, GoesOn, Lasts, IsFronted}
 use Rattle.front_session.specs.Front.{Front, front_at, GoesWithin}
 use Rattle.front_session.specs.Steps.{row_answer, StepsBy}
 use Rattle.front_session.specs.declared.choosing.Way.{Way}
-use Rattle.front_session.specs.declared.choosing.Way.TheVariants.{Answered, Closes, HandedOn, Early, Opens}
+use Rattle.front_session.specs.declared.choosing.Way.TheVariants.{Answered, Closes, HandedOn, Changed, Opens}
 use Rattle.front_session.specs.declared.standing.Stage.TheVariants.{Within, Open, Closed}
 use Rattle.front_session.specs.declared.stepping.Act.TheVariants as act
 use Rattle.front_session.proofs.ProgressLemmas.{no_bytes, handing_on, handing_then}
@@ -78,14 +79,15 @@ answer_hands : (closing : Bool) (row : Row) (n : ℕ) → answer_way closing row
 answer_hands true row n e = cc
 answer_hands false row n e = cc
 
-plainly_hands : (count n : ℕ) (takes : Bool) → handed_way count takes ≡ HandedOn n → count ≡ n
-plainly_hands count n takes e = by (takes && (count == 0)) e
+plainly_hands : (count n : ℕ) (o : Option Change) → handed_way count o ≡ HandedOn n → count ≡ n
+plainly_hands count n None e = cc
+plainly_hands count n (Some change) e = by (count == 0) e
   where
-    by : (t : Bool) → (if t then Early else HandedOn count) ≡ HandedOn n → count ≡ n
+    by : (t : Bool) → (if t then Changed change else HandedOn count) ≡ HandedOn n → count ≡ n
     by true e = absurd (cc)
     by false e = cc
 
-sized_hands : (count n : ℕ) (closing takes : Bool) (o : Option Row) → way_by count closing takes o ≡ HandedOn n → count ≡ n
+sized_hands : (count n : ℕ) (closing : Bool) (takes : Option Change) (o : Option Row) → way_by count closing takes o ≡ HandedOn n → count ≡ n
 sized_hands count n closing takes None e = plainly_hands count n takes e
 sized_hands count n closing takes (Some row) e = by (count == 0) e
   where
@@ -96,9 +98,9 @@ sized_hands count n closing takes (Some row) e = by (count == 0) e
 pub hands_framed : (f : Framing) (r : Request) (n : ℕ) → way_framed f r ≡ HandedOn n → f ≡ Length n
 hands_framed (Length count) r n e = ap Length (by (may_take_over r) e)
   where
-    by : (t : Bool) → (if t then Opens else way_by count (closes r) (takes_field r) (row_of r)) ≡ HandedOn n → count ≡ n
+    by : (t : Bool) → (if t then Opens else way_by count (closes r) (change_of r) (row_of r)) ≡ HandedOn n → count ≡ n
     by true e = absurd (cc)
-    by false e = sized_hands count n (closes r) (takes_field r) (row_of r) e
+    by false e = sized_hands count n (closes r) (change_of r) (row_of r) e
 hands_framed Chunked r n e = absurd (cc)
 hands_framed (Refused s) r n e = absurd (cc)
 
@@ -111,14 +113,15 @@ IsAnswer (Answered row) = Unit {0}
 IsAnswer (Closes row) = Unit {0}
 IsAnswer way = ⊥
 
-handed_answers : (count : ℕ) (takes : Bool) → IsAnswer (handed_way count takes) → ⊥
-handed_answers count takes e = by (takes && (count == 0)) e
+handed_answers : (count : ℕ) (o : Option Change) → IsAnswer (handed_way count o) → ⊥
+handed_answers count None e = e
+handed_answers count (Some change) e = by (count == 0) e
   where
-    by : (t : Bool) → IsAnswer (if t then Early else HandedOn count) → ⊥
+    by : (t : Bool) → IsAnswer (if t then Changed change else HandedOn count) → ⊥
     by true e = e
     by false e = e
 
-sized_answers : (count : ℕ) (closing takes : Bool) (o : Option Row) → IsAnswer (way_by count closing takes o) → count ≡ 0
+sized_answers : (count : ℕ) (closing : Bool) (takes : Option Change) (o : Option Row) → IsAnswer (way_by count closing takes o) → count ≡ 0
 sized_answers count closing takes None e = absurd (handed_answers count takes e)
 sized_answers count closing takes (Some row) e = by (count == 0) refl e
   where
@@ -129,41 +132,40 @@ sized_answers count closing takes (Some row) e = by (count == 0) refl e
 pub answers_framed : (f : Framing) (r : Request) → IsAnswer (way_framed f r) → f ≡ Length 0
 answers_framed (Length count) r e = ap Length (by (may_take_over r) e)
   where
-    by : (t : Bool) → IsAnswer (if t then Opens else way_by count (closes r) (takes_field r) (row_of r)) → count ≡ 0
+    by : (t : Bool) → IsAnswer (if t then Opens else way_by count (closes r) (change_of r) (row_of r)) → count ≡ 0
     by true e = absurd e
-    by false e = sized_answers count (closes r) (takes_field r) (row_of r) e
+    by false e = sized_answers count (closes r) (change_of r) (row_of r) e
 answers_framed Chunked r e = absurd e
 answers_framed (Refused s) r e = absurd e
 
--- it is handed on with the field
-answer_early : (closing : Bool) (row : Row) → answer_way closing row ≡ Early → ⊥
-answer_early true row e = cc
-answer_early false row e = cc
+-- it is changed
+answer_changes : (closing : Bool) (row : Row) (change : Change) → answer_way closing row ≡ Changed change → ⊥
+answer_changes true row change e = cc
+answer_changes false row change e = cc
 
-both : (a b : Bool) → (a && b) ≡ true → (a ≡ true) × (b ≡ true)
-both true b e = (refl, e)
-both false b e = absurd (cc)
-
-sized_early : (count : ℕ) (closing takes : Bool) (o : Option Row) → way_by count closing takes o ≡ Early → (count ≡ 0) × (takes ≡ true)
-sized_early count closing takes None e = by (takes && (count == 0)) refl e
+sized_changes : (count : ℕ) (closing : Bool) (o : Option Change) (p : Option Row) (change : Change) → way_by count closing o p ≡ Changed change
+    → (count ≡ 0) × (o ≡ Some change)
+sized_changes count closing None None change e = absurd (cc)
+sized_changes count closing (Some other) None change e = by (count == 0) refl e
   where
-    by : (t : Bool) → (takes && (count == 0)) ≡ t → (if t then Early else HandedOn count) ≡ Early → (count ≡ 0) × (takes ≡ true)
-    by true is e = let are = both takes (count == 0) is in (is_zero count are.1, are.0)
+    by : (t : Bool) → (count == 0) ≡ t → (if t then Changed other else HandedOn count) ≡ Changed change → (count ≡ 0) × (Some other ≡ Some change)
+    by true is e = (is_zero count is, cc)
     by false is e = absurd (cc)
-sized_early count closing takes (Some row) e = by (count == 0) e
+sized_changes count closing o (Some row) change e = by (count == 0) e
   where
-    by : (t : Bool) → (if t then answer_way closing row else HandedOn count) ≡ Early → (count ≡ 0) × (takes ≡ true)
-    by true e = absurd (answer_early closing row e)
+    by : (t : Bool) → (if t then answer_way closing row else HandedOn count) ≡ Changed change → (count ≡ 0) × (o ≡ Some change)
+    by true e = absurd (answer_changes closing row change e)
     by false e = absurd (cc)
 
-pub early_framed : (f : Framing) (r : Request) → way_framed f r ≡ Early → (f ≡ Length 0) × (takes_field r ≡ true)
-early_framed (Length count) r e = by (may_take_over r) e
+pub changed_framed : (f : Framing) (r : Request) (change : Change) → way_framed f r ≡ Changed change → (f ≡ Length 0) × (change_of r ≡ Some change)
+changed_framed (Length count) r change e = by (may_take_over r) e
   where
-    by : (t : Bool) → (if t then Opens else way_by count (closes r) (takes_field r) (row_of r)) ≡ Early → (Length count ≡ Length 0) × (takes_field r ≡ true)
+    by : (t : Bool) → (if t then Opens else way_by count (closes r) (change_of r) (row_of r)) ≡ Changed change
+        → (Length count ≡ Length 0) × (change_of r ≡ Some change)
     by true e = absurd (cc)
-    by false e = let are = sized_early count (closes r) (takes_field r) (row_of r) e in (ap Length are.0, are.1)
-early_framed Chunked r e = absurd (cc)
-early_framed (Refused s) r e = absurd (cc)
+    by false e = let are = sized_changes count (closes r) (change_of r) (row_of r) change e in (ap Length are.0, are.1)
+changed_framed Chunked r change e = absurd (cc)
+changed_framed (Refused s) r change e = absurd (cc)
 
 -- ---- lists
 
@@ -263,11 +265,11 @@ module _ (got : List ℕ) (spans : List HeaderSpan) (r : RequestSpans) (h : Requ
         ),
       )
 
-  -- with the field
-  pub early : way_framed f (request_with []) ≡ Early → (more : List ℕ) (later : List Deed) → IsFronted (drop r.len got ++ more) later
-      → IsFronted (got ++ more) (handing (with_its_field (take r.len got)) ++ later)
-  early way more later rest =
-      let b = begins_with [] (drop r.len got ++ more) more (early_framed f (request_with []) way).0 refl in
+  -- where it is changed
+  pub changed : (change : Change) → way_framed f (request_with []) ≡ Changed change → (more : List ℕ) (later : List Deed) → IsFronted (drop r.len got ++ more) later
+      → IsFronted (got ++ more) (handing (changed_to change (take r.len got)) ++ later)
+  changed change way more later rest =
+      let b = begins_with [] (drop r.len got ++ more) more (changed_framed f (request_with []) change way).0 refl in
       let way_is = way_at more (drop r.len got ++ more) (request_with []) b ∙ way in
       let spelling : b.0 ≡ take r.len got = spelling_is [] (drop r.len got ++ more) more (request_with []) b refl ∙ append-nil (take r.len got) in (
         request_with [] ∷ rest.0,
@@ -278,8 +280,8 @@ module _ (got : List ℕ) (spans : List HeaderSpan) (r : RequestSpans) (h : Requ
           b.1,
           b.2,
           subst GoesOn (sym way_is) tt,
-          subst (λ w. handing (with_its_field (take r.len got)) ++ later ≡ deeds_by w (request_with []) b.0 ++ later) (sym way_is)
-              (ap (λ l. handing (with_its_field l) ++ later) (sym spelling)),
+          subst (λ w. handing (changed_to change (take r.len got)) ++ later ≡ deeds_by w (request_with []) b.0 ++ later) (sym way_is)
+              (ap (λ l. handing (changed_to change l) ++ later) (sym spelling)),
           rest.1,
         ),
       )
@@ -365,9 +367,9 @@ module _ (got : List ℕ) (spans : List HeaderSpan) (r : RequestSpans) (h : Requ
     (λ e. absurd (cc), λ e. absurd (cc)),
   )
 
-  pub decided_early : (size : ℕ) → way_framed f (request_with []) ≡ Early
-      → StepsBy act.On size before (front_at (with_its_field (take r.len got)) (drop r.len got) (Within 0))
-  decided_early size way into len = (
+  pub decided_changes : (size : ℕ) (change : Change) → way_framed f (request_with []) ≡ Changed change
+      → StepsBy act.On size before (front_at (changed_to change (take r.len got)) (drop r.len got) (Within 0))
+  decided_changes size change way into len = (
     λ more later d. (
       later,
       refl,
@@ -378,7 +380,7 @@ module _ (got : List ℕ) (spans : List HeaderSpan) (r : RequestSpans) (h : Requ
         refl,
         refl,
         refl,
-        subst (IsFronted (got ++ more)) (sym d.1) (early way more d.0 (within_none (drop r.len got ++ more) d.0 d.2)),
+        subst (IsFronted (got ++ more)) (sym d.1) (changed change way more d.0 (within_none (drop r.len got ++ more) d.0 d.2)),
       ),
     ),
     (λ e. absurd (cc), λ e. absurd (cc)),

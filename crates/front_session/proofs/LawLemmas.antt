@@ -9,7 +9,8 @@ use Rattle.http_edge.specs.Message.{Request}
 use Rattle.http_edge.specs.Spelling.{head_framing, Spells, Begins, HasNoRequest, ReadsRequests}
 use Rattle.http_edge.proofs.StreamLemmas.{one_request}
 use Rattle.http_edge.proofs.ReadingLemmas.{behind_less}
-use Rattle.lab_handed.specs.Early.{with_field, handed}
+use Rattle.lab_handed.specs.Changes.{changed, handed}
+use Rattle.lab_handed.specs.declared.changing.Change.{Change}
 use Rattle.lab_handed.proofs.SpellLemmas.{handed_spells}
 use Rattle.front_session.specs.Ways.{way_of}
 use Rattle.front_session.specs.Fronts.{Deed, Hands, Writes, answer_by, handing, writing, deeds_by, last_deeds, GoesOn, Lasts, Fronts, IsFronted}
@@ -17,10 +18,10 @@ use Rattle.front_session.specs.Front.{new_front, Goes, DoesStill}
 use Rattle.front_session.specs.Reads.{Whole, whole, joined}
 use Rattle.front_session.specs.Laws.{handed_of, written_of, IsSeenAs, SeenBy, AreSeen, Runs, NoneYet, OneMore}
 use Rattle.front_session.specs.declared.choosing.Way.{Way}
-use Rattle.front_session.specs.declared.choosing.Way.TheVariants.{Answered, Closes, HandedOn, Early, Opens}
+use Rattle.front_session.specs.declared.choosing.Way.TheVariants.{Answered, Closes, HandedOn, Changed, Opens}
 use Rattle.front_session.specs.declared.standing.Stage.{Stage}
 use Rattle.front_session.specs.declared.standing.Stage.TheVariants.{Within, Open, Closed, Ended, Lost}
-use Rattle.front_session.proofs.BytesLemmas.{begins_told, way_spelled, early_framed, same_front, within_none}
+use Rattle.front_session.proofs.BytesLemmas.{begins_told, way_spelled, changed_framed, same_front, within_none}
 
 -- ---- something is done
 
@@ -45,7 +46,7 @@ done_step bytes (inl (r, behind, b)) shorter = by (way_of r) refl
     by (Closes row) is = last (Closes row) is (λ goes. goes)
     by (Answered row) is = one_by bytes behind r b (subst GoesOn (sym is) tt) (shorter behind (behind_less bytes behind r b))
     by (HandedOn n) is = one_by bytes behind r b (subst GoesOn (sym is) tt) (shorter behind (behind_less bytes behind r b))
-    by Early is = one_by bytes behind r b (subst GoesOn (sym is) tt) (shorter behind (behind_less bytes behind r b))
+    by (Changed change) is = one_by bytes behind r b (subst GoesOn (sym is) tt) (shorter behind (behind_less bytes behind r b))
 
 done_up_to : (n : ℕ) (bytes : List ℕ) → length bytes ≤ n → IsDone bytes
 done_up_to zero bytes le = done_step bytes (begins_told bytes) (λ behind less. absurd (omega (arith, less, le)))
@@ -127,7 +128,7 @@ sees_last bytes deeds (inr (r, behind, b, stops, e)) = by (way_of r) refl e
     by Opens is e = all (e ∙ ap (λ w. last_deeds w r bytes) is)
     by (Answered row) is e = all (e ∙ ap (λ w. last_deeds w r bytes) is)
     by (HandedOn n) is e = all (e ∙ ap (λ w. last_deeds w r bytes) is)
-    by Early is e = all (e ∙ ap (λ w. last_deeds w r bytes) is)
+    by (Changed change) is e = all (e ∙ ap (λ w. last_deeds w r bytes) is)
 
 -- a request that is handed on by these bytes, and what is seen of the others
 seen_first : (r q : Request) (rs : List Request) (bytes spelling out behind : List ℕ) (deeds later : List Deed) (Is : Request → Type 0)
@@ -149,10 +150,12 @@ pub sees_others : (rs : List Request) (bytes : List ℕ) (deeds : List Deed) →
 sees_others [] bytes deeds a = sees_last bytes deeds a
 sees_others (r ∷ rs) bytes deeds a = by (sees_others rs a.1 a.2 a.7) (way_of r) refl a.5 a.6
   where
-    early : way_of r ≡ Early → deeds ≡ handing (handed a.0) ++ a.2 → Sees rs (AreSeen rs) a.1 a.2
-        → Spells (handed a.0) r ⊎ Spells (handed a.0) (with_field r) → Sees (r ∷ rs) (SeenBy Early r (AreSeen rs)) bytes deeds
-    early is d later (inl s) = seen_first r r rs bytes a.0 (handed a.0) a.1 deeds a.2 (IsSeenAs Early r) a.3 a.4 s (inl refl) d later
-    early is d later (inr s) = seen_first r (with_field r) rs bytes a.0 (handed a.0) a.1 deeds a.2 (IsSeenAs Early r) a.3 a.4 s (inr refl) d later
+    altered : (change : Change) → deeds ≡ handing (handed change a.0) ++ a.2 → Sees rs (AreSeen rs) a.1 a.2
+        → Spells (handed change a.0) r ⊎ Spells (handed change a.0) (changed change r) → Sees (r ∷ rs) (SeenBy (Changed change) r (AreSeen rs)) bytes deeds
+    altered change d later (inl s) =
+        seen_first r r rs bytes a.0 (handed change a.0) a.1 deeds a.2 (IsSeenAs (Changed change) r) a.3 a.4 s (inl refl) d later
+    altered change d later (inr s) =
+        seen_first r (changed change r) rs bytes a.0 (handed change a.0) a.1 deeds a.2 (IsSeenAs (Changed change) r) a.3 a.4 s (inr refl) d later
 
     by : Sees rs (AreSeen rs) a.1 a.2 → (w : Way) → way_of r ≡ w → GoesOn (way_of r) → deeds ≡ deeds_by (way_of r) r a.0 ++ a.2
         → Sees (r ∷ rs) (SeenBy (way_of r) r (AreSeen rs)) bytes deeds
@@ -173,11 +176,11 @@ sees_others (r ∷ rs) bytes deeds a = by (sees_others rs a.1 a.2 a.7) (way_of r
         let d : deeds ≡ handing a.0 ++ a.2 = subst (λ w. deeds ≡ deeds_by w r a.0 ++ a.2) is e in
         subst (λ w. Sees (r ∷ rs) (SeenBy w r (AreSeen rs)) bytes deeds) (sym is)
         (seen_first r r rs bytes a.0 a.0 a.1 deeds a.2 (IsSeenAs (HandedOn n) r) a.3 a.4 a.3 refl d later)
-    by later Early is goes e =
-        let d : deeds ≡ handing (handed a.0) ++ a.2 = subst (λ w. deeds ≡ deeds_by w r a.0 ++ a.2) is e in
-        let are = early_framed (head_framing a.3.head) r (sym (way_spelled a.0 r a.3) ∙ is) in
+    by later (Changed change) is goes e =
+        let d : deeds ≡ handing (handed change a.0) ++ a.2 = subst (λ w. deeds ≡ deeds_by w r a.0 ++ a.2) is e in
+        let are = changed_framed (head_framing a.3.head) r change (sym (way_spelled a.0 r a.3) ∙ is) in
         subst (λ w. Sees (r ∷ rs) (SeenBy w r (AreSeen rs)) bytes deeds) (sym is)
-        (early is d later (handed_spells a.0 r a.3 are.0 are.1))
+        (altered change d later (handed_spells a.0 r a.3 are.0 change are.1))
 
 -- ---- reads
 

@@ -5,10 +5,10 @@ use Rattle.http_edge.specs.Spelling.{Spells, Begins, HasNoRequest}
 use Rattle.json_answer.specs.Answer.{terms_of, json_answer}
 use Rattle.lab_front.specs.Texts.{status_of, text_of}
 use Rattle.lab_front.specs.declared.table.Row.{Row}
-use Rattle.lab_handed.specs.Early.{handed}
+use Rattle.lab_handed.specs.Changes.{handed}
 use Rattle.front_session.specs.Ways.{way_of}
 use Rattle.front_session.specs.declared.choosing.Way.{Way}
-use Rattle.front_session.specs.declared.choosing.Way.TheVariants.{Answered, Closes, HandedOn, Early}
+use Rattle.front_session.specs.declared.choosing.Way.TheVariants.{Answered, Closes, HandedOn, Changed}
 
 -- it hands a byte on, or writes an answer
 pub data Deed : Type 0 where
@@ -27,17 +27,17 @@ writing texts = map Writes texts
 abbrev pub answer_by : Request → Row → List ℕ
 answer_by request row = json_answer (terms_of request) (status_of row) (text_of row)
 
--- a request that these bytes spell is answered, or its bytes are handed on, with a field more where it is treated so
+-- a request that these bytes spell is answered, or its bytes are handed on, or those of the changed request
 abbrev pub deeds_by : Way → Request → List ℕ → List Deed
 deeds_by (Answered row) request spelling = Writes (answer_by request row) ∷ []
-deeds_by Early request spelling = handing (handed spelling)
+deeds_by (Changed change) request spelling = handing (handed change spelling)
 deeds_by way request spelling = handing spelling
 
 -- what is behind it is looked at, too
 abbrev pub GoesOn : Way → Type 0
 GoesOn (Answered row) = Unit {0}
 GoesOn (HandedOn count) = Unit {0}
-GoesOn Early = Unit {0}
+GoesOn (Changed change) = Unit {0}
 GoesOn way = ⊥
 
 -- with the last request that is looked at, these bytes are handed on, or it is answered

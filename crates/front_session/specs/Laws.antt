@@ -4,13 +4,13 @@ use Rattle.engine_ports.specs.Source.{SourceView, SourceGave}
 use Rattle.engine_ports.specs.Sink.{SinkView, SinkTook}
 use Rattle.http_edge.specs.Message.{Request}
 use Rattle.http_edge.specs.Spelling.{ReadsRequests}
-use Rattle.lab_handed.specs.Early.{with_field}
+use Rattle.lab_handed.specs.Changes.{changed}
 use Rattle.front_session.specs.Ways.{way_of}
 use Rattle.front_session.specs.Fronts.{Deed, Hands, Writes, handing, writing, Fronts, IsFronted}
 use Rattle.front_session.specs.Front.{new_front}
 use Rattle.front_session.specs.Reads.{Whole, whole, Progress}
 use Rattle.front_session.specs.declared.choosing.Way.{Way}
-use Rattle.front_session.specs.declared.choosing.Way.TheVariants.{Answered, Closes, Early}
+use Rattle.front_session.specs.declared.choosing.Way.TheVariants.{Answered, Closes, Changed}
 use Rattle.front_session.specs.declared.standing.Stage.TheVariants.{Ended, Lost}
 
 -- ---- bytes
@@ -34,9 +34,9 @@ written_of [] = []
 written_of (Hands byte ∷ deeds) = written_of deeds
 written_of (Writes text ∷ deeds) = text ++ written_of deeds
 
--- a request as it is seen behind the front: as it came, or a wait with the field, where its head has room
+-- a request as it is seen behind the front: as it came, or changed, where its head has room
 abbrev pub IsSeenAs : Way → Request → Request → Type 0
-IsSeenAs Early request seen = (seen ≡ request) ⊎ (seen ≡ with_field request)
+IsSeenAs (Changed change) request seen = (seen ≡ request) ⊎ (seen ≡ changed change request)
 IsSeenAs way request seen = seen ≡ request
 
 -- what is seen of a request and of others: nothing of what the front answers

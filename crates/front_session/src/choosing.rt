@@ -4,12 +4,12 @@ ghost use Rattle.http_edge.specs.Reader.{request_of};
 ghost use Rattle.http_edge.specs.Asks.{closes};
 ghost use Rattle.http_edge.specs.declared.framing.Framing.TheVariants.{Length};
 ghost use Rattle.lab_front.specs.Rows.{path_of, row_of};
-ghost use Rattle.lab_handed.specs.Early.{takes_field};
+ghost use Rattle.lab_handed.specs.Changes.{change_of};
 ghost use Rattle.front_session.specs.Ways as spec;
 
 use http_edge::{Framing, RequestView};
 use lab_front::{Row, path_of, row_of};
-use lab_handed::takes_field;
+use lab_handed::{Change, change_of};
 
 /// How a request is treated.
 #[derive(Clone, Copy, Debug, PartialEq, Eq)]
@@ -20,8 +20,8 @@ pub enum Way {
     Closes(Row),
     /// It is handed on, with so many bytes of a body.
     HandedOn(usize),
-    /// It is handed on with a field that asks for its head early. It has no body.
-    Early,
+    /// It is handed on with its head changed so. It has no body.
+    Changed(Change),
     /// It is handed on, and so is all behind it.
     Opens,
 }
@@ -72,13 +72,18 @@ fn answer_way(closing: bool, row: Row) -> Way
 }
 
 /// How a request is treated that has a body of so many bytes, and isn't of the table.
-fn handed_way(count: usize, takes: bool) -> Way
-    ensures { result ≡ spec.handed_way count takes }
+fn handed_way(count: usize, change: Option<Change>) -> Way
+    ensures { result ≡ spec.handed_way count change }
 {
-    if takes && count == 0 {
-        Way::Early
-    } else {
-        Way::HandedOn(count)
+    match change {
+        Some(change) => {
+            if count == 0 {
+                Way::Changed(change)
+            } else {
+                Way::HandedOn(count)
+            }
+        }
+        None => Way::HandedOn(count),
     }
 }
 
@@ -86,7 +91,7 @@ fn handed_way(count: usize, takes: bool) -> Way
 fn way_by(request: &RequestView<'_>, count: usize, fields: usize) -> Way
     requires { fields ≡ length (request_of request.now).fields }
     ensures { result ≡ spec.way_by count (closes (request_of request.now))
-        (takes_field (request_of request.now)) (row_of (request_of request.now)) }
+        (change_of (request_of request.now)) (row_of (request_of request.now)) }
 {
     match row_of(request) {
         Some(row) => {
@@ -96,7 +101,7 @@ fn way_by(request: &RequestView<'_>, count: usize, fields: usize) -> Way
                 Way::HandedOn(count)
             }
         }
-        None => handed_way(count, takes_field(request, fields)),
+        None => handed_way(count, change_of(request, fields)),
     }
 }
 

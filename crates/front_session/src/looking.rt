@@ -9,7 +9,7 @@ ghost use Rattle.front_session.specs.declared.standing.Stage.TheVariants.{Within
 use crate::choosing::{Way, way_framed};
 use crate::giving::Given;
 use crate::keeping::Owed;
-use crate::putting::put_field;
+use crate::putting::put_in;
 use crate::standing::Stage;
 use crate::stepping::Act;
 use http_edge::{Ahead, Buffers, HEAD_LIMIT, HeadRead, RequestView};
@@ -61,8 +61,8 @@ fn decide(
             (Act::Answers(terms, row), Stage::Closed)
         }
         (_, Way::HandedOn(count)) => (Act::On, Stage::Within(count)),
-        (_, Way::Early) => {
-            put_field(owed);
+        (_, Way::Changed(change)) => {
+            put_in(owed, change);
             (Act::On, Stage::Within(0))
         }
         (_, Way::Opens) => (Act::On, Stage::Open),

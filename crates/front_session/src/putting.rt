@@ -1,19 +1,19 @@
-// A field is put into a head that is to be handed on.
+// A head that is to be handed on otherwise than it came.
 ghost use Rattle.std.specs.Prelude.{◌≡◌};
-ghost use Rattle.lab_handed.specs.Early.{handed};
+ghost use Rattle.lab_handed.specs.Changes.{handed};
 
 use crate::keeping::Owed;
 use http_edge::HEAD_LIMIT;
-use lab_handed::{early_line, place_of_fields};
+use lab_handed::{Change, place_of, text_of};
 
-/// Puts the line of the field into a head that is to be handed on, where it has room.
-pub(crate) fn put_field(owed: &mut Owed)
-    ensures { owed.new ≡ handed owed.old }
+/// Changes a head that is to be handed on, where it has room.
+pub(crate) fn put_in(owed: &mut Owed, change: Change)
+    ensures { owed.new ≡ handed change owed.old }
 {
-    let line = early_line();
-    if owed.len() > HEAD_LIMIT - line.len() {
+    let text = text_of(change);
+    if owed.len() > HEAD_LIMIT - text.len() {
         return;
     }
-    let place = place_of_fields(owed.as_slice());
-    owed.put(place, line);
+    let place = place_of(change, owed.as_slice());
+    owed.put(place, text);
 }

@@ -6,7 +6,7 @@ ghost use Rattle.lab_front.specs.Queries as spec;
 use crate::path::{cut_at, is_between};
 
 /// What stands behind the first question mark of a target.
-pub(crate) fn query_of(target: &str) -> &str
+pub fn query_of(target: &str) -> &str
     ensures { result.now ≡ spec.query_of target.now }
 {
     let (_, query) = cut_at(target, '?');
@@ -61,7 +61,7 @@ fn value_in<'q>(name: &[u8], pair: &'q [u8]) -> Option<&'q [u8]>
 }
 
 /// The value of a key, as it was sent; of a repeated key the first counts.
-pub(crate) fn value_of<'q>(name: &[u8], query: &'q [u8]) -> Option<&'q [u8]>
+pub fn value_of<'q>(name: &[u8], query: &'q [u8]) -> Option<&'q [u8]>
     ensures { option_map (λ v. v.now) result ≡ spec.value_of name.now query.now }
 {
     let mut rest = query;

@@ -1,16 +1,28 @@
--- What is handed on in the place of a request's bytes spells the request, or the request with the field.
-use Rattle.std.proofs.Common.{arith, nat_lt, nat_le, ◌≡◌, ◌≤◌, ◌⊎◌, inl, inr, ◌+◌, ℕ, suc, List, [], ◌∷◌, ◌++◌, length, map, Bool, true, false, ◌&&◌, cond, codes, refl, sym, ap, subst, ◌∙◌, append-nil}
+-- What is handed on in the place of a request's bytes spells the request, or the request as it is changed.
+use Rattle.std.proofs.Common.{arith, nat_lt, nat_le, ◌≡◌, ◌<◌, ◌≤◌, ◌⊎◌, inl, inr, ◌+◌, ℕ, suc, List, [], ◌∷◌, ◌++◌, length, map, Bool, true, false, ◌&&◌, cond, Some, None, codes, refl, sym, ap, subst, ◌∙◌, append-nil, length-append}
+use Rattle.std.specs.Prelude.{IsTrue, IsUtf8}
+use Rattle.std.specs.List.{list_all}
+use Rattle.std.specs.Str.{bytes_eq}
 use Rattle.std.proofs.lemmas.Bool.Decides.{nat_tests}
-use Rattle.std.proofs.lemmas.List.Elements.{All-cons}
-use Rattle.std.proofs.lemmas.List.Sums.{AllPass-from_list_all}
-use Rattle.httparse.specs.Grammar.{IsField, is_token_byte, is_value_byte, trim_ows, RequestHead, IsRequestHead, print_request}
+use Rattle.std.proofs.lemmas.List.Elements.{All-cons, All-weaker}
+use Rattle.std.proofs.lemmas.List.Folds.{list_all-append}
+use Rattle.std.proofs.lemmas.List.Sums.{AllPass-from_list_all, list_all-from_AllPass}
+use Rattle.std.proofs.lemmas.Str.{IsUtf8-from_ascii}
+use Rattle.std.proofs.lemmas.Str.Ascii.{IsAscii-from_all}
+use Rattle.httparse.specs.Grammar.{IsField, is_token_byte, is_uri_byte, is_value_byte, trim_ows, RequestHead, IsRequestHead, print_request}
 use Rattle.httparse.specs.Spans.{name_and_value}
 use Rattle.http_edge.specs.Message.{Header, Request}
 use Rattle.http_edge.specs.Framing.{framing_of}
 use Rattle.http_edge.specs.Spelling.{head_framing, SpellsBody, Spells}
 use Rattle.http_edge.specs.declared.framing.Framing.TheVariants.{Length}
-use Rattle.lab_handed.specs.Early.{waits, takes_field, early_field, with_field, early_head, with_line, handed}
-use Rattle.lab_handed.proofs.HeadLemmas.{puts_field, longer}
+use Rattle.lab_front.specs.Queries.{query_of}
+use Rattle.lab_front.specs.Rows.{path_of}
+use Rattle.lab_handed.specs.Early.{waits, takes_field, early_field, with_field, early_head}
+use Rattle.lab_handed.specs.Since.{is_path_of_events, tells_until_alone, are_ascii, is_target_until, takes_since, since_key, with_key, since_request, since_head}
+use Rattle.lab_handed.specs.Changes.{change_of, changed, text_of, place_of, put_in, handed}
+use Rattle.lab_handed.specs.declared.changing.Change.{Change}
+use Rattle.lab_handed.specs.declared.changing.Change.TheVariants.{Early, Since}
+use Rattle.lab_handed.proofs.HeadLemmas.{puts_field, longer, HasQuery, has_query, key_is, puts_key, longer_key}
 
 -- ---- the framing of a head with the field
 
@@ -25,9 +37,9 @@ same_framing minor fields less =
     let behind = are.1 in
     rw (behind, before) refl
 
-last_is : (a b : Bool) → (a && b) ≡ true → b ≡ true
-last_is true b e = e
-last_is false b e = absurd (cc)
+both : (a b : Bool) → (a && b) ≡ true → (a ≡ true) × (b ≡ true)
+both true b e = (refl, e)
+both false b e = absurd (cc)
 
 -- ---- a valid head stays valid
 
@@ -51,9 +63,78 @@ stays_valid h v = record {
   fields = All-cons IsField early_field h.fields name_is_token v.fields;
 }
 
+-- ---- a target with the key
+
+-- what holds of each byte still does
+still : (p : ℕ → Bool) (a b key : List ℕ) → list_all p (a ++ 63 ∷ b) ≡ true → list_all p key ≡ true → list_all p (a ++ 63 ∷ (key ++ b)) ≡ true
+still p [] b key all is =
+    let are = both (p 63) (list_all p b) all in
+    let first = are.0 in
+    let rest = are.1 in
+    rw (first, list_all-append p key b, is, rest) refl
+still p (c ∷ a) b key all is =
+    let are = both (p c) (list_all p (a ++ 63 ∷ b)) all in
+    let first = are.0 in
+    let rest = still p a b key are.1 is in
+    rw (first, rest) refl
+
+below : (b : ℕ) → IsTrue (nat_lt b 128) → b < 128
+below b t = grind (arith, nat_tests)
+
+ascii_text : (bytes : List ℕ) → are_ascii bytes ≡ true → IsUtf8 bytes
+ascii_text bytes all =
+    IsUtf8-from_ascii bytes (IsAscii-from_all bytes
+    (All-weaker (λ b. IsTrue (nat_lt b 128)) (λ b. b < 128) below bytes (AllPass-from_list_all (λ b. nat_lt b 128) bytes all)))
+
+module _ (h : RequestHead) (v : IsRequestHead h) (q : HasQuery h.target) (ascii : are_ascii h.target ≡ true) where
+  with_it : (p : ℕ → Bool) → list_all p h.target ≡ true → list_all p since_key ≡ true → list_all p (with_key h.target) ≡ true
+  with_it p all key =
+      ap (list_all p) (key_is h v q) ∙ still p q.front q.back since_key (sym (ap (list_all p) q.whole) ∙ all) key
+
+  some : 0 < length (with_key h.target)
+  some = omega (arith, ap length (key_is h v q), length-append q.front (63 ∷ (since_key ++ q.back)))
+
+  pub valid_since : IsRequestHead (since_head h)
+  valid_since = record {
+    method = v.method;
+    target = (
+      some,
+      AllPass-from_list_all is_uri_byte (with_key h.target)
+          (with_it is_uri_byte (list_all-from_AllPass is_uri_byte h.target v.target.1) refl),
+    );
+    target_text = ascii_text (with_key h.target) (with_it (λ b. nat_lt b 128) ascii refl);
+    minor = v.minor;
+    fields = v.fields;
+  }
+
+-- ---- what is asked of a request
+
+asked_early : (r : Request) → change_of r ≡ Some Early → takes_field r ≡ true
+asked_early r e = by (takes_field r) (takes_since r) refl e
+  where
+    by : (t u : Bool) → takes_field r ≡ t → cond t (Some Early) (cond u (Some Since) None) ≡ Some Early → takes_field r ≡ true
+    by true u is e = is
+    by false true is e = absurd (cc)
+    by false false is e = absurd (cc)
+
+asked_since : (r : Request) → change_of r ≡ Some Since → takes_since r ≡ true
+asked_since r e = by (takes_field r) (takes_since r) refl e
+  where
+    by : (t u : Bool) → takes_since r ≡ u → cond t (Some Early) (cond u (Some Since) None) ≡ Some Since → takes_since r ≡ true
+    by true u is e = absurd (cc)
+    by false true is e = is
+    by false false is e = absurd (cc)
+
+-- its target is of ASCII, and has a query
+since_asks : (r : Request) → takes_since r ≡ true → (are_ascii r.target ≡ true) × (tells_until_alone (query_of r.target) ≡ true)
+since_asks r takes =
+    let target = (both (bytes_eq r.method (codes "GET")) (is_target_until r.target) takes).1 in
+    let first = both (is_path_of_events (path_of r.target) && are_ascii r.target) (tells_until_alone (query_of r.target)) target in
+    ((both (is_path_of_events (path_of r.target)) (are_ascii r.target) first.0).1, first.1)
+
 -- ---- what is handed on
 
-module _ (spelling : List ℕ) (r : Request) (s : Spells spelling r) (framing : head_framing s.head ≡ Length 0) (takes : takes_field r ≡ true) where
+module _ (spelling : List ℕ) (r : Request) (s : Spells spelling r) (framing : head_framing s.head ≡ Length 0) where
   sized : SpellsBody (Length 0) s.coded r.body
   sized = subst (λ f. SpellsBody f s.coded r.body) framing s.body
 
@@ -61,37 +142,65 @@ module _ (spelling : List ℕ) (r : Request) (s : Spells spelling r) (framing : 
   no_bytes [] e = refl
   no_bytes (x ∷ xs) e = absurd (omega (arith, e))
 
-  pub head_alone : spelling ≡ print_request s.head
+  head_alone : spelling ≡ print_request s.head
   head_alone = s.whole ∙ ap (λ l. print_request s.head ++ l) (no_bytes s.coded sized.1) ∙ append-nil (print_request s.head)
 
-  few_fields : nat_lt (length (map name_and_value s.head.fields)) 64 ≡ true
-  few_fields = ap (λ l. nat_lt (length l) 64) (sym s.fields) ∙ last_is (waits r) (nat_lt (length r.fields) 64) takes
+  no_body : r.body ≡ []
+  no_body = sized.0 ∙ no_bytes s.coded sized.1
 
-  new_framing : head_framing (early_head s.head) ≡ Length 0
-  new_framing =
-      ap (λ field. framing_of s.head.minor (field ∷ map name_and_value s.head.fields)) field_is
-      ∙ same_framing s.head.minor (map name_and_value s.head.fields) few_fields ∙ framing
-
-  with_room : length spelling + 22 ≤ 16384 → Spells (with_line spelling) (with_field r)
-  with_room le = record {
-    head = early_head s.head;
+  -- another head, in the place of the spelling
+  spells_by : (h : RequestHead) (q : Request) (change : Change) → IsRequestHead h → head_framing h ≡ Length 0 → r.body ≡ q.body → q.method ≡ h.method
+      → q.target ≡ h.target → q.fields ≡ map name_and_value h.fields
+      → put_in (place_of change (print_request s.head)) (text_of change) (print_request s.head) ≡ print_request h
+      → length (print_request h) ≡ length (print_request s.head) + length (text_of change) → length spelling + length (text_of change) ≤ 16384
+      → Spells (put_in (place_of change spelling) (text_of change) spelling) q
+  spells_by h q change valid framed body method target fields puts size le = record {
+    head = h;
     coded = [];
-    valid = stays_valid s.head s.valid;
-    small = omega (arith, longer s.head, ap length head_alone, le);
-    body = subst (λ f. SpellsBody f [] r.body) (sym new_framing) (sized.0 ∙ no_bytes s.coded sized.1, refl);
-    method = s.method;
-    target = s.target;
-    fields = ap (λ l. (codes "X-Engine-Early", codes "wait") ∷ l) s.fields ∙ ap (λ field. field ∷ map name_and_value s.head.fields) (sym field_is);
-    whole = ap with_line head_alone ∙ puts_field s.head s.valid ∙ sym (append-nil (print_request (early_head s.head)));
+    valid = valid;
+    small = omega (arith, size, ap length head_alone, le);
+    body = subst (λ f. SpellsBody f [] q.body) (sym framed) (sym body ∙ no_body, refl);
+    method = method;
+    target = target;
+    fields = fields;
+    whole = ap (λ l. put_in (place_of change l) (text_of change) l) head_alone ∙ puts ∙ sym (append-nil (print_request h));
   }
 
-  room_is : nat_le (length spelling + 22) 16384 ≡ true → length spelling + 22 ≤ 16384
-  room_is e = grind (arith, nat_tests)
+  few_fields : takes_field r ≡ true → nat_lt (length (map name_and_value s.head.fields)) 64 ≡ true
+  few_fields takes = ap (λ l. nat_lt (length l) 64) (sym s.fields) ∙ (both (waits r) (nat_lt (length r.fields) 64) takes).1
 
-  pub handed_spells : Spells (handed spelling) r ⊎ Spells (handed spelling) (with_field r)
-  handed_spells = by (nat_le (length spelling + 22) 16384) refl
+  new_framing : takes_field r ≡ true → head_framing (early_head s.head) ≡ Length 0
+  new_framing takes =
+      ap (λ field. framing_of s.head.minor (field ∷ map name_and_value s.head.fields)) field_is
+      ∙ same_framing s.head.minor (map name_and_value s.head.fields) (few_fields takes) ∙ framing
+
+  with_room : (change : Change) → change_of r ≡ Some change → length spelling + length (text_of change) ≤ 16384
+      → Spells (put_in (place_of change spelling) (text_of change) spelling) (changed change r)
+  with_room Early is le =
+      spells_by (early_head s.head) (with_field r) Early (stays_valid s.head s.valid) (new_framing (asked_early r is)) refl s.method s.target
+      (ap (λ l. (codes "X-Engine-Early", codes "wait") ∷ l) s.fields ∙ ap (λ field. field ∷ map name_and_value s.head.fields) (sym field_is))
+      (puts_field s.head s.valid) (longer s.head) le
+  with_room Since is le =
+      let asks = since_asks r (asked_since r is) in
+      let ascii : are_ascii s.head.target ≡ true = ap are_ascii (sym s.target) ∙ asks.0 in
+      let q = has_query s.head.target (ap (λ t. tells_until_alone (query_of t)) (sym s.target) ∙ asks.1) in
+      spells_by (since_head s.head) (since_request r) Since (valid_since s.head s.valid q ascii) framing refl s.method (ap with_key s.target) s.fields
+      (puts_key s.head s.valid q) (longer_key s.head s.valid q) le
+
+  room_is : (n : ℕ) → nat_le n 16384 ≡ true → n ≤ 16384
+  room_is n e = grind (arith, nat_tests)
+
+  pub handed_spells : (change : Change) → change_of r ≡ Some change → Spells (handed change spelling) r ⊎ Spells (handed change spelling) (changed change r)
+  handed_spells change is = by (nat_le (length spelling + length (text_of change)) 16384) refl
     where
-      by : (t : Bool) → nat_le (length spelling + 22) 16384 ≡ t
-          → Spells (cond t (with_line spelling) spelling) r ⊎ Spells (cond t (with_line spelling) spelling) (with_field r)
-      by true e = inr (with_room (room_is e))
+      put : List ℕ
+      put = put_in (place_of change spelling) (text_of change) spelling
+
+      by : (t : Bool) → nat_le (length spelling + length (text_of change)) 16384 ≡ t
+          → Spells (cond t put spelling) r ⊎ Spells (cond t put spelling) (changed change r)
+      by true e = inr (with_room change is (room_is (length spelling + length (text_of change)) e))
       by false e = inl s
+
+pub changed_is_handed : (change : Change) (spelling : List ℕ) (r : Request) (s : Spells spelling r) → head_framing s.head ≡ Length 0
+    → change_of r ≡ Some change → Spells (handed change spelling) r ⊎ Spells (handed change spelling) (changed change r)
+changed_is_handed change spelling r s framing is = handed_spells spelling r s framing change is

@@ -1,25 +1,55 @@
 -- Worked examples of what is handed on, byte for byte.
-use Rattle.std.proofs.Common.{◌≡◌, [], true, false, codes, refl}
-use Rattle.lab_handed.specs.Early.{takes_field, handed}
+use Rattle.std.proofs.Common.{◌≡◌, ℕ, List, [], Some, None, codes, refl}
+use Rattle.http_edge.specs.Message.{Request}
+use Rattle.lab_handed.specs.Changes.{change_of, handed}
+use Rattle.lab_handed.specs.declared.changing.Change.TheVariants.{Early, Since}
 
-a_wait : takes_field (record { method = codes "POST"; target = codes "/v1.43/containers/web/wait?condition=removed"; fields = []; body = [] }) ≡ true
+-- a request without fields
+abbrev asking : List ℕ → List ℕ → Request
+asking method target = record { method = method; target = target; fields = []; body = [] }
+
+-- ---- waits
+
+a_wait : change_of (asking (codes "POST") (codes "/v1.43/containers/web/wait?condition=removed")) ≡ Some Early
 a_wait = refl
 
-a_wait_without_a_version : takes_field (record { method = codes "POST"; target = codes "/containers/web/wait"; fields = []; body = [] }) ≡ true
+a_wait_without_a_version : change_of (asking (codes "POST") (codes "/containers/web/wait")) ≡ Some Early
 a_wait_without_a_version = refl
 
-a_start : takes_field (record { method = codes "POST"; target = codes "/v1.43/containers/web/start"; fields = []; body = [] }) ≡ false
+a_start : change_of (asking (codes "POST") (codes "/v1.43/containers/web/start")) ≡ None
 a_start = refl
 
-by_another_method : takes_field (record { method = codes "GET"; target = codes "/v1.43/containers/web/wait"; fields = []; body = [] }) ≡ false
+by_another_method : change_of (asking (codes "GET") (codes "/v1.43/containers/web/wait")) ≡ None
 by_another_method = refl
 
 as_tools_write_it :
-    handed (codes "POST /v1.43/containers/web/wait HTTP/1.1\r\nHost: x\r\nContent-Length: 0\r\n\r\n")
+    handed Early (codes "POST /v1.43/containers/web/wait HTTP/1.1\r\nHost: x\r\nContent-Length: 0\r\n\r\n")
     ≡ codes "POST /v1.43/containers/web/wait HTTP/1.1\r\nX-Engine-Early: wait\r\nHost: x\r\nContent-Length: 0\r\n\r\n"
 as_tools_write_it = refl
 
 behind_an_empty_line :
-    handed (codes "\r\nPOST /containers/web/wait HTTP/1.1\nHost: x\n\n")
+    handed Early (codes "\r\nPOST /containers/web/wait HTTP/1.1\nHost: x\n\n")
     ≡ codes "\r\nPOST /containers/web/wait HTTP/1.1\nX-Engine-Early: wait\r\nHost: x\n\n"
 behind_an_empty_line = refl
+
+-- ---- events
+
+until_a_moment : change_of (asking (codes "GET") (codes "/v1.43/events?until=1700000000")) ≡ Some Since
+until_a_moment = refl
+
+with_an_empty_since : change_of (asking (codes "GET") (codes "/events?since=&until=1700000000")) ≡ Some Since
+with_an_empty_since = refl
+
+from_a_moment_on : change_of (asking (codes "GET") (codes "/v1.43/events?since=1&until=1700000000")) ≡ None
+from_a_moment_on = refl
+
+without_an_end : change_of (asking (codes "GET") (codes "/v1.43/events?until=")) ≡ None
+without_an_end = refl
+
+all_to_come : change_of (asking (codes "GET") (codes "/v1.43/events")) ≡ None
+all_to_come = refl
+
+as_the_command_line_writes_it :
+    handed Since (codes "GET /v1.43/events?filters=%7B%7D&until=1700000000 HTTP/1.1\r\nHost: x\r\n\r\n")
+    ≡ codes "GET /v1.43/events?since=0&filters=%7B%7D&until=1700000000 HTTP/1.1\r\nHost: x\r\n\r\n"
+as_the_command_line_writes_it = refl

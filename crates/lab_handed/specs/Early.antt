@@ -1,10 +1,10 @@
--- A wait as it is handed on, with a field that asks for its head early (Docker Engine API v1.43, ContainerWait; RFC 9112, sections 3 and 5;
--- own: the field).
-use Rattle.std.specs.Prelude.{ℕ, List, ◌∷◌, ◌++◌, ◌+◌, ◌-◌, Bool, false, ◌==◌, ◌&&◌, nat_lt, nat_le, if◌then◌else◌, Option, Some, None, length, take, drop, nat_eq, codes}
-use Rattle.std.specs.List.{after_first, starts_with, ends_with}
+-- A wait as it is handed on, with a field that asks for its head early (Docker Engine API v1.43, ContainerWait; RFC 9112, section 5; own: the
+-- field).
+use Rattle.std.specs.Prelude.{ℕ, List, ◌∷◌, Bool, false, ◌&&◌, nat_lt, Option, Some, None, length, nat_eq, codes}
+use Rattle.std.specs.List.{starts_with, ends_with}
 use Rattle.std.specs.Str.{bytes_eq}
 use Rattle.httparse.specs.Grammar.{Field, crlf, RequestHead}
-use Rattle.http_edge.specs.Limits.{head_limit, field_limit}
+use Rattle.http_edge.specs.Limits.{field_limit}
 use Rattle.http_edge.specs.Message.{Request}
 use Rattle.lab_front.specs.Rows.{path_of}
 
@@ -41,26 +41,3 @@ early_head head = record head { fields = early_field ∷ head.fields }
 -- its line
 abbrev pub early_line : List ℕ
 early_line = codes "X-Engine-Early: wait\r\n"
-
-abbrev pub line_size : ℕ
-line_size = 22
-
--- what stands behind the first line of a head: behind the line end that follows its second blank
-abbrev pub fields_in : List ℕ → List ℕ
-fields_in head = after_first (λ b. b == 10) (after_first (λ b. b == 32) (after_first (λ b. b == 32) head))
-
--- where that stands in it
-abbrev pub place_of_fields : List ℕ → ℕ
-place_of_fields head = length head - length (fields_in head)
-
--- bytes with the line put in there
-abbrev pub put_in : ℕ → List ℕ → List ℕ
-put_in place head = take place head ++ (early_line ++ drop place head)
-
--- a head with the line in front of its fields
-abbrev pub with_line : List ℕ → List ℕ
-with_line head = put_in (place_of_fields head) head
-
--- the same where it has room, else as it came
-abbrev pub handed : List ℕ → List ℕ
-handed head = if nat_le (length head + line_size) head_limit then with_line head else head

@@ -1,2 +1,4 @@
 pub mod Early
+pub mod Since
+pub mod Changes
 pub mod Laws

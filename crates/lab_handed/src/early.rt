@@ -1,5 +1,5 @@
 // A wait is handed on with a field that asks for its head early.
-ghost use Rattle.std.specs.Prelude.{◌≡◌, length};
+ghost use Rattle.std.specs.Prelude.{◌≡◌, ◌≤◌, length};
 ghost use Rattle.http_edge.specs.Reader.{request_of};
 ghost use Rattle.lab_front.specs.Rows.{path_of};
 ghost use Rattle.lab_handed.specs.Early as spec;
@@ -35,7 +35,7 @@ fn waits(request: &RequestView<'_>) -> bool
 }
 
 /// Whether a request with so many fields waits for a container, and can have one more.
-pub fn takes_field(request: &RequestView<'_>, count: usize) -> bool
+pub(crate) fn takes_field(request: &RequestView<'_>, count: usize) -> bool
     requires { count ≡ length (request_of request.now).fields }
     ensures { result ≡ spec.takes_field (request_of request.now) }
 {
@@ -46,9 +46,9 @@ pub fn takes_field(request: &RequestView<'_>, count: usize) -> bool
 }
 
 /// The line of the field.
-pub fn early_line() -> &'static [u8]
+pub(crate) fn early_line() -> &'static [u8]
     ensures text { result.now ≡ spec.early_line }
-    ensures size { length result.now ≡ spec.line_size }
+    ensures short { length result.now ≤ 32 }
 {
     b"X-Engine-Early: wait\r\n"
 }

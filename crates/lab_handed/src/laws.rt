@@ -1,9 +1,10 @@
-// What holds of a head with one field more.
-ghost use Rattle.lab_handed.specs.Laws.{PutsField, AsksEarly};
+// What holds of requests that are handed on otherwise.
+ghost use Rattle.lab_handed.specs.Laws.{ChangedIsHanded, AsksEarly};
 
-/// The bytes of a valid head with the line put in are those of the head with the field in front of its others.
-pub fn law_one_field_more()
-    ensures { PutsField }
+/// The bytes that are handed on in the place of a head spell the request as it is seen, or, where it has no room, as
+/// it came.
+pub fn law_changed_is_handed()
+    ensures { ChangedIsHanded }
 {}
 
 /// A request with the field asks for an early head, where it has no field that says no.

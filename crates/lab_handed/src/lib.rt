@@ -1,10 +1,10 @@
-//! Requests as the front hands them on: a wait with a field that asks for its head early.
+//! Requests as the front hands them on: a wait that asks for its head early, and events from the first kept one on.
 #![tactic(auto)]
 
+mod changing;
 mod early;
 mod laws;
-mod placing;
+mod since;
 
-pub use early::{early_line, takes_field};
-pub use laws::{law_asks_early, law_one_field_more};
-pub use placing::place_of_fields;
+pub use changing::{Change, change_of, place_of, text_of};
+pub use laws::{law_asks_early, law_changed_is_handed};

@@ -1,5 +1,5 @@
 use Rattle.std.proofs.Common.{refl, sym, ◌∙◌}
-use Rattle.front_session.proofs.BytesLemmas.{decided_open, decided_hands, decided_early, decided_answers, decided_closes}
+use Rattle.front_session.proofs.BytesLemmas.{decided_open, decided_hands, decided_changes, decided_answers, decided_closes}
 use Rattle.front_session.proofs.looking.decide.Goals as goal
 
 pub returns-in_default-Answered : goal.returns-in_default-Answered
@@ -26,8 +26,8 @@ returns-in_default-Opens c = λ size.
     (decided_open c.args.ahead.now c.args.buffers.now.spans c.args.found c.requires.of.0 c.requires.small c.requires.within c.requires.of.1 _ refl size
     (sym c.treat.ensures.treats.1 ∙ c.in_default-Opens.is-1))
 
-pub returns-in_default-Early : goal.returns-in_default-Early
-returns-in_default-Early c = λ size.
-    rw (c.requires.owed, c.put_field.ensures, c.keep.ensures, c.as_slice.ensures, c.treat.ensures.ahead)
-    (decided_early c.args.ahead.now c.args.buffers.now.spans c.args.found c.requires.of.0 c.requires.small c.requires.within c.requires.of.1 _ refl size
-    (sym c.treat.ensures.treats.1 ∙ c.in_default-Early.is-1))
+pub returns-in_default-Changed : goal.returns-in_default-Changed
+returns-in_default-Changed c = λ size.
+    rw (c.requires.owed, c.put_in.ensures, c.keep.ensures, c.as_slice.ensures, c.treat.ensures.ahead)
+    (decided_changes c.args.ahead.now c.args.buffers.now.spans c.args.found c.requires.of.0 c.requires.small c.requires.within c.requires.of.1 _ refl size
+    c.in_default-Changed.change (sym c.treat.ensures.treats.1 ∙ c.in_default-Changed.is-1))
