@@ -13,6 +13,7 @@ import subprocess
 import sys
 import threading
 import time
+import urllib.parse
 
 from steps import Steps
 
@@ -151,6 +152,25 @@ same("the head of a wait comes early", head_of_a_wait("Content-Length: 0\r\n"), 
 same("to every client", head_of_a_wait("User-Agent: compose\r\n"), b"HTTP/1.1 200 OK")
 same("but where it says no", head_of_a_wait("X-Engine-Early: no\r\n"), b"")
 same("its removal", lab.ask("DELETE", "/v1.43/containers/early?force=1")[0], 204)
+
+# ---- the container of a name
+made = ["web", "web2", "my.web"] + [f"other{place}" for place in range(30)]
+same("creates", {lab.ask("POST", f"/v1.43/containers/create?name={it}", {"Image": "engine/tools", "Labels": {"of": it}})[0] for it in made}, {201})
+
+
+def named(filters, more="all=1"):
+    """The names that a list shows by these filters."""
+    status, text = lab.ask("GET", f"/v1.43/containers/json?{more}&filters={urllib.parse.quote_plus(filters)}")
+    return sorted(it["Names"][0] for it in json.loads(text)) if status == 200 else status
+
+
+same("by a part", named('{"name":["web"]}'), ["/my.web", "/web", "/web2"])
+for filters in ('{"name":["^/%s$"]}', '{"name": ["^/%s$"]}', '{"name":{"^/%s$":true}}', '{"name":["^%s$"]}'):
+    same(f"by {filters}", [named(filters % it) for it in ("web", "web2", "my.web", "other7", "we")], [["/web"], ["/web2"], ["/my.web"], ["/other7"], []])
+same("of those that run", named('{"name":["^/web$"]}', "limit=-1"), [])
+same("without one", len(json.loads(lab.ask("GET", "/v1.43/containers/json?all=1")[1])), len(made))
+same("their removal", {lab.ask("DELETE", f"/v1.43/containers/{it}")[0] for it in made}, {204})
+
 until = lab.ask("GET", f"/v1.43/events?until={(START + 1500) / 1000}")
 same("events up to a moment begin with the first", (until[0], [json.loads(it)["Action"] for it in until[1].splitlines()][:2]), (200, ["create", "start"]))
 

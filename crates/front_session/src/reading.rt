@@ -69,7 +69,7 @@ impl<R: Wait + Sync, S: Source, K: Showing> Source for FrontSource<'_, R, S, K> 
         match read_on(self.rt, &mut self.ways, &mut self.front, into) {
             Got::Bytes(count) => {
                 if let Some(asked) = shown_by(&self.front, &into[..count]) {
-                    self.ways.sink.expect(asked);
+                    self.ways.sink.expect(asked, &into[..count]);
                 }
                 Got::Bytes(count)
             }

@@ -2,25 +2,29 @@
 ghost use Rattle.std.specs.Prelude.{◌≡◌, IfOk};
 ghost use Rattle.engine_ports.specs.Sink.{untold_sink};
 ghost use Rattle.front_session.specs.Sharing.{sink_over};
+ghost use Rattle.front_session.specs.Showing.{kept_back};
 
 use crate::resting::rest_behind;
 use engine_ports::{Failed, NoMemory, Sink};
-use lab_shown::{Asked, OneSink, Taking, write_shown};
+use lab_handed::exact_by;
+use lab_shown::{Asked, OneSink, Taking, Text, head_alone, write_shown};
 use std::alloc::Global;
 use std::sync::{Arc, Mutex, Wait};
 use std::{mem, time};
 
 /// A sink that can be told what is written next.
 pub trait Showing: Sink {
-    /// The next piece answers a request that asks so, and is shown by that.
-    fn expect(&self, asked: Asked);
+    /// The next piece answers a request that asks so and begins with these bytes, and is shown by that.
+    fn expect(&self, asked: Asked, bytes: &[u8]);
 }
 
-/// The place of a sink, and by what the next piece is shown, if it isn't written as it is.
+/// The place of a sink; by what the next piece is shown, if it isn't written as it is; and what stands in the item
+/// that a list keeps.
 #[derive(Drop)]
 struct Held<K> {
     sink: Option<K>,
     shows: Option<Asked>,
+    text: Text,
 }
 
 /// A sink behind a lock, as one of those who share it sees it: it tells no bytes, and counts the faults of its own
@@ -44,6 +48,7 @@ impl<'a, R: Wait, K: Drop> SharedSink<'a, R, K> {
         let held = Held {
             sink: None,
             shows: None,
+            text: Text::new(alloc)?,
         };
         let sink = Arc::new(alloc, Mutex::new(held))?;
         let again = Arc::try_clone(&sink)?;
@@ -73,6 +78,23 @@ impl<'a, R: Wait, K: Drop> SharedSink<'a, R, K> {
     }
 }
 
+/// Whether the connection closes behind a list whose head a piece is, which is kept back until the list comes.
+fn kept_back(shows: Option<Asked>, piece: &[u8]) -> Option<bool>
+    ensures { result ≡ kept_back shows piece.now }
+{
+    match shows {
+        Some(Asked::Listed) => head_alone(piece),
+        _ => None,
+    }
+}
+
+/// Keeps what stands in the item of a name.
+fn put_name(text: &mut Text, name: &[u8]) {
+    if name.len() <= 200 {
+        text.put(name);
+    }
+}
+
 impl<R: Wait + time::Clock + Sync, K: Sink + Drop> Sink for SharedSink<'_, R, K> {
     ghost use Rattle.front_session.specs.Sharing.{sink_over};
 
@@ -82,11 +104,15 @@ impl<R: Wait + time::Clock + Sync, K: Sink + Drop> Sink for SharedSink<'_, R, K>
     fn write(&mut self, piece: &[u8]) -> Result<(), Failed> {
         let mut held = self.sink.lock(self.rt);
         let shows = mem::replace(&mut held.shows, None);
+        if let Some(close) = kept_back(shows, piece) {
+            held.shows = Some(Asked::Behind(close));
+            return Ok(());
+        }
         let written = match held.sink.take() {
             Some(sink) => {
                 let mut one = OneSink { sink };
                 let written = match shows {
-                    Some(asked) => write_shown(&mut one, asked, piece),
+                    Some(asked) => write_shown(&mut one, asked, held.text.as_slice(), piece),
                     None => one.take(piece),
                 };
                 let OneSink { sink } = one;
@@ -128,7 +154,11 @@ impl<R: Wait + time::Clock + Sync, K: Sink + Drop> Sink for SharedSink<'_, R, K>
 
 impl<R: Wait + time::Clock + Sync, K: Sink + Drop> Showing for SharedSink<'_, R, K> {
     // It may wait.
-    fn expect(&self, asked: Asked) {
-        self.sink.lock(self.rt).shows = Some(asked);
+    fn expect(&self, asked: Asked, bytes: &[u8]) {
+        let mut held = self.sink.lock(self.rt);
+        if let Some(name) = exact_by(bytes) {
+            put_name(&mut held.text, name);
+        }
+        held.shows = Some(asked);
     }
 }

@@ -34,7 +34,7 @@ fn before(bytes: &[u8], mark: u8) -> &[u8]
 }
 
 /// The query of a request that begins with these bytes.
-fn query_in(bytes: &[u8]) -> &[u8]
+pub fn query_in(bytes: &[u8]) -> &[u8]
     ensures { result.now ≡ spec.query_in bytes.now }
 {
     behind_first(before(behind_first(bytes, b' '), b' '), b'?')

@@ -12,7 +12,7 @@ mod table;
 mod texts;
 mod writing;
 
-pub use forced::is_forced;
+pub use forced::{is_forced, query_in};
 pub use left::LeftOut;
 pub use path::path_of;
 pub use query::{behind_first, query_of, value_of};

@@ -12,10 +12,10 @@ use Rattle.http_edge.specs.Asks.{has_field, asks_early}
 use Rattle.http_edge.specs.declared.asks.Want.TheVariants.{Value}
 use Rattle.lab_front.specs.Queries.{query_of}
 use Rattle.lab_handed.specs.Early.{with_field, early_head, early_line}
-use Rattle.lab_handed.specs.Since.{tells_until_alone, since_key, with_key, since_head}
+use Rattle.lab_handed.specs.Keys.{with_key, key_head}
 use Rattle.lab_handed.specs.Changes.{fields_in, behind, place_of, text_of, put_in}
 use Rattle.lab_handed.specs.declared.changing.Change.{Change}
-use Rattle.lab_handed.specs.declared.changing.Change.TheVariants.{Early, Since}
+use Rattle.lab_handed.specs.declared.changing.Change.TheVariants.{Early}
 
 -- ---- what stands behind the first byte that passes
 
@@ -177,17 +177,22 @@ cut (c ∷ cs) less = by (c == 63) refl less (cut cs)
     by true e less later = record { front = []; back = cs; none = tt; whole = ap (λ b. b ∷ cs) (is_same c 63 e) }
     by false e less later = more e (later (omega arith))
 
-pub has_query : (target : List ℕ) → tells_until_alone (query_of target) ≡ true → HasQuery target
-has_query target tells = by (cases_lt (position_or_len (λ b. b == 63) target) (length target))
+-- where its query passes a test that no empty one does
+pub has_query : (test : List ℕ → Bool) (target : List ℕ) → test [] ≡ false → test (query_of target) ≡ true → HasQuery target
+has_query test target lacks tells = by (cases_lt (position_or_len (λ b. b == 63) target) (length target))
   where
     by : (position_or_len (λ b. b == 63) target < length target) ⊎ (length target ≤ position_or_len (λ b. b == 63) target) → HasQuery target
     by (inl less) = cut target less
     by (inr none) =
         let nothing : query_of target ≡ [] = drop_all (position_or_len (λ b. b == 63) target + 1) target (omega (arith, none)) in
-        let no : false ≡ true = sym (ap tells_until_alone nothing) ∙ tells in
+        let no : false ≡ true = sym lacks ∙ sym (ap test nothing) ∙ tells in
         absurd (cc)
 
-module _ (h : RequestHead) (v : IsRequestHead h) (q : HasQuery h.target) where
+module _ (change : Change) (is_key : (head : List ℕ) → behind change head ≡ after_first (λ b. b == 63) head) (h : RequestHead) (v : IsRequestHead h)
+    (q : HasQuery h.target) where
+  abbrev key : List ℕ
+  key = text_of change
+
   abbrev mark : ℕ → Bool
   mark b = b == 63
 
@@ -197,12 +202,12 @@ module _ (h : RequestHead) (v : IsRequestHead h) (q : HasQuery h.target) where
   abbrev start : List ℕ
   start = (((print_blank h.blank ++ h.method) ++ 32 ∷ q.front) ++ 63 ∷ [])
 
-  pub key_is : with_key h.target ≡ q.front ++ 63 ∷ (since_key ++ q.back)
+  pub key_is : with_key key h.target ≡ q.front ++ 63 ∷ (key ++ q.back)
   key_is =
-      ap with_key q.whole
+      ap (with_key key) q.whole
       ∙ (λ i. take (place_is mark q.front 63 q.back q.none refl i) (q.front ++ 63 ∷ q.back)
-      ++ 63 ∷ (since_key ++ after_is mark q.front 63 q.back q.none refl i))
-      ∙ ap (λ l. l ++ 63 ∷ (since_key ++ q.back)) (take_at q.front (63 ∷ q.back) (length q.front) refl)
+      ++ 63 ∷ (key ++ after_is mark q.front 63 q.back q.none refl i))
+      ∙ ap (λ l. l ++ 63 ∷ (key ++ q.back)) (take_at q.front (63 ∷ q.back) (length q.front) refl)
 
   -- a head with a target of these parts
   laid_query : (front a b version end section : List ℕ)
@@ -219,26 +224,27 @@ module _ (h : RequestHead) (v : IsRequestHead h) (q : HasQuery h.target) where
   query_at : print_request h ≡ start ++ (q.back ++ 32 ∷ rest)
   query_at = with_target h.target q.front q.back q.whole
 
-  since_is : print_request (since_head h) ≡ start ++ (since_key ++ (q.back ++ 32 ∷ rest))
-  since_is =
-      with_target (with_key h.target) q.front (since_key ++ q.back) key_is
-      ∙ ap (λ l. start ++ l) (append_assoc since_key q.back (32 ∷ rest))
+  changed_is : print_request (key_head key h) ≡ start ++ (key ++ (q.back ++ 32 ∷ rest))
+  changed_is =
+      with_target (with_key key h.target) q.front (key ++ q.back) key_is
+      ∙ ap (λ l. start ++ l) (append_assoc key q.back (32 ∷ rest))
 
   no_mark : NonePass mark ((print_blank h.blank ++ h.method) ++ 32 ∷ q.front)
   no_mark =
       none_on mark (print_blank h.blank ++ h.method) (32 ∷ q.front)
       (none_on mark (print_blank h.blank) h.method (in_blank_of h.blank) (in_token_of h.method v.method.1)) (refl, q.none)
 
-  behind_is : behind Since (print_request h) ≡ q.back ++ 32 ∷ rest
+  behind_is : behind change (print_request h) ≡ q.back ++ 32 ∷ rest
   behind_is =
-      ap (after_first mark) (query_at ∙ append_assoc ((print_blank h.blank ++ h.method) ++ 32 ∷ q.front) (63 ∷ []) (q.back ++ 32 ∷ rest))
+      is_key (print_request h)
+      ∙ ap (after_first mark) (query_at ∙ append_assoc ((print_blank h.blank ++ h.method) ++ 32 ∷ q.front) (63 ∷ []) (q.back ++ 32 ∷ rest))
       ∙ after_is mark ((print_blank h.blank ++ h.method) ++ 32 ∷ q.front) 63 (q.back ++ 32 ∷ rest) no_mark refl
 
-  pub puts_key : put_in (place_of Since (print_request h)) since_key (print_request h) ≡ print_request (since_head h)
-  puts_key = put_at Since (print_request h) start (q.back ++ 32 ∷ rest) query_at behind_is ∙ sym since_is
+  pub puts_key : put_in (place_of change (print_request h)) key (print_request h) ≡ print_request (key_head key h)
+  puts_key = put_at change (print_request h) start (q.back ++ 32 ∷ rest) query_at behind_is ∙ sym changed_is
 
-  pub longer_key : length (print_request (since_head h)) ≡ length (print_request h) + length since_key
-  longer_key = ap length since_is ∙ longer_by Since (print_request h) start (q.back ++ 32 ∷ rest) query_at
+  pub longer_key : length (print_request (key_head key h)) ≡ length (print_request h) + length key
+  longer_key = ap length changed_is ∙ longer_by change (print_request h) start (q.back ++ 32 ∷ rest) query_at
 
 -- ---- who asks
 

@@ -1,7 +1,7 @@
 -- What is handed on in the place of a request's bytes spells the request, or the request as it is changed.
-use Rattle.std.proofs.Common.{arith, nat_lt, nat_le, ◌≡◌, ◌<◌, ◌≤◌, ◌⊎◌, inl, inr, ◌+◌, ℕ, suc, List, [], ◌∷◌, ◌++◌, length, map, Bool, true, false, ◌&&◌, cond, Some, None, codes, refl, sym, ap, subst, ◌∙◌, append-nil, length-append}
+use Rattle.std.proofs.Common.{arith, ◌==◌, nat_lt, nat_le, ◌≡◌, ◌<◌, ◌≤◌, ◌⊎◌, inl, inr, ◌+◌, ℕ, suc, List, [], ◌∷◌, ◌++◌, length, map, Bool, true, false, ◌&&◌, cond, Some, None, codes, refl, sym, ap, subst, ◌∙◌, append-nil, length-append}
 use Rattle.std.specs.Prelude.{IsTrue, IsUtf8}
-use Rattle.std.specs.List.{list_all}
+use Rattle.std.specs.List.{list_all, after_first}
 use Rattle.std.specs.Str.{bytes_eq}
 use Rattle.std.proofs.lemmas.Bool.Decides.{nat_tests}
 use Rattle.std.proofs.lemmas.List.Elements.{All-cons, All-weaker}
@@ -18,10 +18,12 @@ use Rattle.http_edge.specs.declared.framing.Framing.TheVariants.{Length}
 use Rattle.lab_front.specs.Queries.{query_of}
 use Rattle.lab_front.specs.Rows.{path_of}
 use Rattle.lab_handed.specs.Early.{waits, takes_field, early_field, with_field, early_head}
-use Rattle.lab_handed.specs.Since.{is_path_of_events, tells_until_alone, are_ascii, is_target_until, takes_since, since_key, with_key, since_request, since_head}
-use Rattle.lab_handed.specs.Changes.{change_of, changed, text_of, place_of, put_in, handed}
+use Rattle.lab_handed.specs.Exact.{is_path_of_list, asks_exact, is_target_exact, takes_exact}
+use Rattle.lab_handed.specs.Keys.{are_ascii, with_key, key_request, key_head}
+use Rattle.lab_handed.specs.Since.{is_path_of_events, tells_until_alone, is_target_until, takes_since}
+use Rattle.lab_handed.specs.Changes.{change_of, changed, behind, text_of, place_of, put_in, handed}
 use Rattle.lab_handed.specs.declared.changing.Change.{Change}
-use Rattle.lab_handed.specs.declared.changing.Change.TheVariants.{Early, Since}
+use Rattle.lab_handed.specs.declared.changing.Change.TheVariants.{Early, Since, Exact}
 use Rattle.lab_handed.proofs.HeadLemmas.{puts_field, longer, HasQuery, has_query, key_is, puts_key, longer_key}
 
 -- ---- the framing of a head with the field
@@ -86,23 +88,25 @@ ascii_text bytes all =
     IsUtf8-from_ascii bytes (IsAscii-from_all bytes
     (All-weaker (λ b. IsTrue (nat_lt b 128)) (λ b. b < 128) below bytes (AllPass-from_list_all (λ b. nat_lt b 128) bytes all)))
 
-module _ (h : RequestHead) (v : IsRequestHead h) (q : HasQuery h.target) (ascii : are_ascii h.target ≡ true) where
-  with_it : (p : ℕ → Bool) → list_all p h.target ≡ true → list_all p since_key ≡ true → list_all p (with_key h.target) ≡ true
+module _ (change : Change) (is_key : (head : List ℕ) → behind change head ≡ after_first (λ b. b == 63) head)
+    (is_uri : list_all is_uri_byte (text_of change) ≡ true) (is_ascii : are_ascii (text_of change) ≡ true)
+    (h : RequestHead) (v : IsRequestHead h) (q : HasQuery h.target) (ascii : are_ascii h.target ≡ true) where
+  with_it : (p : ℕ → Bool) → list_all p h.target ≡ true → list_all p (text_of change) ≡ true → list_all p (with_key (text_of change) h.target) ≡ true
   with_it p all key =
-      ap (list_all p) (key_is h v q) ∙ still p q.front q.back since_key (sym (ap (list_all p) q.whole) ∙ all) key
+      ap (list_all p) (key_is change is_key h v q) ∙ still p q.front q.back (text_of change) (sym (ap (list_all p) q.whole) ∙ all) key
 
-  some : 0 < length (with_key h.target)
-  some = omega (arith, ap length (key_is h v q), length-append q.front (63 ∷ (since_key ++ q.back)))
+  some : 0 < length (with_key (text_of change) h.target)
+  some = omega (arith, ap length (key_is change is_key h v q), length-append q.front (63 ∷ (text_of change ++ q.back)))
 
-  pub valid_since : IsRequestHead (since_head h)
-  valid_since = record {
+  pub valid_key : IsRequestHead (key_head (text_of change) h)
+  valid_key = record {
     method = v.method;
     target = (
       some,
-      AllPass-from_list_all is_uri_byte (with_key h.target)
-          (with_it is_uri_byte (list_all-from_AllPass is_uri_byte h.target v.target.1) refl),
+      AllPass-from_list_all is_uri_byte (with_key (text_of change) h.target)
+          (with_it is_uri_byte (list_all-from_AllPass is_uri_byte h.target v.target.1) is_uri),
     );
-    target_text = ascii_text (with_key h.target) (with_it (λ b. nat_lt b 128) ascii refl);
+    target_text = ascii_text (with_key (text_of change) h.target) (with_it (λ b. nat_lt b 128) ascii is_ascii);
     minor = v.minor;
     fields = v.fields;
   }
@@ -110,27 +114,46 @@ module _ (h : RequestHead) (v : IsRequestHead h) (q : HasQuery h.target) (ascii 
 -- ---- what is asked of a request
 
 asked_early : (r : Request) → change_of r ≡ Some Early → takes_field r ≡ true
-asked_early r e = by (takes_field r) (takes_since r) refl e
+asked_early r e = by (takes_field r) (takes_since r) (takes_exact r) refl e
   where
-    by : (t u : Bool) → takes_field r ≡ t → cond t (Some Early) (cond u (Some Since) None) ≡ Some Early → takes_field r ≡ true
-    by true u is e = is
-    by false true is e = absurd (cc)
-    by false false is e = absurd (cc)
+    by : (t u w : Bool) → takes_field r ≡ t → cond t (Some Early) (cond u (Some Since) (cond w (Some Exact) None)) ≡ Some Early → takes_field r ≡ true
+    by true u w is e = is
+    by false true w is e = absurd (cc)
+    by false false true is e = absurd (cc)
+    by false false false is e = absurd (cc)
 
 asked_since : (r : Request) → change_of r ≡ Some Since → takes_since r ≡ true
-asked_since r e = by (takes_field r) (takes_since r) refl e
+asked_since r e = by (takes_field r) (takes_since r) (takes_exact r) refl e
   where
-    by : (t u : Bool) → takes_since r ≡ u → cond t (Some Early) (cond u (Some Since) None) ≡ Some Since → takes_since r ≡ true
-    by true u is e = absurd (cc)
-    by false true is e = is
-    by false false is e = absurd (cc)
+    by : (t u w : Bool) → takes_since r ≡ u → cond t (Some Early) (cond u (Some Since) (cond w (Some Exact) None)) ≡ Some Since → takes_since r ≡ true
+    by true u w is e = absurd (cc)
+    by false true w is e = is
+    by false false true is e = absurd (cc)
+    by false false false is e = absurd (cc)
 
--- its target is of ASCII, and has a query
+asked_exact : (r : Request) → change_of r ≡ Some Exact → takes_exact r ≡ true
+asked_exact r e = by (takes_field r) (takes_since r) (takes_exact r) refl e
+  where
+    by : (t u w : Bool) → takes_exact r ≡ w → cond t (Some Early) (cond u (Some Since) (cond w (Some Exact) None)) ≡ Some Exact → takes_exact r ≡ true
+    by true u w is e = absurd (cc)
+    by false true w is e = absurd (cc)
+    by false false true is e = is
+    by false false false is e = absurd (cc)
+
+-- its target is of ASCII, and its query passes a test
 since_asks : (r : Request) → takes_since r ≡ true → (are_ascii r.target ≡ true) × (tells_until_alone (query_of r.target) ≡ true)
 since_asks r takes =
     let target = (both (bytes_eq r.method (codes "GET")) (is_target_until r.target) takes).1 in
     let first = both (is_path_of_events (path_of r.target) && are_ascii r.target) (tells_until_alone (query_of r.target)) target in
     ((both (is_path_of_events (path_of r.target)) (are_ascii r.target) first.0).1, first.1)
+
+exact_asks : (r : Request) → takes_exact r ≡ true → (are_ascii r.target ≡ true) × (asks_exact (query_of r.target) ≡ true)
+exact_asks r takes =
+    let target = (both (bytes_eq r.method (codes "GET")) (is_target_exact r.target) takes).1 in
+    let first = both (is_path_of_list (path_of r.target) && are_ascii r.target) (nat_le (length r.target) 512 && asks_exact (query_of r.target)) target in (
+      (both (is_path_of_list (path_of r.target)) (are_ascii r.target) first.0).1,
+      (both (nat_le (length r.target) 512) (asks_exact (query_of r.target)) first.1).1,
+    )
 
 -- ---- what is handed on
 
@@ -174,6 +197,18 @@ module _ (spelling : List ℕ) (r : Request) (s : Spells spelling r) (framing : 
       ap (λ field. framing_of s.head.minor (field ∷ map name_and_value s.head.fields)) field_is
       ∙ same_framing s.head.minor (map name_and_value s.head.fields) (few_fields takes) ∙ framing
 
+  with_key_room : (change : Change) → ((head : List ℕ) → behind change head ≡ after_first (λ b. b == 63) head)
+      → list_all is_uri_byte (text_of change) ≡ true → are_ascii (text_of change) ≡ true
+      → (test : List ℕ → Bool) → test [] ≡ false → are_ascii r.target ≡ true → test (query_of r.target) ≡ true
+      → length spelling + length (text_of change) ≤ 16384
+      → Spells (put_in (place_of change spelling) (text_of change) spelling) (key_request (text_of change) r)
+  with_key_room change is_key is_uri is_ascii test lacks all passes le =
+      let ascii : are_ascii s.head.target ≡ true = ap are_ascii (sym s.target) ∙ all in
+      let q = has_query test s.head.target lacks (ap (λ t. test (query_of t)) (sym s.target) ∙ passes) in
+      spells_by (key_head (text_of change) s.head) (key_request (text_of change) r) change
+      (valid_key change is_key is_uri is_ascii s.head s.valid q ascii) framing refl s.method (ap (with_key (text_of change)) s.target) s.fields
+      (puts_key change is_key s.head s.valid q) (longer_key change is_key s.head s.valid q) le
+
   with_room : (change : Change) → change_of r ≡ Some change → length spelling + length (text_of change) ≤ 16384
       → Spells (put_in (place_of change spelling) (text_of change) spelling) (changed change r)
   with_room Early is le =
@@ -182,10 +217,10 @@ module _ (spelling : List ℕ) (r : Request) (s : Spells spelling r) (framing : 
       (puts_field s.head s.valid) (longer s.head) le
   with_room Since is le =
       let asks = since_asks r (asked_since r is) in
-      let ascii : are_ascii s.head.target ≡ true = ap are_ascii (sym s.target) ∙ asks.0 in
-      let q = has_query s.head.target (ap (λ t. tells_until_alone (query_of t)) (sym s.target) ∙ asks.1) in
-      spells_by (since_head s.head) (since_request r) Since (valid_since s.head s.valid q ascii) framing refl s.method (ap with_key s.target) s.fields
-      (puts_key s.head s.valid q) (longer_key s.head s.valid q) le
+      with_key_room Since (λ head. refl) refl refl tells_until_alone refl asks.0 asks.1 le
+  with_room Exact is le =
+      let asks = exact_asks r (asked_exact r is) in
+      with_key_room Exact (λ head. refl) refl refl asks_exact refl asks.0 asks.1 le
 
   room_is : (n : ℕ) → nat_le n 16384 ≡ true → n ≤ 16384
   room_is n e = grind (arith, nat_tests)

@@ -2,7 +2,8 @@
 use Rattle.std.proofs.Common.{◌≡◌, ℕ, List, [], Some, None, codes, refl}
 use Rattle.http_edge.specs.Message.{Request}
 use Rattle.lab_handed.specs.Changes.{change_of, handed}
-use Rattle.lab_handed.specs.declared.changing.Change.TheVariants.{Early, Since}
+use Rattle.lab_handed.specs.Exact.{exact_by}
+use Rattle.lab_handed.specs.declared.changing.Change.TheVariants.{Early, Since, Exact}
 
 -- a request without fields
 abbrev asking : List ℕ → List ℕ → Request
@@ -53,3 +54,27 @@ as_the_command_line_writes_it :
     handed Since (codes "GET /v1.43/events?filters=%7B%7D&until=1700000000 HTTP/1.1\r\nHost: x\r\n\r\n")
     ≡ codes "GET /v1.43/events?since=0&filters=%7B%7D&until=1700000000 HTTP/1.1\r\nHost: x\r\n\r\n"
 as_the_command_line_writes_it = refl
+
+-- ---- lists
+
+-- as a client in Go writes it
+one_name : change_of (asking (codes "GET") (codes "/v1.43/containers/json?all=1&filters=%7B%22name%22%3A%7B%22%5E%2Fweb%24%22%3Atrue%7D%7D")) ≡ Some Exact
+one_name = refl
+
+-- as one in Python does
+one_name_with_a_limit :
+    change_of (asking (codes "GET") (codes "/v1.41/containers/json?limit=-1&all=1&filters=%7B%22name%22%3A+%5B%22%5E%2Fmy_app.web-1%24%22%5D%7D")) ≡ Some Exact
+one_name_with_a_limit = refl
+
+a_part_of_a_name : change_of (asking (codes "GET") (codes "/v1.43/containers/json?filters=%7B%22name%22%3A%7B%22web%22%3Atrue%7D%7D")) ≡ None
+a_part_of_a_name = refl
+
+the_newest_of_a_name :
+    change_of (asking (codes "GET") (codes "/v1.43/containers/json?limit=1&filters=%7B%22name%22%3A%7B%22%5E%2Fweb%24%22%3Atrue%7D%7D")) ≡ None
+the_newest_of_a_name = refl
+
+its_name : exact_by (codes "GET /v1.43/containers/json?filters=&all=1&filters=%7B%22name%22%3A%7B%22%5E%2Fweb%24%22%3Atrue%7D%7D HTTP/1.1\r\n") ≡ Some (codes "web")
+its_name = refl
+
+no_name : exact_by (codes "GET /v1.43/containers/json?all=1&filters=%7B%22name%22%3A%7B%22web%22%3Atrue%7D%7D HTTP/1.1\r\n") ≡ None
+no_name = refl

@@ -4,18 +4,25 @@ use Rattle.std.specs.List.{after_first}
 use Rattle.http_edge.specs.Limits.{head_limit}
 use Rattle.http_edge.specs.Message.{Request}
 use Rattle.lab_handed.specs.Early.{takes_field, early_line, with_field}
-use Rattle.lab_handed.specs.Since.{takes_since, since_key, since_request}
+use Rattle.lab_handed.specs.Exact.{takes_exact, no_filters}
+use Rattle.lab_handed.specs.Keys.{key_request}
+use Rattle.lab_handed.specs.Since.{takes_since, since_key}
 use Rattle.lab_handed.specs.declared.changing.Change.{Change}
-use Rattle.lab_handed.specs.declared.changing.Change.TheVariants.{Early, Since}
+use Rattle.lab_handed.specs.declared.changing.Change.TheVariants.{Early, Since, Exact}
 
--- a wait with the field, events up to a moment with the key, and another request as it came
+-- a wait with the field, events up to a moment and a list of one name each with its key, and another request as it came
 abbrev pub change_of : Request → Option Change
-change_of request = if takes_field request then Some Early else if takes_since request then Some Since else None
+change_of request =
+    if takes_field request then Some Early
+    else if takes_since request then Some Since
+    else if takes_exact request then Some Exact
+    else None
 
 -- the request as it is seen then
 abbrev pub changed : Change → Request → Request
 changed Early request = with_field request
-changed Since request = since_request request
+changed Since request = key_request since_key request
+changed Exact request = key_request no_filters request
 
 -- ---- its bytes
 
@@ -23,6 +30,7 @@ changed Since request = since_request request
 abbrev pub text_of : Change → List ℕ
 text_of Early = early_line
 text_of Since = since_key
+text_of Exact = no_filters
 
 -- what stands behind the first line of a head: behind the line end that follows its second blank
 abbrev pub fields_in : List ℕ → List ℕ
@@ -31,7 +39,7 @@ fields_in head = after_first (λ b. b == 10) (after_first (λ b. b == 32) (after
 -- what stands behind that which is put in: the fields, or the query
 abbrev pub behind : Change → List ℕ → List ℕ
 behind Early head = fields_in head
-behind Since head = after_first (λ b. b == 63) head
+behind change head = after_first (λ b. b == 63) head
 
 -- where it is put in
 abbrev pub place_of : Change → List ℕ → ℕ

@@ -1,12 +1,11 @@
 -- Events up to a moment as they are handed on, from the first kept one on (Docker Engine API v1.43, SystemEvents: since and until; URL
 -- Standard, section 5.1; own: that without `since` such events begin with the first kept one, as with Moby's daemon).
-use Rattle.std.specs.Prelude.{ℕ, List, ◌∷◌, ◌++◌, Bool, false, ◌==◌, ◌&&◌, not, nat_lt, Option, Some, None, length, codes}
-use Rattle.std.specs.List.{list_all, before_first, after_first}
+use Rattle.std.specs.Prelude.{ℕ, List, Bool, false, ◌&&◌, not, Option, Some, None, codes}
 use Rattle.std.specs.Str.{bytes_eq}
-use Rattle.httparse.specs.Grammar.{RequestHead}
 use Rattle.http_edge.specs.Message.{Request}
 use Rattle.lab_front.specs.Queries.{query_of, value_of}
 use Rattle.lab_front.specs.Rows.{path_of}
+use Rattle.lab_handed.specs.Keys.{is_given, are_ascii}
 
 -- ---- which request
 
@@ -14,17 +13,9 @@ abbrev pub is_path_of_events : Option (List ℕ) → Bool
 is_path_of_events None = false
 is_path_of_events (Some path) = bytes_eq path (codes "events")
 
--- a key stands there with a value
-abbrev pub is_given : Option (List ℕ) → Bool
-is_given None = false
-is_given (Some value) = not (length value == 0)
-
 -- a query tells up to when, and not from when on
 abbrev pub tells_until_alone : List ℕ → Bool
 tells_until_alone query = not (is_given (value_of (codes "since") query)) && is_given (value_of (codes "until") query)
-
-abbrev pub are_ascii : List ℕ → Bool
-are_ascii bytes = list_all (λ b. nat_lt b 128) bytes
 
 -- such events are asked for by this target, which is of ASCII alone
 abbrev pub is_target_until : List ℕ → Bool
@@ -39,13 +30,3 @@ takes_since request = bytes_eq request.method (codes "GET") && is_target_until r
 -- the key of the first kept event, before other keys
 abbrev pub since_key : List ℕ
 since_key = codes "since=0&"
-
--- a target with the key in front of its query
-abbrev pub with_key : List ℕ → List ℕ
-with_key target = before_first (λ b. b == 63) target ++ 63 ∷ (since_key ++ after_first (λ b. b == 63) target)
-
-abbrev pub since_request : Request → Request
-since_request request = record request { target = with_key request.target }
-
-abbrev pub since_head : RequestHead → RequestHead
-since_head head = record head { target = with_key head.target }

@@ -4,6 +4,7 @@ ghost use Rattle.http_edge.specs.Reader.{request_of};
 ghost use Rattle.lab_handed.specs.Changes as spec;
 
 use crate::early::{early_line, takes_field};
+use crate::exact::{no_filters, takes_exact};
 use crate::since::{since_key, takes_since};
 use http_edge::RequestView;
 use lab_front::behind_first;
@@ -15,6 +16,8 @@ pub enum Change {
     Early,
     /// With the key of the first kept event, in front of its query.
     Since,
+    /// With the key of no filters, in front of its query.
+    Exact,
 }
 
 /// How a request with so many fields is handed on, where it isn't as it came.
@@ -28,6 +31,9 @@ pub fn change_of(request: &RequestView<'_>, count: usize) -> Option<Change>
     if takes_since(request) {
         return Some(Change::Since);
     }
+    if takes_exact(request) {
+        return Some(Change::Exact);
+    }
     None
 }
 
@@ -39,6 +45,7 @@ pub fn text_of(change: Change) -> &'static [u8]
     match change {
         Change::Early => early_line(),
         Change::Since => since_key(),
+        Change::Exact => no_filters(),
     }
 }
 
@@ -55,7 +62,7 @@ fn behind(change: Change, head: &[u8]) -> &[u8]
 {
     match change {
         Change::Early => fields_in(head),
-        Change::Since => behind_first(head, b'?'),
+        Change::Since | Change::Exact => behind_first(head, b'?'),
     }
 }
 

@@ -1,10 +1,11 @@
 // Events up to a moment are handed on as those from the first kept one on.
-ghost use Rattle.std.specs.Prelude.{◌≡◌, ◌≤◌, length, option_map};
+ghost use Rattle.std.specs.Prelude.{◌≡◌, ◌≤◌, length};
 ghost use Rattle.http_edge.specs.Reader.{request_of};
 ghost use Rattle.lab_front.specs.Rows.{path_of};
 ghost use Rattle.lab_front.specs.Queries.{query_of};
 ghost use Rattle.lab_handed.specs.Since as spec;
 
+use crate::keys::{are_ascii, is_given};
 use http_edge::RequestView;
 use lab_front::{path_of, query_of, value_of};
 
@@ -17,16 +18,6 @@ fn is_target_of_events(target: &str) -> bool
     }
 }
 
-/// Whether a key stands there with a value.
-fn is_given(value: Option<&[u8]>) -> bool
-    ensures { result ≡ spec.is_given (option_map (λ v. v.now) value.entry) }
-{
-    match value {
-        Some(value) => !value.is_empty(),
-        None => false,
-    }
-}
-
 /// Whether a query tells up to when, and not from when on.
 fn tells_until_alone(query: &str) -> bool
     ensures { result ≡ spec.tells_until_alone query.now }
@@ -35,18 +26,11 @@ fn tells_until_alone(query: &str) -> bool
     !is_given(value_of(b"since", query)) && is_given(value_of(b"until", query))
 }
 
-/// Whether all bytes are of ASCII.
-fn is_ascii(bytes: &[u8]) -> bool
-    ensures { result ≡ spec.are_ascii bytes.now }
-{
-    bytes.iter().all(|byte| *byte < 128)
-}
-
 /// Whether such events are asked for by this target.
 fn is_target_until(target: &str) -> bool
     ensures { result ≡ spec.is_target_until target.now }
 {
-    if is_target_of_events(target) && is_ascii(target.as_bytes()) {
+    if is_target_of_events(target) && are_ascii(target.as_bytes()) {
         return tells_until_alone(query_of(target));
     }
     false

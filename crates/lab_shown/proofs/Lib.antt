@@ -1,3 +1,4 @@
+mod ListLemmas
 mod RefusedLemmas
 mod SearchLemmas
 mod ShownLemmas

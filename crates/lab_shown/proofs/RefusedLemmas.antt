@@ -1,5 +1,5 @@
 -- What is told of a piece, by its parts.
-use Rattle.std.proofs.Common.{ℕ, ◌≡◌, ◌==◌, List, length, take, drop, Bool, Option, Some, None, ap, sym, ◌∙◌}
+use Rattle.std.proofs.Common.{ℕ, ◌≡◌, ◌==◌, List, length, take, drop, Bool, Option, Some, None, ap, ◌∙◌}
 use Rattle.std.specs.Prelude.{option_map, option_and_then, unwrap_or}
 use Rattle.std.specs.List.{position_or_len}
 use Rattle.lab_shown.specs.Shown.{close_in}

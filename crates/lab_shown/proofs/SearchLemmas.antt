@@ -1,8 +1,8 @@
 -- Where a text first stands in another.
-use Rattle.std.proofs.Common.{nat_lt, ◌≤◌, length, not, arith, ℕ, ◌≡◌, ◌+◌, List, ◌∷◌, Bool, true, false, cond, Option, Some, None, refl, ap, nat_eq}
+use Rattle.std.proofs.Common.{nat_lt, length, not, arith, ℕ, ◌≡◌, ◌+◌, List, ◌∷◌, Bool, true, false, cond, Option, Some, None, refl, ap, nat_eq}
 use Rattle.std.specs.Prelude.{option_map}
 use Rattle.std.specs.List.{starts_with, position, position_or_len}
-use Rattle.std.proofs.lemmas.Bool.{ltb-true, ltb-false}
+use Rattle.std.proofs.lemmas.Bool.{ltb-false}
 use Rattle.std.proofs.lemmas.List.Sums.{prefix_len-le-length}
 use Rattle.lab_shown.specs.Shown.{place_in}
 

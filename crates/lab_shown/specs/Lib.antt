@@ -1,4 +1,5 @@
 pub mod Asked
+pub mod Listed
 pub mod Refused
 pub mod Shown
 pub mod Texts

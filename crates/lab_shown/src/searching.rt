@@ -10,6 +10,24 @@ fn brace_of(piece: &[u8]) -> Option<usize>
     piece.iter().position(|byte| *byte == b'{')
 }
 
+/// Where the first bracket stands.
+fn bracket_of(piece: &[u8]) -> Option<usize>
+    ensures { result ≡ position (λ b. b == 91) piece.now }
+{
+    piece.iter().position(|byte| *byte == b'[')
+}
+
+/// Where the first bracket stands, or how many bytes there are.
+pub(crate) fn bracket_in(piece: &[u8]) -> usize
+    ensures place { result ≡ position_or_len (λ b. b == 91) piece.now }
+    ensures within { result ≤ length piece.now }
+{
+    match bracket_of(piece) {
+        Some(place) => place,
+        None => piece.len(),
+    }
+}
+
 /// Where the first brace stands, or how many bytes there are.
 pub(crate) fn brace_in(piece: &[u8]) -> usize
     ensures place { result ≡ position_or_len (λ b. b == 123) piece.now }

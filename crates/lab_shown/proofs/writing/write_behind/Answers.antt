@@ -1,4 +1,4 @@
-use Rattle.std.proofs.Common.{◌++◌, ◌∙◌, ap, subst}
+use Rattle.std.proofs.Common.{◌++◌, ◌∙◌, subst}
 use Rattle.engine_ports.specs.Sink.{WriteSays}
 use Rattle.engine_ports.proofs.PortLemmas.{written_on}
 use Rattle.lab_shown.specs.Shown.{more}
