@@ -21,7 +21,8 @@ use Rattle.front_session.specs.declared.choosing.Way.{Way}
 use Rattle.front_session.specs.declared.choosing.Way.TheVariants.{Answered, Closes, HandedOn, Changed, Opens}
 use Rattle.front_session.specs.declared.standing.Stage.{Stage}
 use Rattle.front_session.specs.declared.standing.Stage.TheVariants.{Within, Open, Closed, Ended, Lost}
-use Rattle.front_session.proofs.BytesLemmas.{begins_told, way_spelled, changed_framed, same_front, within_none}
+use Rattle.front_session.proofs.WayLemmas.{way_spelled, changed_framed}
+use Rattle.front_session.proofs.BytesLemmas.{begins_told, same_front, within_none}
 
 -- ---- something is done
 

@@ -1,4 +1,5 @@
 mod ProgressLemmas
+mod WayLemmas
 mod BytesLemmas
 mod LookLemmas
 mod HandLemmas
