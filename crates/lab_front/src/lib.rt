@@ -14,8 +14,8 @@ mod writing;
 
 pub use forced::{is_forced, query_in};
 pub use left::LeftOut;
-pub use path::path_of;
-pub use query::{behind_first, query_of, value_of};
+pub use path::{cut_at, path_of};
+pub use query::{behind_first, query_of, spells, value_of};
 pub use table::{Network, Row, row_of};
 pub use texts::{status_of, text_of};
 pub use writing::write_row;

@@ -5,7 +5,7 @@ ghost use Rattle.lab_front.specs.Queries.{is_between};
 ghost use Rattle.lab_front.specs.Rows as spec;
 
 /// What stands before the first such character, and behind it.
-pub(crate) fn cut_at(text: &str, mark: char) -> (&str, &str)
+pub fn cut_at(text: &str, mark: char) -> (&str, &str)
     requires { mark < 128 }
     ensures front { result.0.now ≡ before_first (λ b. b == mark) text.now }
     ensures back { result.1.now ≡ after_first (λ b. b == mark) text.now }

@@ -138,7 +138,7 @@ fn first_byte(byte: u8, rest: &[u8]) -> (u8, &[u8])
 }
 
 /// Whether a value stands for the text.
-pub(crate) fn spells(value: &[u8], text: &str) -> bool
+pub fn spells(value: &[u8], text: &str) -> bool
     ensures { result ≡ spec.spells value.now text.now }
 {
     let mut left = value;

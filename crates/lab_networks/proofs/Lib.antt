@@ -1,0 +1,2 @@
+mod StandardFacts
+mod TextLemmas

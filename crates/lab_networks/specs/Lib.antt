@@ -1,0 +1,5 @@
+pub mod Asking
+pub mod Known
+pub mod Shown
+pub mod Steps
+pub mod Sharing
