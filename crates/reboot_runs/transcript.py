@@ -9,7 +9,7 @@ import sys
 HERE = pathlib.Path(__file__).parent
 sys.path.append(str(HERE.parent / "engine_scenarios"))
 
-from exchange import compact, id_of
+from exchange import compact, exec_shown, id_of
 
 T = 1700000000000
 OWN = 4294967294
@@ -40,6 +40,21 @@ def named(op, ref, **more):
 
 def message(status, text):
     return (status, compact({"message": text}))
+
+
+# calls of an exec
+def exec_create(n, ref, words, stdin=False, out=False, **more):
+    call = {"err": False, "op": "exec_create", "out": out, "ref": ref, "stdin": stdin, "words": words}
+    return entry(call, (201, compact({"Id": id_of(n)})), **more)
+
+
+def exec_start(n, detach=True, reply=(200, ""), **more):
+    return entry({"detach": detach, "id": id_of(n), "op": "exec_start"}, reply, **more)
+
+
+def exec_inspect(n, container, words, dues=0, conn=0, at=0, **more):
+    body = exec_shown(n, container, words, **more).split("\r\n\r\n", 1)[1]
+    return entry({"id": id_of(n), "op": "exec_inspect"}, (200, body), conn=conn, dues=dues, at=at)
 
 
 # the calls of a plan
@@ -136,6 +151,31 @@ REMOVING = journal("removing", create(0, "web", ["stuck", "30000"], "always"), n
                    named("remove", "web", force=True, reply={"ticket": 0}, conn=1, dues=1))
 MARKED = message(409, f"removal of container {id_of(0)} is already in progress")
 ask(f"removing.journal {MOST} {T + 5}", *ready(2, 1, 3, *REMOVING, drops(0, 1), starts(0, at=5, reply=MARKED)))
+
+# execs: of `web` one sleeps, one has ended, one copies what it was fed, and one was only made, and so was one of `db`. With the kill of its
+# container a running exec ends (events: 2 creates, 2 starts, 5 exec_creates, 3 exec_starts, exec_die; kill, 2 exec_dies, die; kill, die; start)
+SLEEPS, SAYS, COPIES, EXITS = ["sleep", "600000"], ["echo", "hi"], ["cat"], ["exit", "3"]
+EXECS = journal("execs", create(0, "web", ["deaf"], "always"), create(1, "db", ["deaf"]), named("start", "web"), named("start", "db", dues=1),
+                exec_create(2, "web", SLEEPS, dues=1), exec_create(3, "web", SAYS, out=True), exec_create(4, "web", COPIES, stdin=True, out=True),
+                exec_create(5, "web", EXITS), exec_create(6, "db", SLEEPS), exec_start(2), exec_start(3, dues=1),
+                exec_start(4, detach=False, reply={"from": 0, "status": 200}, conn=1, dues=2),
+                entry({"bytes": "6869", "kind": "exec", "number": 4, "op": "feed", "run": 1}, {"fed": True}, conn=1 + 2**31),
+                exec_inspect(3, 0, SAYS, dues=1, out=True, code=0))
+KILLED = [kills(0), kills(1), starts(0, at=60000)]
+ask(f"execs.journal {MOST} {T + 60000}", *ready(2, 2, 20, *EXECS, *KILLED))
+# the journal of the daemon that goes on: the two show the code of a kill, and none starts twice; one that was only made starts where its container
+# runs again, and not where it doesn't; and a second reboot (exec_start, exec_die; kill, die; start)
+BEHIND = journal("behind_execs", *EXECS[1:], *KILLED, exec_inspect(2, 0, SLEEPS, conn=2, dues=1, at=60000, code=137),
+                 exec_inspect(4, 0, COPIES, conn=2, at=60000, stdin=True, out=True, code=137),
+                 exec_start(2, reply=message(409, f"exec {id_of(2)} has already started"), conn=2, at=60000),
+                 exec_inspect(5, 0, EXITS, conn=2, at=60000), exec_start(5, conn=2, at=60000),
+                 exec_inspect(5, 0, EXITS, conn=2, dues=1, at=60000, code=3),
+                 exec_start(6, reply=message(409, f"Container {id_of(1)} is not running"), conn=2, at=60000))
+ask(f"behind_execs.journal {MOST} {T + 120000}", *ready(3, 2, 25, *BEHIND, kills(0, at=60000), starts(0, at=120000)))
+# in what is paused (create, start, exec_create, exec_start, pause, kill, unpause, exec_die, die)
+HELD = journal("exec_in_a_pause", create(0, "web", ["deaf"]), named("start", "web"), exec_create(1, "web", SLEEPS, dues=1), exec_start(1),
+               named("pause", "web", dues=1))
+ask(f"exec_in_a_pause.journal {MOST} {T + 5}", *ready(1, 1, 9, *HELD, kills(0)))
 
 # connections up to the last that may be a client's count for the next number
 LAST = journal("last_client", create(0, "aa", ["deaf"]).replace('"conn":0', '"conn":2147483645'), named("start", "aa", conn=OWN))
